@@ -33,7 +33,7 @@ def public_calls():
 def main():
     document = open("docs/MEMORY.md").read()
     cited = {word.split("::")[-1] for word in re.findall(r"`([\w:]+)`", document)}
-    surface = text_of("crates/jxlm_run_tests/src/surface/*.rt")
+    surface = text_of("crates/check_surface/src/surface/*.rt")
     called = set(re.findall(r"(?:\.|::)(\w+)(?:::<[^>]*>)?\(", surface))
     called |= set(re.findall(r"\bnamed\(\s*(?:.*?::)?(\w+)(?:::<[^;]*>)?,?\s*\);", surface))
     wrong = [f"docs/MEMORY.md: no call {name}" for name in sorted((called & public_calls()) - cited)]

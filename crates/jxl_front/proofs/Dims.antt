@@ -5,11 +5,11 @@ use Rattle.jxlm_base.specs.Bits.{bits_at}
 use Rattle.jxlm_base.specs.Grammar.{number}
 use Rattle.jxlm_transform.proofs.ValidParams.{powers_are_group_dims}
 use Rattle.jxlm_transform.specs.Params.{IsGroupDim}
-use Rattle.jxl_headers.specs.Fields.{when}
-use Rattle.jxl_headers.specs.Images.{Image}
-use Rattle.jxl_frames.proofs.FrameLaws.{exact-frame_header}
-use Rattle.jxl_frames.specs.Codings.{is_modular}
-use Rattle.jxl_frames.specs.Frames.{Frame, frame_header}
+use Rattle.jxl_image_header.specs.Fields.{when}
+use Rattle.jxl_image_header.specs.Images.{Image}
+use Rattle.jxl_frame_header.proofs.FrameLaws.{exact-frame_header}
+use Rattle.jxl_frame_header.specs.Codings.{is_modular}
+use Rattle.jxl_frame_header.specs.Frames.{Frame, frame_header}
 
 power : (k n : ℕ) → 1 ≤ k → k ≤ 20 → n ≡ 2 ^ k → IsGroupDim n
 power k n low high e = subst IsGroupDim (sym e) (powers_are_group_dims k low high)

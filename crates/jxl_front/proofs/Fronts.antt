@@ -9,17 +9,17 @@ use Rattle.jxlm_base.specs.Decoding.{Meaning}
 use Rattle.jxlm_base.specs.ErrorKind.{ErrorKind, UnlessMemory, UnlessNoMemory, kind_of}
 use Rattle.jxlm_base.specs.Grammar.{Grammar, IsErrorAt}
 use Rattle.jxlm_base.specs.declared.error.Error.{Error}
-use Rattle.jxlm_ma.proofs.Memory.{unless_so}
+use Rattle.jxlm_tree.proofs.Memory.{unless_so}
 use Rattle.jxlm_transform.proofs.Failures.{unless_memory}
-use Rattle.jxl_headers.proofs.Refusals.{low_shifts}
-use Rattle.jxl_headers.specs.Images.{Image, image_header, image_refusal}
-use Rattle.jxl_headers.specs.declared.refusal.Refusal.{Refusal as ImageRefusal}
-use Rattle.jxl_headers.specs.declared.size.Size.{Size}
-use Rattle.jxl_frames.specs.Codings.{coding_refusal, is_modular, type_refusal}
-use Rattle.jxl_frames.specs.Frames.{Frame, frame_header, frame_refusal, frame_size, has_shifts, is_saved}
-use Rattle.jxl_frames.specs.declared.place.Crop.{Crop}
-use Rattle.jxl_frames.specs.declared.refusal.Refusal.{Refusal as FrameRefusal}
-use Rattle.jxl_frames.specs.declared.refusal.Refusal.TheVariants as refusals
+use Rattle.jxl_image_header.proofs.Refusals.{low_shifts}
+use Rattle.jxl_image_header.specs.Images.{Image, image_header, image_refusal}
+use Rattle.jxl_image_header.specs.declared.refusal.Refusal.{Refusal as ImageRefusal}
+use Rattle.jxl_image_header.specs.declared.size.Size.{Size}
+use Rattle.jxl_frame_header.specs.Codings.{coding_refusal, is_modular, type_refusal}
+use Rattle.jxl_frame_header.specs.Frames.{Frame, frame_header, frame_refusal, frame_size, has_shifts, is_saved}
+use Rattle.jxl_frame_header.specs.declared.place.Crop.{Crop}
+use Rattle.jxl_frame_header.specs.declared.refusal.Refusal.{Refusal as FrameRefusal}
+use Rattle.jxl_frame_header.specs.declared.refusal.Refusal.TheVariants as refusals
 use Rattle.jxl_toc.specs.Layouts.{Layout, layout_if, layout_of, max_sections, section_count_of}
 use Rattle.jxl_toc.specs.Tocs.{IsFirstTruncated, IsToc, Table, is_within, toc}
 use Rattle.jxl_toc.specs.declared.toc.TocEntry.{TocEntry}

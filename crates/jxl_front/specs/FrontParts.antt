@@ -3,9 +3,9 @@ use Rattle.std.specs.Prelude.{◌≡◌, ℕ, ◌≤◌, ◌^◌, ◌&&◌, List
 use Rattle.std.specs.List.{list_all}
 use Rattle.jxlm_base.specs.Decoding.{Meaning}
 use Rattle.jxlm_transform.specs.Params.{IsGroupDim}
-use Rattle.jxl_headers.specs.Images.{Image, image_of}
-use Rattle.jxl_frames.specs.Frames.{frame_of, frame_size, has_shifts}
-use Rattle.jxl_frames.specs.Passes.{IsPassCount}
+use Rattle.jxl_image_header.specs.Images.{Image, image_of}
+use Rattle.jxl_frame_header.specs.Frames.{frame_of, frame_size, has_shifts}
+use Rattle.jxl_frame_header.specs.Passes.{IsPassCount}
 use Rattle.jxl_toc.specs.Layouts.{section_count_of}
 use Rattle.jxl_toc.specs.LayoutParts.{parts_of}
 use Rattle.jxl_toc.specs.Tocs.{is_within}

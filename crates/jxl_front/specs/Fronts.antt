@@ -5,9 +5,9 @@ use Rattle.std.specs.List.{list_all}
 use Rattle.jxlm_base.specs.Decoding.{Meaning}
 use Rattle.jxlm_base.specs.ErrorKind.{ErrorKind, UnlessMemory, kind_of}
 use Rattle.jxlm_base.specs.Grammar.{Grammar, IsErrorAt, give, either, ◌>>=◌}
-use Rattle.jxl_headers.specs.Fields.{aligned}
-use Rattle.jxl_headers.specs.Images.{Image, image_header, image_refusal}
-use Rattle.jxl_frames.specs.Frames.{Frame, frame_header, frame_refusal, frame_size, is_saved}
+use Rattle.jxl_image_header.specs.Fields.{aligned}
+use Rattle.jxl_image_header.specs.Images.{Image, image_header, image_refusal}
+use Rattle.jxl_frame_header.specs.Frames.{Frame, frame_header, frame_refusal, frame_size, is_saved}
 use Rattle.jxl_toc.specs.Layouts.{Layout, layout_of, max_sections, section_count_of}
 use Rattle.jxl_toc.specs.Profiles.{profile}
 use Rattle.jxl_toc.specs.Tocs.{IsFirstTruncated, IsToc, Table, is_within, toc}

@@ -1,7 +1,7 @@
 //! Why the frames of a codestream are not decoded.
 
-use jxl_frames::refusal::Refusal as FrameRefusal;
-use jxl_headers::refusal::Refusal as ImageRefusal;
+use jxl_frame_header::refusal::Refusal as FrameRefusal;
+use jxl_image_header::refusal::Refusal as ImageRefusal;
 use jxlm_base::error::Error;
 
 /// Why the frames of a codestream are not decoded: the first reason in the order of its bits.

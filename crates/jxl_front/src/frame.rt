@@ -4,9 +4,9 @@ ghost use Rattle.std.specs.Prelude.{◌≡◌, ◌≢◌, ℕ, ◌+◌, ◌*◌,
 ghost use Rattle.std.specs.List.{list_all};
 ghost use Rattle.jxlm_base.specs.Bits.{bytes_of, position_of};
 ghost use Rattle.jxlm_transform.specs.Params.{IsGroupDim};
-ghost use Rattle.jxl_headers.specs.Images.{image_of};
-ghost use Rattle.jxl_frames.specs.Frames.{frame_of, frame_size, has_shifts};
-ghost use Rattle.jxl_frames.specs.Passes.{IsPassCount};
+ghost use Rattle.jxl_image_header.specs.Images.{image_of};
+ghost use Rattle.jxl_frame_header.specs.Frames.{frame_of, frame_size, has_shifts};
+ghost use Rattle.jxl_frame_header.specs.Passes.{IsPassCount};
 ghost use Rattle.jxl_picture.specs.Limits.{AllowFrame, cells_of as the_cells_of, channel_count};
 ghost use Rattle.jxl_toc.specs.Layouts.{section_count_of};
 ghost use Rattle.jxl_toc.specs.LayoutParts.{parts_of};
@@ -14,9 +14,9 @@ ghost use Rattle.jxl_toc.specs.Tocs.{is_within};
 ghost use Rattle.jxl_front.specs.Fronts.{ContentsStand, FrameGoesOn, FrameStands, FrontFails, end_of as the_end_of, layout_in};
 
 use crate::error::FrontError;
-use jxl_frames::frame::FrameHeader;
-use jxl_headers::image::ImageHeader;
-use jxl_headers::size::Size;
+use jxl_frame_header::frame::FrameHeader;
+use jxl_image_header::image::ImageHeader;
+use jxl_image_header::size::Size;
 use jxl_picture::limits::Limits;
 use jxl_picture::picture::colours;
 use jxl_toc::layout::Layout;

@@ -2,15 +2,15 @@
 
 ghost use Rattle.std.specs.Prelude.{◌≡◌, ℕ, ◌*◌, ◌/◌, ◌<◌, ◌^◌, ◌≤◌, [], IfErr, IfOk, length};
 ghost use Rattle.jxlm_base.specs.Bits.{bytes_of, position_of};
-ghost use Rattle.jxl_headers.specs.Images.{image_of};
+ghost use Rattle.jxl_image_header.specs.Images.{image_of};
 ghost use Rattle.jxl_toc.specs.Reading.{Decodes};
 ghost use Rattle.jxl_picture.specs.Limits.{Allow};
 ghost use Rattle.jxl_front.specs.Fronts.{AreBefore, FrontFails, ImageStands, between};
 
 use crate::error::FrontError;
 use crate::frame::FrameFront;
-use jxl_headers::fields::align;
-use jxl_headers::image::ImageHeader;
+use jxl_image_header::fields::align;
+use jxl_image_header::image::ImageHeader;
 use jxl_picture::limits::Limits;
 use jxl_toc::profile::skip_profile;
 use jxlm_base::bits::Bitstream;

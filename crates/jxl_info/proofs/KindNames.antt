@@ -1,6 +1,6 @@
 -- The names of extra channels, one by one.
 use Rattle.std.specs.Prelude.{ℕ, List, Bool, if◌then◌else◌}
-use Rattle.jxl_headers.specs.declared.channel.ExtraChannel.{ExtraChannel}
+use Rattle.jxl_image_header.specs.declared.channel.ExtraChannel.{ExtraChannel}
 use Rattle.jxl_info.specs.Channels.{kinds, kinds_but}
 
 -- what is still to be written, where the kind that is told has been passed or not

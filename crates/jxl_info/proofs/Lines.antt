@@ -3,7 +3,7 @@ use Rattle.std.proofs.Common.{◌≡◌, ℕ, ◌+◌, ◌<◌, List, [], ◌∷
 use Rattle.std.specs.List.{flat_map, enumerate_from}
 use Rattle.std.proofs.lemmas.List.Concat.{flat_map-append}
 use Rattle.std.proofs.lemmas.List.{append-nil, take_more, length-take-le}
-use Rattle.jxl_headers.specs.declared.channel.ExtraChannel.{ExtraChannel}
+use Rattle.jxl_image_header.specs.declared.channel.ExtraChannel.{ExtraChannel}
 use Rattle.jxl_info.specs.Channels.{extra_line, extra_lines}
 
 enumerate_from-push : {X : Type 0} (n : ℕ) (xs : List X) (last : ℕ) (x : X) → n + length xs ≡ last → enumerate_from n (xs ++ x ∷ []) ≡ enumerate_from n xs ++ (last, x) ∷ []

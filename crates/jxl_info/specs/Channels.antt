@@ -2,9 +2,9 @@
 use Rattle.std.specs.Prelude.{ℕ, ◌==◌, List, [], ◌∷◌, ◌++◌, Bool, if◌then◌else◌, codes}
 use Rattle.std.specs.List.{list_any, flat_map, enumerate_from}
 use Rattle.std.specs.Fmt.{decimal}
-use Rattle.jxl_headers.specs.Images.{Image}
-use Rattle.jxl_headers.specs.declared.channel.BitDepth.{BitDepth}
-use Rattle.jxl_headers.specs.declared.channel.ExtraChannel.{ExtraChannel}
+use Rattle.jxl_image_header.specs.Images.{Image}
+use Rattle.jxl_image_header.specs.declared.channel.BitDepth.{BitDepth}
+use Rattle.jxl_image_header.specs.declared.channel.ExtraChannel.{ExtraChannel}
 use Rattle.jxl_picture.specs.Formats.{line}
 use Rattle.jxl_picture.specs.Pictures.{has_alpha, is_grey}
 use Rattle.jxl_info.specs.Names.{kind_name}

@@ -1,11 +1,11 @@
 -- The line of colours.
 use Rattle.std.specs.Prelude.{ℕ, ◌+◌, ◌/◌, ◌%◌, ◌==◌, ◌||◌, List, [], ◌++◌, if◌then◌else◌, codes}
 use Rattle.std.specs.Fmt.{decimal}
-use Rattle.jxl_headers.specs.declared.colour.Basis.{Basis}
-use Rattle.jxl_headers.specs.declared.colour.Chromaticity.{Chromaticity}
-use Rattle.jxl_headers.specs.declared.colour.ColourEncoding.{ColourEncoding}
-use Rattle.jxl_headers.specs.declared.colour.Transfer.{Transfer}
-use Rattle.jxl_headers.specs.declared.colour.White.{White}
+use Rattle.jxl_image_header.specs.declared.colour.Basis.{Basis}
+use Rattle.jxl_image_header.specs.declared.colour.Chromaticity.{Chromaticity}
+use Rattle.jxl_image_header.specs.declared.colour.ColourEncoding.{ColourEncoding}
+use Rattle.jxl_image_header.specs.declared.colour.Transfer.{Transfer}
+use Rattle.jxl_image_header.specs.declared.colour.White.{White}
 use Rattle.jxl_info.specs.Names.{basis_name, curve_name, intent_name, space_name, white_name}
 
 -- three digits of a number below 1000, and six of one below a million

@@ -2,8 +2,8 @@
 use Rattle.std.specs.Prelude.{◌≡◌, ℕ, List, [], ◌∷◌, nat_eq, not, Bool, true, Option, Some, None, Ok, Err}
 use Rattle.std.specs.List.{starts_with}
 use Rattle.jxlm_base.specs.Decoding.{Meaning}
-use Rattle.jxl_file.specs.Files.{HasCodestream, UnlessMemory}
-use Rattle.jxl_headers.specs.Images.{Image, image_header}
+use Rattle.jxl_container.specs.Files.{HasCodestream, UnlessMemory}
+use Rattle.jxl_image_header.specs.Images.{Image, image_header}
 use Rattle.jxl_picture.specs.declared.limits.Limits.{Limits}
 use Rattle.jxl_front.specs.Fronts.{FrameAt, FrontFails, FrontStands, StandsAt}
 use Rattle.jxl_front.specs.declared.error.FrontError.{FrontError}

@@ -1,10 +1,10 @@
 -- Why a codestream is not decoded whose headers stand, in words.
 use Rattle.std.specs.Prelude.{ℕ, List, [], ◌++◌, Bool, true, false, codes}
 use Rattle.std.specs.Fmt.{decimal}
-use Rattle.jxl_headers.specs.declared.refusal.Refusal.{Refusal as ImageRefusal}
-use Rattle.jxl_headers.specs.declared.refusal.Refusal.TheVariants as images
-use Rattle.jxl_frames.specs.declared.refusal.Refusal.{Refusal as FrameRefusal}
-use Rattle.jxl_frames.specs.declared.refusal.Refusal.TheVariants as frames
+use Rattle.jxl_image_header.specs.declared.refusal.Refusal.{Refusal as ImageRefusal}
+use Rattle.jxl_image_header.specs.declared.refusal.Refusal.TheVariants as images
+use Rattle.jxl_frame_header.specs.declared.refusal.Refusal.{Refusal as FrameRefusal}
+use Rattle.jxl_frame_header.specs.declared.refusal.Refusal.TheVariants as frames
 use Rattle.jxl_front.specs.declared.error.FrontError.{FrontError}
 use Rattle.jxl_front.specs.declared.error.FrontError.TheVariants as errors
 

@@ -1,10 +1,10 @@
 -- What is told of a file: lines of text.
 use Rattle.std.specs.Prelude.{ℕ, List, [], ◌++◌, Bool, if◌then◌else◌, Option, Some, None, is_some, codes}
 use Rattle.std.specs.Fmt.{decimal}
-use Rattle.jxl_headers.specs.Images.{Image}
-use Rattle.jxl_headers.specs.declared.image.Animation.{Animation}
-use Rattle.jxl_headers.specs.declared.image.Display.{Display}
-use Rattle.jxl_headers.specs.declared.size.Size.{Size}
+use Rattle.jxl_image_header.specs.Images.{Image}
+use Rattle.jxl_image_header.specs.declared.image.Animation.{Animation}
+use Rattle.jxl_image_header.specs.declared.image.Display.{Display}
+use Rattle.jxl_image_header.specs.declared.size.Size.{Size}
 use Rattle.jxl_picture.specs.Formats.{line}
 use Rattle.jxl_front.specs.declared.error.FrontError.{FrontError}
 use Rattle.jxl_info.specs.Channels.{channels_text, depth_text, extra_lines}

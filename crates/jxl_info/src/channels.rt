@@ -1,12 +1,12 @@
 //! The channels of a picture.
 
 ghost use Rattle.std.specs.Prelude.{◌≡◌, ◌++◌, OnOk, string_bytes};
-ghost use Rattle.jxl_headers.specs.Images.{image_of};
+ghost use Rattle.jxl_image_header.specs.Images.{image_of};
 ghost use Rattle.jxl_info.specs.Channels.{depth_text, has_black as the_has_black, colours_name as the_colours_name, told_kind as the_told_kind, kinds_but, channels_text, shift_text, premultiplied_text, extra_line, extra_lines};
 
 use crate::names::kind_name;
-use jxl_headers::channel::{BitDepth, ExtraChannel};
-use jxl_headers::image::ImageHeader;
+use jxl_image_header::channel::{BitDepth, ExtraChannel};
+use jxl_image_header::image::ImageHeader;
 use jxl_picture::picture::{has_alpha, is_grey};
 use jxlm_base::grid::OutOfMemory;
 

@@ -4,7 +4,7 @@ ghost use Rattle.std.specs.Prelude.{◌≡◌, ◌++◌, ◌<◌, codes, OnOk, s
 ghost use Rattle.jxl_info.specs.Colours.{three_digits, millionths, coordinate_text, point_text, white_text, basis_text, transfer_text, mixed_text, light_text, meaning_text, colour_text};
 
 use crate::names::{basis_name, curve_name, intent_name, space_name, white_name};
-use jxl_headers::colour::{Basis, Chromaticity, ColourEncoding, Transfer, White};
+use jxl_image_header::colour::{Basis, Chromaticity, ColourEncoding, Transfer, White};
 use jxlm_base::grid::OutOfMemory;
 
 // Three digits of a number below 1000.

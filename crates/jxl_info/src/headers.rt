@@ -1,17 +1,17 @@
 //! The headers of a file.
 
 ghost use Rattle.std.specs.Prelude.{◌≡◌, true, IfErr, IfOk};
-ghost use Rattle.jxl_headers.specs.Images.{image_of};
+ghost use Rattle.jxl_image_header.specs.Images.{image_of};
 ghost use Rattle.jxl_front.specs.Fronts.{FrontFails};
 ghost use Rattle.jxl_info.specs.Reasons.{is_refusal as the_is_refusal};
 ghost use Rattle.jxl_info.specs.Headers.{HeadersFail, HeadersOfFile, HeadersStand, is_boxed as the_is_boxed};
 
 use crate::reasons::is_refusal;
-use jxl_file::codestream::find_codestream;
-use jxl_file::error::FileError;
+use jxl_container::codestream::find_codestream;
+use jxl_container::error::FileError;
 use jxl_front::error::FrontError;
 use jxl_front::front::Front;
-use jxl_headers::image::ImageHeader;
+use jxl_image_header::image::ImageHeader;
 use jxl_picture::limits::Limits;
 use jxlm_base::bits::Bitstream;
 use jxlm_base::decoder::Decoder;

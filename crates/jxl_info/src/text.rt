@@ -2,7 +2,7 @@
 
 ghost use Rattle.std.specs.Prelude.{◌≡◌, ◌++◌, IfErr, IfOk, OnOk, string_bytes};
 ghost use Rattle.jxlm_base.specs.Decoding.{Meaning};
-ghost use Rattle.jxl_headers.specs.Images.{image_of};
+ghost use Rattle.jxl_image_header.specs.Images.{image_of};
 ghost use Rattle.jxl_info.specs.Texts.{container_line, size_text, image_kind as the_image_kind, loss as the_loss, image_line, preview_line, flag_text as the_flag_text, rate_lines, animation_lines, intrinsic_line, display_lines, reason_line, info_text as the_info_text};
 ghost use Rattle.jxl_picture.specs.Formats.{line};
 ghost use Rattle.jxl_info.specs.Colours.{colour_text};
@@ -12,9 +12,9 @@ use crate::colours::append_colour;
 use crate::names::orientation_name;
 use crate::reasons::append_reason;
 use jxl_front::error::FrontError;
-use jxl_headers::colour::ColourEncoding;
-use jxl_headers::image::{Animation, Display, ImageHeader};
-use jxl_headers::size::Size;
+use jxl_image_header::colour::ColourEncoding;
+use jxl_image_header::image::{Animation, Display, ImageHeader};
+use jxl_image_header::size::Size;
 use jxlm_base::grid::OutOfMemory;
 use std::alloc::Global;
 

@@ -9,15 +9,15 @@ use Rattle.std.proofs.lemmas.List.{length-append, length-map, length-replicate, 
 use Rattle.std.proofs.lemmas.List.Elements.{All-append, All-cons, All-from_get_or, All-get_or, All-head, All-nil, All-tail}
 use Rattle.jxlm_base.specs.Grid.{Grid, grid}
 use Rattle.jxlm_base.specs.Regions.{store_meanings}
-use Rattle.jxlm_cut.specs.Passes.{is_of_picture_of, one_picture}
+use Rattle.jxlm_groups.specs.Passes.{is_of_picture_of, one_picture}
 use Rattle.jxlm_transform.specs.Channels.{AreGridsOf, Channel, ChannelList, image_channel, image_list}
 use Rattle.jxlm_transform.specs.Params.{IsGroupDim, IsSide, IsValidChannel, IsValidParams}
 use Rattle.jxlm_transform.specs.declared.param.ModularChannelParams.{ModularChannelParams}
 use Rattle.jxlm_transform.specs.declared.param.ModularParams.{ModularParams}
-use Rattle.jxl_headers.specs.Images.{Image}
-use Rattle.jxl_headers.specs.declared.channel.ExtraChannel.{ExtraChannel}
-use Rattle.jxl_headers.specs.declared.size.Size.{Size}
-use Rattle.jxl_frames.specs.Frames.{has_shifts}
+use Rattle.jxl_image_header.specs.Images.{Image}
+use Rattle.jxl_image_header.specs.declared.channel.ExtraChannel.{ExtraChannel}
+use Rattle.jxl_image_header.specs.declared.size.Size.{Size}
+use Rattle.jxl_frame_header.specs.Frames.{has_shifts}
 use Rattle.jxl_picture.specs.Limits.{channel_count}
 use Rattle.jxl_picture.specs.Orientations.{IsOriented, IsUpright, is_turned, shown_size}
 use Rattle.jxl_picture.specs.Pictures.{AreChannels, IsWhole, colour_count, shifts_of}

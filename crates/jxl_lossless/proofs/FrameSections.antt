@@ -3,11 +3,11 @@ use Rattle.std.proofs.Common.{◌≡◌, ℕ, ◌-◌, ◌<◌, List, [], length
 use Rattle.std.specs.Borrow.{Bor}
 use Rattle.std.proofs.lemmas.List.{length-map, take_all}
 use Rattle.std.proofs.lemmas.Option.{get_or_from_slice_get}
-use Rattle.jxl_headers.specs.Images.{Image}
+use Rattle.jxl_image_header.specs.Images.{Image}
 use Rattle.jxl_toc.specs.LayoutParts.{parts_of}
 use Rattle.jxl_toc.specs.Layouts.{Layout, section_count_of}
 use Rattle.jxl_toc.specs.declared.toc.TocEntry.{TocEntry}
-use Rattle.jxlm_cut.specs.declared.part.SectionPart.{SectionPart}
+use Rattle.jxlm_groups.specs.declared.part.SectionPart.{SectionPart}
 use Rattle.jxl_still.specs.Places.{section_at}
 use Rattle.jxl_still.specs.declared.places.Places.{Places}
 use Rattle.jxl_front.specs.Fronts.{layout_in}

@@ -6,15 +6,15 @@ use Rattle.jxlm_base.specs.Decoding.{Found, Meaning}
 use Rattle.jxlm_base.specs.ErrorKind.{ErrorAt, UnlessMemory}
 use Rattle.jxlm_base.specs.Grammar.{IsErrorAt}
 use Rattle.jxlm_base.specs.Grid.{Grid}
-use Rattle.jxlm_cut.specs.Passes.{passes_of}
-use Rattle.jxlm_cut.specs.declared.part.SectionPart.{SectionPart}
-use Rattle.jxlm_cut.specs.declared.pass.Pass.{Pass}
-use Rattle.jxlm_ma.proofs.Memory.{unless_so}
-use Rattle.jxlm_ma.specs.Tree.{Config}
-use Rattle.jxl_headers.specs.Images.{Image}
-use Rattle.jxl_headers.specs.declared.size.Size.{Size}
-use Rattle.jxl_frames.specs.Frames.{Frame, frame_size}
-use Rattle.jxl_frames.specs.Passes.{shifts_held}
+use Rattle.jxlm_groups.specs.Passes.{passes_of}
+use Rattle.jxlm_groups.specs.declared.part.SectionPart.{SectionPart}
+use Rattle.jxlm_groups.specs.declared.pass.Pass.{Pass}
+use Rattle.jxlm_tree.proofs.Memory.{unless_so}
+use Rattle.jxlm_tree.specs.Tree.{Config}
+use Rattle.jxl_image_header.specs.Images.{Image}
+use Rattle.jxl_image_header.specs.declared.size.Size.{Size}
+use Rattle.jxl_frame_header.specs.Frames.{Frame, frame_size}
+use Rattle.jxl_frame_header.specs.Passes.{shifts_held}
 use Rattle.jxl_still.proofs.Alike.{fails_too, still_too}
 use Rattle.jxl_still.specs.Places.{own_passes, section_at}
 use Rattle.jxl_still.specs.Stills.{IsStill, StillFails}

@@ -5,9 +5,9 @@ use Rattle.std.specs.Prelude.{nat_le, int_le, int_lt}
 use Rattle.std.proofs.lemmas.Bool.{cases_lt, le-leb, lt-ltb, ne_eqb}
 use Rattle.std.proofs.lemmas.List.{length-map}
 use Rattle.std.proofs.lemmas.List.FromFn.{length-range_with_len}
-use Rattle.jxlm_cut.specs.Passes.{can_group, holds, passes_of as ranges_of}
-use Rattle.jxlm_cut.specs.declared.pass.Pass.{Pass}
-use Rattle.jxl_frames.specs.Passes.{IsPassCount, Passes, least_shift, shifts_held}
+use Rattle.jxlm_groups.specs.Passes.{can_group, holds, passes_of as ranges_of}
+use Rattle.jxlm_groups.specs.declared.pass.Pass.{Pass}
+use Rattle.jxl_frame_header.specs.Passes.{IsPassCount, Passes, least_shift, shifts_held}
 
 module _ (x : Passes) where
   entry : ℕ → ℕ × (ℤ × ℤ)

@@ -4,9 +4,9 @@ use Rattle.std.specs.Prelude.{get_or, Result, Ok, Err, IfOk, IfErr}
 use Rattle.std.specs.Global.{Vec}
 use Rattle.jxlm_base.specs.Decoding.{Meaning}
 use Rattle.jxlm_base.specs.Grid.{Grid}
-use Rattle.jxl_headers.specs.Images.{Image}
-use Rattle.jxl_headers.specs.declared.size.Size.{Size}
-use Rattle.jxl_frames.specs.Frames.{frame_size}
+use Rattle.jxl_image_header.specs.Images.{Image}
+use Rattle.jxl_image_header.specs.declared.size.Size.{Size}
+use Rattle.jxl_frame_header.specs.Frames.{frame_size}
 use Rattle.jxl_picture.specs.Pictures.{AreChannels, IsWhole}
 use Rattle.jxl_front.specs.Fronts.{FrameAt}
 use Rattle.jxl_patches.specs.Slots.{Slots, no_slots, saved_in}

@@ -1,10 +1,10 @@
 -- Why a codestream has no picture, once its headers and tables stand.
 use Rattle.std.proofs.Common.{ℕ, List, [], ◌∷◌, ◌++◌, Result, Ok, Err}
 use Rattle.std.specs.Prelude.{IfErr, IfOk}
-use Rattle.jxlm_entropy.specs.Parse.{decoder_at}
-use Rattle.jxlm_entropy.specs.Tokens.{entropy}
-use Rattle.jxl_file.specs.Files.{HasCodestream}
-use Rattle.jxl_headers.specs.Images.{Image}
+use Rattle.jxl_coding.specs.Parse.{decoder_at}
+use Rattle.jxl_coding.specs.Tokens.{entropy}
+use Rattle.jxl_container.specs.Files.{HasCodestream}
+use Rattle.jxl_image_header.specs.Images.{Image}
 use Rattle.jxl_picture.specs.declared.limits.Limits.{Limits}
 use Rattle.jxl_picture.specs.declared.picture.Picture.{Picture}
 use Rattle.jxl_front.specs.Fronts.{FrameAt, FrontStands}

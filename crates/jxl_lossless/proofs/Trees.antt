@@ -4,12 +4,12 @@ use Rattle.std.specs.Int.{Width}
 use Rattle.std.specs.Option.{option_copied}
 use Rattle.jxlm_base.specs.Decoding.{Meaning}
 use Rattle.jxlm_base.specs.Grid.{Grid}
-use Rattle.jxlm_ma.specs.Tree.{Config}
-use Rattle.jxlm_ma.specs.TreeReading.{TreeGives}
+use Rattle.jxlm_tree.specs.Tree.{Config}
+use Rattle.jxlm_tree.specs.TreeReading.{TreeGives}
 use Rattle.jxlm_transform.specs.Channels.{ChannelList, image_list}
 use Rattle.jxlm_transform.specs.declared.param.ModularParams.{ModularParams}
-use Rattle.jxl_headers.specs.Images.{Image}
-use Rattle.jxl_headers.specs.declared.size.Size.{Size}
+use Rattle.jxl_image_header.specs.Images.{Image}
+use Rattle.jxl_image_header.specs.declared.size.Size.{Size}
 use Rattle.jxl_toc.specs.Starts.{section_start, tree_limit}
 use Rattle.jxl_front.specs.Fronts.{StandsAt}
 use Rattle.jxl_picture.specs.Limits.{channel_count}

@@ -10,13 +10,13 @@ use Rattle.jxlm_transform.specs.Channels.{Channel, ChannelList}
 use Rattle.jxlm_transform.specs.declared.param.ChannelShift.TheVariants.{Shifts}
 use Rattle.jxlm_transform.specs.declared.param.GradientSums.TheVariants.{Clamped}
 use Rattle.jxlm_transform.specs.declared.param.PaletteTables.TheVariants.{OfDeltasToo}
-use Rattle.jxlm_cut.specs.Passes.{passes_of}
-use Rattle.jxlm_ma.specs.Tree.{Config}
-use Rattle.jxlm_ma.specs.TreeReading.{IsTooDeep, IsTreeAt, listing_at}
-use Rattle.jxl_headers.specs.Images.{Image}
-use Rattle.jxl_headers.specs.declared.size.Size.{Size}
-use Rattle.jxl_frames.specs.Frames.{frame_size}
-use Rattle.jxl_frames.specs.Passes.{shifts_held}
+use Rattle.jxlm_groups.specs.Passes.{passes_of}
+use Rattle.jxlm_tree.specs.Tree.{Config}
+use Rattle.jxlm_tree.specs.TreeReading.{IsTooDeep, IsTreeAt, listing_at}
+use Rattle.jxl_image_header.specs.Images.{Image}
+use Rattle.jxl_image_header.specs.declared.size.Size.{Size}
+use Rattle.jxl_frame_header.specs.Frames.{frame_size}
+use Rattle.jxl_frame_header.specs.Passes.{shifts_held}
 use Rattle.jxl_toc.specs.Starts.{section_start, tree_limit}
 use Rattle.jxl_patches.specs.Errors.{patch_kind}
 use Rattle.jxl_patches.specs.Patches.{Patches}

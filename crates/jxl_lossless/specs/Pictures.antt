@@ -1,13 +1,13 @@
 -- What a file is decoded to (ISO/IEC 18181-1 and 18181-2).
 use Rattle.std.specs.Prelude.{ℕ, ℤ, List, [], ◌∷◌, ◌++◌, Ok, Err}
 use Rattle.jxlm_base.specs.Grid.{Grid}
-use Rattle.jxl_file.specs.Files.{HasCodestream, UnlessMemory}
-use Rattle.jxl_headers.specs.Images.{Image, image_of}
+use Rattle.jxl_container.specs.Files.{HasCodestream, UnlessMemory}
+use Rattle.jxl_image_header.specs.Images.{Image, image_of}
 use Rattle.jxl_picture.specs.Orientations.{IsUpright}
 use Rattle.jxl_picture.specs.declared.limits.Limits.{Limits}
 use Rattle.jxl_picture.specs.declared.picture.Picture.{Picture}
-use Rattle.jxlm_entropy.specs.Parse.{decoder_at}
-use Rattle.jxlm_entropy.specs.Tokens.{entropy}
+use Rattle.jxl_coding.specs.Parse.{decoder_at}
+use Rattle.jxl_coding.specs.Tokens.{entropy}
 use Rattle.jxl_front.specs.Fronts.{FrameAt, FrontFails, FrontStands}
 use Rattle.jxl_lossless.specs.Saved.{AreDecoded, FramesFail}
 use Rattle.jxl_lossless.specs.declared.error.FileError.{FileError}

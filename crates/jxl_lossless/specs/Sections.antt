@@ -1,8 +1,8 @@
 -- Where the sections of a frame lie in a codestream (ISO/IEC 18181-1, frame: table of contents, sections; Modular: stream index).
 use Rattle.std.specs.Prelude.{ℕ, ◌+◌, ◌*◌, List, map, take, drop, nat_lt, slice_get, if◌then◌else◌, Option, None}
 use Rattle.std.specs.Option.{option_map}
-use Rattle.jxlm_cut.specs.declared.part.SectionPart.{SectionPart}
-use Rattle.jxlm_cut.specs.declared.part.SectionPart.TheVariants as parts
+use Rattle.jxlm_groups.specs.declared.part.SectionPart.{SectionPart}
+use Rattle.jxlm_groups.specs.declared.part.SectionPart.TheVariants as parts
 use Rattle.jxl_toc.specs.Layouts.{Layout}
 use Rattle.jxl_front.specs.Fronts.{FrameAt}
 

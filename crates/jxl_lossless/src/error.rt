@@ -2,7 +2,7 @@
 
 ghost use Rattle.std.specs.Prelude.{◌≡◌};
 
-use jxl_file::error::FileError as BoxError;
+use jxl_container::error::FileError as BoxError;
 use jxl_front::error::FrontError;
 use jxl_patches::error::PatchError;
 use jxl_still::error::FrameError;

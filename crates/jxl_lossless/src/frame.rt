@@ -3,8 +3,8 @@
 ghost use Rattle.std.specs.Prelude.{◌≡◌, ◌≤◌, ◌^◌, ◌&&◌, pos, ℤ, false, IfErr, IfOk};
 ghost use Rattle.std.specs.Int.{w32};
 ghost use Rattle.jxlm_base.specs.Bits.{bytes_of, position_of};
-ghost use Rattle.jxl_headers.specs.Images.{image_of};
-ghost use Rattle.jxl_frames.specs.Frames.{frame_of, frame_size, has_shifts};
+ghost use Rattle.jxl_image_header.specs.Images.{image_of};
+ghost use Rattle.jxl_frame_header.specs.Frames.{frame_of, frame_size, has_shifts};
 ghost use Rattle.jxl_front.specs.FrontParts.{HasLowShifts, IsReadyFrame, frame_at};
 ghost use Rattle.jxl_modular.specs.Image.{image_grids};
 ghost use Rattle.jxl_picture.specs.Limits.{channel_count};
@@ -21,11 +21,11 @@ ghost use Rattle.jxl_lossless.specs.Inner.Given.{in_file, of_file};
 use crate::error::FileError;
 use crate::sections::{of_groups, sections};
 use crate::tree::shared_tree;
-use jxl_frames::frame::FrameHeader;
+use jxl_frame_header::frame::FrameHeader;
 use jxl_front::frame::FrameFront;
-use jxl_headers::channel::ExtraChannel;
-use jxl_headers::image::ImageHeader;
-use jxl_headers::size::Size;
+use jxl_image_header::channel::ExtraChannel;
+use jxl_image_header::image::ImageHeader;
+use jxl_image_header::size::Size;
 use jxl_modular::image::ModularImageDestination;
 use jxl_modular::sections::Progress;
 use jxl_patches::patches::{put_patches, read_patches};
@@ -37,7 +37,7 @@ use jxlm_base::bits::Bitstream;
 use jxlm_base::decoder::Decoder;
 use jxlm_base::grid::{AlignedGrid, OutOfMemory};
 use jxlm_base::sample::Sample;
-use jxlm_ma::flat::Steps;
+use jxlm_tree::flat::Steps;
 use jxlm_transform::param::{
     ChannelShift, GradientSums, ModularChannelParams, ModularParams, PaletteTables,
 };

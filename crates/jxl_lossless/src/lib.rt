@@ -12,5 +12,5 @@ pub use error::FileError;
 pub use jxl_modular::sections::Progress;
 pub use jxl_picture::limits::Limits;
 pub use jxl_picture::picture::Picture;
-pub use jxlm_ma::flat::Steps;
+pub use jxlm_tree::flat::Steps;
 pub use picture::{decode_lossless, decode_lossless_with};

@@ -1,9 +1,9 @@
 //! The picture of a file.
 
 ghost use Rattle.std.specs.Prelude.{List, [], ◌∷◌, ◌++◌, map, IfErr, IfOk};
-ghost use Rattle.jxlm_entropy.specs.Parse.{decoder_at};
-ghost use Rattle.jxlm_entropy.specs.Tokens.{entropy};
-ghost use Rattle.jxl_headers.specs.Images.{image_of};
+ghost use Rattle.jxl_coding.specs.Parse.{decoder_at};
+ghost use Rattle.jxl_coding.specs.Tokens.{entropy};
+ghost use Rattle.jxl_image_header.specs.Images.{image_of};
 ghost use Rattle.jxl_front.specs.FrontParts.{IsReady, frame_at};
 ghost use Rattle.jxl_picture.specs.Pictures.{IsWhole};
 ghost use Rattle.jxl_lossless.specs.Saved.{AreDecoded, FramesFail};
@@ -13,14 +13,14 @@ ghost use Rattle.jxl_lossless.specs.Inner.Streams.{IsPictureOf, StreamFails};
 use crate::error::FileError;
 use crate::frame::decode_channels;
 use crate::saved::decode_saved;
-use jxl_file::codestream::find_codestream;
+use jxl_container::codestream::find_codestream;
 use jxl_front::front::Front;
 use jxl_modular::sections::Progress;
 use jxl_picture::limits::Limits;
 use jxl_picture::picture::Picture;
 use jxlm_base::grid::AlignedGrid;
-use jxlm_entropy::decoder::EntropyDecoder;
-use jxlm_ma::flat::Steps;
+use jxl_coding::decoder::EntropyDecoder;
+use jxlm_tree::flat::Steps;
 use std::alloc::Global;
 
 // The channels of the frame that is shown, with patches of the saved frames.

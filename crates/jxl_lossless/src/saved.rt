@@ -1,7 +1,7 @@
 //! The frames of a codestream that are saved for others.
 
 ghost use Rattle.std.specs.Prelude.{List, [], ◌∷◌, ◌++◌, map, IfErr, IfOk};
-ghost use Rattle.jxl_headers.specs.Images.{image_of};
+ghost use Rattle.jxl_image_header.specs.Images.{image_of};
 ghost use Rattle.jxl_front.specs.FrontParts.{IsReady, frame_at};
 ghost use Rattle.jxl_patches.specs.Slots.{no_slots};
 ghost use Rattle.jxl_lossless.specs.Saved.{AreSaved, FramesFail, HoldChannels};
@@ -13,7 +13,7 @@ use jxl_front::front::Front;
 use jxl_modular::sections::Progress;
 use jxl_patches::slots::SavedFrames;
 use jxlm_base::decoder::Decoder;
-use jxlm_ma::flat::Steps;
+use jxlm_tree::flat::Steps;
 use std::alloc::Global;
 
 /// Decodes the frames that are saved for others, and returns what the four slots hold then: each the last frame that was

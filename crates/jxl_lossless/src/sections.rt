@@ -2,7 +2,7 @@
 
 ghost use Rattle.std.specs.Prelude.{◌≡◌, [], length, true, IfOk, IsTrue};
 ghost use Rattle.std.specs.List.{list_all};
-ghost use Rattle.jxlm_cut.specs.Passes.{can_group, passes_of};
+ghost use Rattle.jxlm_groups.specs.Passes.{can_group, passes_of};
 ghost use Rattle.jxl_toc.specs.Layouts.{section_count_of};
 ghost use Rattle.jxl_toc.specs.LayoutParts.{parts_of};
 ghost use Rattle.jxl_toc.specs.Tocs.{is_within};

@@ -6,12 +6,12 @@ ghost use Rattle.jxl_lossless.specs.Frames.{SharedTree};
 ghost use Rattle.jxl_lossless.specs.Inner.Coded.{StartFails};
 
 use crate::error::FileError;
-use jxl_headers::size::Size;
+use jxl_image_header::size::Size;
 use jxl_toc::start::{section_start, tree_limit};
 use jxlm_base::bits::Bitstream;
 use jxlm_base::decoder::Decoder;
 use jxlm_base::error::Error;
-use jxlm_ma::ma::{MaConfig, MaConfigParams};
+use jxlm_tree::ma::{MaConfig, MaConfigParams};
 use std::alloc::Global;
 
 /// The tree that sections share, where there is one, of a frame of this size with so many channels. The reader is left

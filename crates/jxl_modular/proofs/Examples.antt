@@ -15,16 +15,16 @@ use Rattle.jxlm_transform.specs.ChannelSteps.{CodedList}
 use Rattle.jxlm_transform.specs.Params.{sized}
 use Rattle.jxlm_transform.specs.declared.param.ChannelShift.TheVariants.{Shifts}
 use Rattle.jxlm_transform.specs.declared.param.ModularChannelParams.{ModularChannelParams}
-use Rattle.jxlm_ma.specs.Tree.{Config, config_of, leaf, levels}
-use Rattle.jxlm_ma.specs.TreeReading.{listing_at, drafts_at, nodes_at, node_at, leaf_at, predictor_at, multiplier_at, IsTreeAt}
-use Rattle.jxlm_tree.specs.WeightsHeader.{default_weights}
-use Rattle.jxlm_ma.specs.declared.flat.Leaf.{Leaf}
-use Rattle.jxlm_tree.specs.declared.predictor.Predictor.TheVariants.{Zero, Gradient}
-use Rattle.jxlm_part.specs.Coded.{IsCodedWhole}
-use Rattle.jxlm_part.specs.Decode.{Standing, FailsLater, DecodeGives}
+use Rattle.jxlm_tree.specs.Tree.{Config, config_of, leaf, levels}
+use Rattle.jxlm_tree.specs.TreeReading.{listing_at, drafts_at, nodes_at, node_at, leaf_at, predictor_at, multiplier_at, IsTreeAt}
+use Rattle.jxlm_predictor.specs.WeightsHeader.{default_weights}
+use Rattle.jxlm_tree.specs.declared.flat.Leaf.{Leaf}
+use Rattle.jxlm_predictor.specs.declared.predictor.Predictor.TheVariants.{Zero, Gradient}
+use Rattle.jxlm_samples.specs.Coded.{IsCodedWhole}
+use Rattle.jxlm_samples.specs.Decode.{Standing, FailsLater, DecodeGives}
 use Rattle.jxlm_header.specs.Header.{Header}
 use Rattle.jxlm_header.specs.Opening.{opening, node_limit}
-use Rattle.jxlm_part.specs.Part.{Part}
+use Rattle.jxlm_samples.specs.Part.{Part}
 use Rattle.jxl_modular.specs.Picture.{IsPicture}
 
 -- one channel of 2 by 2

@@ -15,11 +15,11 @@ use Rattle.jxlm_base.specs.declared.error.Error.TheVariants as errors
 use Rattle.jxlm_chain.specs.Chain as chain
 use Rattle.jxlm_transform.specs.Channels.{Channel}
 use Rattle.jxlm_transform.specs.ChannelSteps.{Step}
-use Rattle.jxlm_part.specs.Coded.{DecodingFails, IsCodedWhole}
-use Rattle.jxlm_part.specs.Decode.{DecodeGives, Standing, Fails, MovesWithin}
+use Rattle.jxlm_samples.specs.Coded.{DecodingFails, IsCodedWhole}
+use Rattle.jxlm_samples.specs.Decode.{DecodeGives, Standing, Fails, MovesWithin}
 use Rattle.jxl_modular.specs.Inner.Filled.{IsFilled, FillFails, samples_in, whole_part}
 use Rattle.jxl_modular.specs.Image.{Image, IsOnlyImage, coded_grids, cost_of, image_grids}
-use Rattle.jxlm_part.specs.Part.{Part, cell_count}
+use Rattle.jxlm_samples.specs.Part.{Part, cell_count}
 use Rattle.jxl_modular.specs.SameButCells.{SameButCells}
 use Rattle.jxl_modular.specs.Inner.Laid.{IsLaidOut}
 use Rattle.jxl_modular.specs.Parts.{FrontGives}

@@ -16,14 +16,14 @@ use Rattle.jxlm_base.specs.declared.error.Error.{Error}
 use Rattle.jxlm_base.specs.Regions.{grids_in, store_meanings}
 use Rattle.jxlm_base.specs.Grid.{Grid}
 use Rattle.jxlm_transform.specs.Channels.{AreGridsOf}
-use Rattle.jxlm_cut.specs.declared.pass.Pass.{Pass}
-use Rattle.jxlm_cut.specs.declared.part.Kind.{Kind}
-use Rattle.jxlm_cut.specs.declared.part.SectionPart.{SectionPart}
-use Rattle.jxlm_cut.specs.Cutting.{columns, rows, global_count, kind_of}
-use Rattle.jxlm_cut.specs.Pieces.{in_store, channel_in, part_channels, piece, piece_channel, piece_in, piece_of_group, pieces, where_some}
-use Rattle.jxlm_cut.specs.declared.part.Kind.TheVariants as kinds
-use Rattle.jxlm_cut.specs.declared.part.SectionPart.TheVariants as parts
-use Rattle.jxlm_part.specs.Part.{cell_count}
+use Rattle.jxlm_groups.specs.declared.pass.Pass.{Pass}
+use Rattle.jxlm_groups.specs.declared.part.Kind.{Kind}
+use Rattle.jxlm_groups.specs.declared.part.SectionPart.{SectionPart}
+use Rattle.jxlm_groups.specs.Cutting.{columns, rows, global_count, kind_of}
+use Rattle.jxlm_groups.specs.Pieces.{in_store, channel_in, part_channels, piece, piece_channel, piece_in, piece_of_group, pieces, where_some}
+use Rattle.jxlm_groups.specs.declared.part.Kind.TheVariants as kinds
+use Rattle.jxlm_groups.specs.declared.part.SectionPart.TheVariants as parts
+use Rattle.jxlm_samples.specs.Part.{cell_count}
 use Rattle.jxl_modular.specs.declared.groups.Part.{Part}
 use Rattle.jxl_modular.specs.declared.groups.Part.TheVariants as groups
 use Rattle.jxl_modular.specs.declared.groups.PartState.{PartState}
@@ -33,9 +33,9 @@ use Rattle.jxl_modular.specs.Groups.{KeepsOtherGrids, PartOfGives, channels_in, 
 use Rattle.jxl_modular.specs.GroupParts.{KeepsOtherParts, channels_of, image_of, is_partial, or_new, passes_in, section_part, state_in, state_kept, state_of, steps_of}
 use Rattle.jxl_modular.specs.Image.{Image, coded_list}
 use Rattle.jxl_modular.specs.NestedTurns.{NestedGives}
-use Rattle.jxlm_ma.specs.Tree.{Config}
+use Rattle.jxlm_tree.specs.Tree.{Config}
 use Rattle.jxl_modular.specs.SameButCells.{SameButCells}
-use Rattle.jxlm_cut.proofs.HeldCells.{none_some, same_some}
+use Rattle.jxlm_groups.proofs.HeldCells.{none_some, same_some}
 
 -- where no item has an area, there is none
 none_kept : {X : Type 0} (f : X → Option Region) (g : Region → Channel) → ((x : X) (r : Region) → f x ≡ Some r → 0 < area (g r)) → (xs : List X) → sum_by area (map g (filter_map f xs)) ≡ 0 → filter_map f xs ≡ []

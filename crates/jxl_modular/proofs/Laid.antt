@@ -15,10 +15,10 @@ use Rattle.jxlm_chain.specs.Chain.{Chain}
 use Rattle.jxlm_transform.specs.Channels.{AreGridsOf, AreRegionsOf, Channel}
 use Rattle.jxl_modular.specs.Image.{Image, IsOnlyImage, coded_grids, given_list, image_grids, coded_list}
 use Rattle.jxl_modular.specs.Inner.Laid.{IsLaidOut}
-use Rattle.jxlm_part.specs.Progress.{grids_in}
+use Rattle.jxlm_samples.specs.Progress.{grids_in}
 use Rattle.jxl_modular.specs.SameButCells.{SameButCells}
 use Rattle.jxl_modular.proofs.Layouts.{buffers_meanings, given_grids}
-use Rattle.jxlm_part.proofs.Loops.{fits_in}
+use Rattle.jxlm_samples.proofs.Loops.{fits_in}
 use Rattle.jxlm_chain.proofs.CanUndo.{can_undo_all}
 use Rattle.jxlm_chain.proofs.LayoutLaws.{lie_first, lie_after_all}
 use Rattle.jxlm_chain.proofs.OneImage.{no_two_images}

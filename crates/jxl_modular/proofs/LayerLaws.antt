@@ -23,9 +23,9 @@ use Rattle.jxlm_chain.proofs.LayoutLaws.{lie_after_all}
 use Rattle.jxlm_chain.proofs.OneImage.{no_two_images}
 use Rattle.jxlm_chain.proofs.ShapeLaws.{all_lie_kept, narrow_kept, shape_all_undone, shape_kept, shape_same, tables_kept}
 use Rattle.jxlm_chain.proofs.Undone.{chain_of}
-use Rattle.jxlm_cut.specs.Parts.{HaveCell}
+use Rattle.jxlm_groups.specs.Parts.{HaveCell}
 use Rattle.jxlm_transform.specs.declared.channels.PlacedChannel.{PlacedChannel}
-use Rattle.jxlm_cut.proofs.Outside.{all_inside, finish_outside, never_has, none_has}
+use Rattle.jxlm_groups.proofs.Outside.{all_inside, finish_outside, never_has, none_has}
 use Rattle.jxlm_transform.specs.Channels.{AreRegionsOf, ChannelList, HasSides, infos, regions}
 use Rattle.jxlm_transform.specs.ChannelSteps.{Step, RctStep, PaletteStep, SqueezeStep}
 use Rattle.jxlm_transform.specs.Steps.{tables_of}

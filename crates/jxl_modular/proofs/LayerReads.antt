@@ -16,7 +16,7 @@ use Rattle.jxlm_transform.specs.declared.channels.PlacedChannel.{PlacedChannel}
 use Rattle.jxlm_transform.specs.Channels.{Channel, infos, regions}
 use Rattle.jxlm_transform.specs.ChannelSteps.{Step}
 use Rattle.jxlm_transform.specs.Steps.{Sides, tables_of}
-use Rattle.jxlm_ma.specs.Tree.{Config}
+use Rattle.jxlm_tree.specs.Tree.{Config}
 use Rattle.jxlm_nested.specs.Zeros.{zeros}
 use Rattle.jxl_modular.specs.Inner.LayerCode.{CanNest, IsLayer}
 use Rattle.jxlm_nested.specs.NestedParts.{IsNested, nested_list, nested_places, regions_in}

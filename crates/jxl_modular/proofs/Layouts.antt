@@ -9,7 +9,7 @@ use Rattle.jxlm_base.proofs.Regions.{grid_of_whole, IsFull-meanings}
 use Rattle.jxlm_transform.specs.Layout.{HasBuffers, sides_of, whole_regions, first_layout}
 use Rattle.jxlm_transform.specs.Steps.{Sides}
 use Rattle.jxlm_transform.specs.Channels.{AreGridsOf, Channel}
-use Rattle.jxlm_part.specs.Progress.{grids_in}
+use Rattle.jxlm_samples.specs.Progress.{grids_in}
 
 -- numbers' grids have the sides of the samples' grids
 pub buffers_meanings : {X : Type 0} (f : X → ℤ) (sides : List Sides) (store : List (Grid X)) → HasBuffers sides store → HasBuffers sides (store_meanings f store)

@@ -16,15 +16,15 @@ use Rattle.jxlm_base.specs.declared.subgrid.Region.{Region}
 use Rattle.jxlm_base.proofs.Outside.{keeps_all}
 use Rattle.jxlm_transform.specs.Ends.{HasEnds}
 use Rattle.jxlm_chain.specs.Steps.{IsNarrowStore}
-use Rattle.jxlm_cut.specs.declared.part.SectionPart.{SectionPart}
-use Rattle.jxlm_cut.specs.declared.pass.Pass.{Pass}
-use Rattle.jxlm_cut.proofs.HeldCells.{unlike_buffers}
-use Rattle.jxlm_cut.proofs.PartChannels.{narrow_channels}
-use Rattle.jxlm_cut.proofs.PieceFacts.{channels_sides, held_apart}
-use Rattle.jxlm_part.proofs.Loops.{same_count}
+use Rattle.jxlm_groups.specs.declared.part.SectionPart.{SectionPart}
+use Rattle.jxlm_groups.specs.declared.pass.Pass.{Pass}
+use Rattle.jxlm_groups.proofs.HeldCells.{unlike_buffers}
+use Rattle.jxlm_groups.proofs.PartChannels.{narrow_channels}
+use Rattle.jxlm_groups.proofs.PieceFacts.{channels_sides, held_apart}
+use Rattle.jxlm_samples.proofs.Loops.{same_count}
 use Rattle.jxlm_transform.specs.Channels.{AreRegionsOf, Channel, IsNarrow}
 use Rattle.jxlm_transform.specs.Steps.{Sides, tables_of}
-use Rattle.jxlm_ma.specs.Tree.{Config}
+use Rattle.jxlm_tree.specs.Tree.{Config}
 use Rattle.jxlm_nested.specs.Zeros.{zeros}
 use Rattle.jxl_modular.specs.Groups.{channels_in, held_in, pieces_of}
 use Rattle.jxl_modular.specs.Image.{Image, coded_list}

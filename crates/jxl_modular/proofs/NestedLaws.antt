@@ -27,13 +27,13 @@ use Rattle.jxlm_chain.proofs.LayoutLaws.{lie_after_all, tables_there}
 use Rattle.jxlm_chain.proofs.OneImage.{no_two_images}
 use Rattle.jxlm_chain.proofs.ShapeLaws.{lie_in_kept, shape_all_undone, shape_both, shape_kept, tables_kept}
 use Rattle.jxlm_chain.proofs.Undone.{chain_of}
-use Rattle.jxlm_cut.specs.Parts.{HaveCell}
-use Rattle.jxlm_cut.proofs.Apart.{map_same}
-use Rattle.jxlm_cut.proofs.Outside.{all_inside, finish_outside, never_has, none_has}
+use Rattle.jxlm_groups.specs.Parts.{HaveCell}
+use Rattle.jxlm_groups.proofs.Apart.{map_same}
+use Rattle.jxlm_groups.proofs.Outside.{all_inside, finish_outside, never_has, none_has}
 use Rattle.jxlm_transform.specs.Channels.{AreRegionsOf, ChannelList}
 use Rattle.jxlm_transform.specs.ChannelSteps.{Step}
 use Rattle.jxlm_transform.specs.Steps.{Sides, tables_of}
-use Rattle.jxlm_ma.specs.Tree.{Config}
+use Rattle.jxlm_tree.specs.Tree.{Config}
 use Rattle.jxlm_nested.specs.Zeros.{zeros}
 use Rattle.jxlm_nested.specs.NestedParts.{CanFill, Decodes, FillsIn, IsNested, head_of, nested_channels, nested_places, regions_in, with_own_tables}
 use Rattle.jxlm_nested.specs.Opened.{steps_of_header}

@@ -1,9 +1,9 @@
 -- An image's parts hold each coded cell once, and what is decoded in one keeps the grids of each other.
 use Rattle.std.proofs.Common.{ℤ, List, ap, sym}
-use Rattle.jxlm_cut.specs.declared.part.SectionPart.{SectionPart}
-use Rattle.jxlm_cut.specs.declared.pass.Pass.{Pass}
-use Rattle.jxlm_cut.proofs.Apart.{part_kept, parts_apart}
-use Rattle.jxlm_cut.proofs.Parts.{parts_hold}
+use Rattle.jxlm_groups.specs.declared.part.SectionPart.{SectionPart}
+use Rattle.jxlm_groups.specs.declared.pass.Pass.{Pass}
+use Rattle.jxlm_groups.proofs.Apart.{part_kept, parts_apart}
+use Rattle.jxlm_groups.proofs.Parts.{parts_hold}
 use Rattle.jxl_modular.specs.Groups.{HasEachCellOnce, IsCut, KeepsOtherGrids, held_in}
 use Rattle.jxl_modular.specs.Image.{Image, coded_list}
 use Rattle.jxl_modular.specs.Inner.Laid.{IsLaidOut}

@@ -10,7 +10,7 @@ use Rattle.jxlm_transform.specs.Channels.{ChannelList, image_list}
 use Rattle.jxlm_transform.specs.Lists.{list_of}
 use Rattle.jxlm_transform.specs.declared.param.ModularChannelParams.{ModularChannelParams}
 use Rattle.jxlm_transform.specs.declared.param.ModularParams.{ModularParams}
-use Rattle.jxlm_ma.specs.Tree.{Config}
+use Rattle.jxlm_tree.specs.Tree.{Config}
 use Rattle.jxl_modular.specs.Fresh.{fresh}
 use Rattle.jxl_modular.specs.Image.{Image}
 use Rattle.jxlm_nested.specs.Opened.{TreeOfGives, opened_of}

@@ -10,16 +10,16 @@ use Rattle.jxlm_base.specs.declared.error.Error.{Error}
 use Rattle.jxlm_base.specs.declared.subgrid.Region.{Region}
 use Rattle.jxlm_chain.proofs.ListsApart.{pairs_take, zip_take}
 use Rattle.jxlm_transform.specs.Channels.{Channel, IsNarrow, infos, regions}
-use Rattle.jxlm_ma.specs.Steps.{most_steps}
-use Rattle.jxlm_ma.specs.Tree.{Shape, depth}
-use Rattle.jxlm_ma.specs.declared.flat.Leaf.{Leaf}
-use Rattle.jxlm_ma.proofs.FewSteps.{no_more_steps}
-use Rattle.jxlm_tree.specs.declared.predictor.WpHeader.{WpHeader}
-use Rattle.jxlm_part.specs.Decode.{DecodeGives, MovesWithin}
-use Rattle.jxlm_part.specs.Part.{Part}
-use Rattle.jxlm_part.specs.Placed.{PartLies, standing_in}
-use Rattle.jxlm_part.specs.declared.part.PlacedPart.{PlacedPart}
-use Rattle.jxlm_part.proofs.Loops.{same_count}
+use Rattle.jxlm_tree.specs.Steps.{most_steps}
+use Rattle.jxlm_tree.specs.Tree.{Shape, depth}
+use Rattle.jxlm_tree.specs.declared.flat.Leaf.{Leaf}
+use Rattle.jxlm_tree.proofs.FewSteps.{no_more_steps}
+use Rattle.jxlm_predictor.specs.declared.predictor.WpHeader.{WpHeader}
+use Rattle.jxlm_samples.specs.Decode.{DecodeGives, MovesWithin}
+use Rattle.jxlm_samples.specs.Part.{Part}
+use Rattle.jxlm_samples.specs.Placed.{PartLies, standing_in}
+use Rattle.jxlm_samples.specs.declared.part.PlacedPart.{PlacedPart}
+use Rattle.jxlm_samples.proofs.Loops.{same_count}
 use Rattle.jxl_modular.specs.Image.{Image, cost_of, front_channels, front_part, front_regions}
 use Rattle.jxl_modular.specs.Inner.Filled.{whole_part}
 use Rattle.jxl_modular.specs.Inner.Laid.{IsLaidOut}

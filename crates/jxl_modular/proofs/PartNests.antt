@@ -4,11 +4,11 @@ use Rattle.std.specs.List.{All}
 use Rattle.jxlm_base.specs.Grid.{Grid}
 use Rattle.jxlm_base.specs.Regions.{AllLie, LieApart}
 use Rattle.jxlm_base.specs.declared.subgrid.Region.{Region}
-use Rattle.jxlm_cut.specs.declared.part.SectionPart.{SectionPart}
-use Rattle.jxlm_cut.specs.declared.pass.Pass.{Pass}
+use Rattle.jxlm_groups.specs.declared.part.SectionPart.{SectionPart}
+use Rattle.jxlm_groups.specs.declared.pass.Pass.{Pass}
 use Rattle.jxlm_transform.specs.declared.channels.PlacedChannel.{PlacedChannel}
-use Rattle.jxlm_cut.proofs.HeldCells.{unlike_buffers}
-use Rattle.jxlm_cut.proofs.PieceFacts.{channels_sides, held_apart}
+use Rattle.jxlm_groups.proofs.HeldCells.{unlike_buffers}
+use Rattle.jxlm_groups.proofs.PieceFacts.{channels_sides, held_apart}
 use Rattle.jxlm_transform.specs.Channels.{AreRegionsOf, Channel, IsNarrow, infos, regions}
 use Rattle.jxl_modular.specs.Groups.{channels_in, held_in, pieces_of}
 use Rattle.jxl_modular.specs.Image.{Image, coded_list}

@@ -1,10 +1,10 @@
 -- The coded channels of an image that are cut are of its picture.
 use Rattle.std.proofs.Common.{List, IsTrue, sym, subst}
 use Rattle.jxlm_transform.specs.Channels.{Channel}
-use Rattle.jxlm_cut.proofs.AreaLemmas.{asked_picture}
-use Rattle.jxlm_cut.specs.Areas.{AreOfPicture, picture_of}
-use Rattle.jxlm_cut.specs.Passes.{can_group}
-use Rattle.jxlm_cut.specs.declared.pass.Pass.{Pass}
+use Rattle.jxlm_groups.proofs.AreaLemmas.{asked_picture}
+use Rattle.jxlm_groups.specs.Areas.{AreOfPicture, picture_of}
+use Rattle.jxlm_groups.specs.Passes.{can_group}
+use Rattle.jxlm_groups.specs.declared.pass.Pass.{Pass}
 use Rattle.jxl_modular.specs.Image.{Image, coded_list}
 use Rattle.jxl_modular.specs.Inner.Laid.{IsLaidOut}
 

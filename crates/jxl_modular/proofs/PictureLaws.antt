@@ -8,13 +8,13 @@ use Rattle.jxlm_base.specs.ErrorKind.{ErrorKind, NoMemory, UnlessMemory, kind_of
 use Rattle.jxlm_base.specs.Grid.{Grid}
 use Rattle.jxlm_base.specs.declared.error.Error.{Error}
 use Rattle.jxlm_chain.specs.Chain.{Chain}
-use Rattle.jxlm_ma.proofs.Memory.{unless_so}
+use Rattle.jxlm_tree.proofs.Memory.{unless_so}
 use Rattle.jxlm_transform.specs.Channels.{AreGridsOf, Channel, ChannelList, area, image_list}
 use Rattle.jxlm_transform.specs.ChannelSteps.{Step}
 use Rattle.jxlm_transform.specs.declared.param.ModularChannelParams.{ModularChannelParams}
 use Rattle.jxlm_transform.specs.declared.param.ModularParams.{ModularParams}
-use Rattle.jxlm_part.specs.Decode.{MovesWithin}
-use Rattle.jxlm_ma.specs.Tree.{Config}
+use Rattle.jxlm_samples.specs.Decode.{MovesWithin}
+use Rattle.jxlm_tree.specs.Tree.{Config}
 use Rattle.jxl_modular.specs.Inner.Filled.{IsFilled, FillFails, samples_in}
 use Rattle.jxl_modular.specs.Fresh.{fresh}
 use Rattle.jxl_modular.specs.Image.{Image, cost_of, image_grids}

@@ -3,15 +3,15 @@ use Rattle.std.proofs.Common.{◌≡◌, List, ap, length, arith}
 use Rattle.std.proofs.lemmas.List.{length-map}
 use Rattle.std.specs.List.{All}
 use Rattle.jxlm_base.specs.Regions.{AllLie}
-use Rattle.jxlm_cut.specs.declared.part.SectionPart.{SectionPart}
-use Rattle.jxlm_cut.specs.declared.pass.Pass.{Pass}
-use Rattle.jxlm_cut.proofs.Apart.{IsInside}
-use Rattle.jxlm_cut.proofs.HeldCells.{unlike_buffers}
-use Rattle.jxlm_cut.proofs.PartChannels.{few_channels, narrow_channels}
-use Rattle.jxlm_cut.proofs.PieceFacts.{channels_sides, each_inside, held_apart, pieces_lie}
+use Rattle.jxlm_groups.specs.declared.part.SectionPart.{SectionPart}
+use Rattle.jxlm_groups.specs.declared.pass.Pass.{Pass}
+use Rattle.jxlm_groups.proofs.Apart.{IsInside}
+use Rattle.jxlm_groups.proofs.HeldCells.{unlike_buffers}
+use Rattle.jxlm_groups.proofs.PartChannels.{few_channels, narrow_channels}
+use Rattle.jxlm_groups.proofs.PieceFacts.{channels_sides, each_inside, held_apart, pieces_lie}
 use Rattle.jxlm_transform.specs.Channels.{infos, regions}
-use Rattle.jxlm_part.specs.Placed.{PartLies}
-use Rattle.jxlm_part.specs.declared.part.PlacedPart.{PlacedPart}
+use Rattle.jxlm_samples.specs.Placed.{PartLies}
+use Rattle.jxlm_samples.specs.declared.part.PlacedPart.{PlacedPart}
 use Rattle.jxl_modular.specs.Groups.{channels_in, held_in, pieces_of}
 use Rattle.jxl_modular.specs.Image.{Image, coded_list}
 use Rattle.jxl_modular.specs.Inner.Laid.{IsLaidOut}

@@ -19,21 +19,21 @@ use Rattle.jxlm_base.proofs.Outside.{all_lie_still}
 use Rattle.jxlm_base.proofs.Regions.{at-grid_of}
 use Rattle.jxlm_transform.specs.Layout.{no_region}
 use Rattle.jxlm_transform.specs.Channels.{AreRegionsOf}
-use Rattle.jxlm_cut.specs.Pieces.{in_store, within}
-use Rattle.jxlm_cut.specs.declared.part.SectionPart.{SectionPart}
-use Rattle.jxlm_cut.specs.declared.pass.Pass.{Pass}
-use Rattle.jxlm_cut.proofs.Apart.{IsInside, part_kept}
-use Rattle.jxlm_cut.proofs.PieceFacts.{each_inside, pieces_lie}
-use Rattle.jxlm_part.specs.Decode.{DecodeGives, Fails, Standing}
-use Rattle.jxlm_part.specs.Decode as decode
-use Rattle.jxlm_part.specs.Part.{Part, cell_count}
-use Rattle.jxlm_part.proofs.Loops.{fits_in}
+use Rattle.jxlm_groups.specs.Pieces.{in_store, within}
+use Rattle.jxlm_groups.specs.declared.part.SectionPart.{SectionPart}
+use Rattle.jxlm_groups.specs.declared.pass.Pass.{Pass}
+use Rattle.jxlm_groups.proofs.Apart.{IsInside, part_kept}
+use Rattle.jxlm_groups.proofs.PieceFacts.{each_inside, pieces_lie}
+use Rattle.jxlm_samples.specs.Decode.{DecodeGives, Fails, Standing}
+use Rattle.jxlm_samples.specs.Decode as decode
+use Rattle.jxlm_samples.specs.Part.{Part, cell_count}
+use Rattle.jxlm_samples.proofs.Loops.{fits_in}
 use Rattle.jxl_modular.specs.Groups.{held_in, part_in, pieces_of}
 use Rattle.jxl_modular.specs.Image.{Image, coded_list}
 use Rattle.jxl_modular.specs.Inner.Laid.{IsLaidOut}
 use Rattle.jxl_modular.specs.Inner.Turns.{PlainTurn}
 use Rattle.jxlm_nested.specs.Nested.{NestedDone, PartTurn, nested_regions}
-use Rattle.jxlm_ma.specs.Tree.{Config, depth}
+use Rattle.jxlm_tree.specs.Tree.{Config, depth}
 use Rattle.jxl_modular.specs.Sections.{AllTurn, AreDecoded, CodesNested, CodesPart, CodesWhole, Section, SectionTurn, SectionsFit, SectionsLeave, Turn, list_in, most}
 use Rattle.jxl_modular.proofs.Laid.{coded_apart, coded_lie, coded_sizes}
 

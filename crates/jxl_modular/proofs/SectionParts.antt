@@ -7,9 +7,9 @@ use Rattle.std.proofs.lemmas.List.{get_or-take, length-take, take_all}
 use Rattle.std.proofs.lemmas.List.Elements.{All-more}
 use Rattle.std.proofs.lemmas.List.Folds.{Any-from_list_any, list_any-from_Any, list_any_more}
 use Rattle.std.proofs.lemmas.List.Quantifiers.{all_pairs_push}
-use Rattle.jxlm_cut.proofs.PartSets.{is_part, one_part, part_back, part_itself}
-use Rattle.jxlm_cut.specs.declared.part.SectionPart.{SectionPart}
-use Rattle.jxlm_cut.specs.PartSets.{part_order}
+use Rattle.jxlm_groups.proofs.PartSets.{is_part, one_part, part_back, part_itself}
+use Rattle.jxlm_groups.specs.declared.part.SectionPart.{SectionPart}
+use Rattle.jxlm_groups.specs.PartSets.{part_order}
 use Rattle.jxl_modular.specs.Sections.{Section}
 use Rattle.jxl_modular.specs.Inner.SectionParts.{HoldsParts}
 

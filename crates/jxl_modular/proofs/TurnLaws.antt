@@ -14,10 +14,10 @@ use Rattle.jxlm_base.specs.Outside.{KeepsOutside}
 use Rattle.jxlm_base.specs.Regions.{grids_in, store_meanings}
 use Rattle.jxlm_base.specs.declared.error.Error.{Error}
 use Rattle.jxlm_chain.proofs.ShapeLaws.{shape_both, shape_same}
-use Rattle.jxlm_cut.specs.declared.pass.Pass.{Pass}
-use Rattle.jxlm_part.specs.Decode.{MovesWithin}
-use Rattle.jxlm_part.specs.Part.{cell_count}
-use Rattle.jxlm_ma.specs.Tree.{Config}
+use Rattle.jxlm_groups.specs.declared.pass.Pass.{Pass}
+use Rattle.jxlm_samples.specs.Decode.{MovesWithin}
+use Rattle.jxlm_samples.specs.Part.{cell_count}
+use Rattle.jxlm_tree.specs.Tree.{Config}
 use Rattle.jxl_modular.specs.Image.{Image, IsOnlyImage, coded_grids, image_grids}
 use Rattle.jxl_modular.specs.Inner.Turns.{HasStopped, HasTurned, PlainGives, PlainTurn, TurnGives}
 use Rattle.jxl_modular.specs.SameButCells.{SameButCells}

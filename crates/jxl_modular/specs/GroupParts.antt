@@ -8,13 +8,13 @@ use Rattle.jxlm_base.specs.Decoding.{Meaning}
 use Rattle.jxlm_base.specs.declared.error.Error.{Error}
 use Rattle.jxlm_base.specs.declared.subgrid.Region.{Region}
 use Rattle.jxlm_transform.specs.Channels.{Channel}
-use Rattle.jxlm_cut.specs.Counts.{group_count, maximum}
-use Rattle.jxlm_cut.specs.declared.part.Kind.{Kind}
-use Rattle.jxlm_cut.specs.declared.part.SectionPart.{SectionPart}
-use Rattle.jxlm_cut.specs.declared.pass.Pass.{Pass}
-use Rattle.jxlm_cut.specs.declared.part.SectionPart.TheVariants as sections
-use Rattle.jxlm_part.specs.Part.{cell_count}
-use Rattle.jxlm_ma.specs.Tree.{Config}
+use Rattle.jxlm_groups.specs.Counts.{group_count, maximum}
+use Rattle.jxlm_groups.specs.declared.part.Kind.{Kind}
+use Rattle.jxlm_groups.specs.declared.part.SectionPart.{SectionPart}
+use Rattle.jxlm_groups.specs.declared.pass.Pass.{Pass}
+use Rattle.jxlm_groups.specs.declared.part.SectionPart.TheVariants as sections
+use Rattle.jxlm_samples.specs.Part.{cell_count}
+use Rattle.jxlm_tree.specs.Tree.{Config}
 use Rattle.jxl_modular.specs.NestedTurns.{NestedGives}
 use Rattle.jxl_modular.specs.Groups.{HasEachCellOnce, KeepsOtherGrids, PartOfGives, channels_in, held_in}
 use Rattle.jxl_modular.specs.Image.{Image, coded_list}

@@ -8,14 +8,14 @@ use Rattle.jxlm_base.specs.Regions.{grids_in, store_meanings}
 use Rattle.jxlm_base.specs.declared.error.Error.{Error}
 use Rattle.jxlm_base.specs.declared.subgrid.Region.{Region}
 use Rattle.jxlm_transform.specs.Channels.{Channel}
-use Rattle.jxlm_cut.specs.Counts.{exists}
-use Rattle.jxlm_cut.specs.Cutting.{can_cut}
-use Rattle.jxlm_cut.specs.Parts.{AreAllApart, HoldEachCellOnce}
-use Rattle.jxlm_cut.specs.Passes.{can_group}
-use Rattle.jxlm_cut.specs.Pieces.{in_store, part_channels, pieces}
-use Rattle.jxlm_cut.specs.declared.part.SectionPart.{SectionPart}
-use Rattle.jxlm_cut.specs.declared.pass.Pass.{Pass}
-use Rattle.jxlm_part.specs.Part.{Part}
+use Rattle.jxlm_groups.specs.Counts.{exists}
+use Rattle.jxlm_groups.specs.Cutting.{can_cut}
+use Rattle.jxlm_groups.specs.Parts.{AreAllApart, HoldEachCellOnce}
+use Rattle.jxlm_groups.specs.Passes.{can_group}
+use Rattle.jxlm_groups.specs.Pieces.{in_store, part_channels, pieces}
+use Rattle.jxlm_groups.specs.declared.part.SectionPart.{SectionPart}
+use Rattle.jxlm_groups.specs.declared.pass.Pass.{Pass}
+use Rattle.jxlm_samples.specs.Part.{Part}
 use Rattle.jxl_modular.specs.Image.{Image, coded_list}
 use Rattle.jxl_modular.specs.Parts.{HeldGives}
 

@@ -7,10 +7,10 @@ use Rattle.jxlm_base.specs.declared.subgrid.Region.{Region}
 use Rattle.jxlm_chain.specs.Chain as chain
 use Rattle.jxlm_transform.specs.Channels.{Channel, ChannelList}
 use Rattle.jxlm_transform.specs.ChannelSteps.{Step}
-use Rattle.jxlm_ma.specs.Tree.{Config, depth}
-use Rattle.jxlm_tree.specs.declared.predictor.WpHeader.{WpHeader}
-use Rattle.jxlm_part.specs.Part.{Part}
-use Rattle.jxlm_part.specs.Progress.{grids_in}
+use Rattle.jxlm_tree.specs.Tree.{Config, depth}
+use Rattle.jxlm_predictor.specs.declared.predictor.WpHeader.{WpHeader}
+use Rattle.jxlm_samples.specs.Part.{Part}
+use Rattle.jxlm_samples.specs.Progress.{grids_in}
 
 -- what was read, its own channels, the coded ones, of which the first are meta channels, its buffers, and where those lie
 pub record Image (S D : Type 0) : Type 0 where

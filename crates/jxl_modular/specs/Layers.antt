@@ -8,11 +8,11 @@ use Rattle.jxlm_base.specs.declared.subgrid.Region.{Region}
 use Rattle.jxlm_chain.specs.Chain.{IsOnlyImage}
 use Rattle.jxlm_chain.specs.Shape.{SameShape}
 use Rattle.jxlm_header.specs.Opening.{Opening}
-use Rattle.jxlm_part.specs.Part.{Part}
+use Rattle.jxlm_samples.specs.Part.{Part}
 use Rattle.jxlm_transform.specs.Channels.{Channel, ChannelList}
 use Rattle.jxlm_transform.specs.ChannelSteps.{Step}
 use Rattle.jxlm_transform.specs.Steps.{tables_of}
-use Rattle.jxlm_ma.specs.Tree.{Config}
+use Rattle.jxlm_tree.specs.Tree.{Config}
 use Rattle.jxl_modular.specs.Image.{Image}
 use Rattle.jxlm_nested.specs.Starts.{coded_part}
 

@@ -6,10 +6,10 @@ use Rattle.jxlm_base.specs.Decoding.{Meaning}
 use Rattle.jxlm_base.specs.declared.error.Error.{Error}
 use Rattle.jxlm_base.specs.declared.subgrid.Region.{Region}
 use Rattle.jxlm_transform.specs.Channels.{Channel}
-use Rattle.jxlm_ma.specs.Steps.{most_steps}
-use Rattle.jxlm_part.specs.Decode.{DecodeGives, MovesWithin}
-use Rattle.jxlm_part.specs.Part.{Part, cell_count}
-use Rattle.jxlm_part.specs.Placed.{standing_in}
+use Rattle.jxlm_tree.specs.Steps.{most_steps}
+use Rattle.jxlm_samples.specs.Decode.{DecodeGives, MovesWithin}
+use Rattle.jxlm_samples.specs.Part.{Part, cell_count}
+use Rattle.jxlm_samples.specs.Placed.{standing_in}
 use Rattle.jxl_modular.specs.Image.{Image, front_channels, front_part, front_regions}
 use Rattle.jxl_modular.specs.declared.image.TransformedModularSubimage.{TransformedModularSubimage}
 

@@ -8,9 +8,9 @@ use Rattle.jxlm_base.specs.Grid.{Grid}
 use Rattle.jxlm_base.specs.declared.decoder.DecoderError.{DecoderError}
 use Rattle.jxlm_chain.specs.Chain.{IsOnlyImage}
 use Rattle.jxlm_transform.specs.Channels.{ChannelList, area}
-use Rattle.jxlm_ma.specs.Tree.{Config, depth}
-use Rattle.jxlm_part.specs.Coded.{DecodingFails, IsCodedWhole}
-use Rattle.jxlm_part.specs.Decode.{MovesWithin}
+use Rattle.jxlm_tree.specs.Tree.{Config, depth}
+use Rattle.jxlm_samples.specs.Coded.{DecodingFails, IsCodedWhole}
+use Rattle.jxlm_samples.specs.Decode.{MovesWithin}
 use Rattle.jxlm_header.specs.Opening.{Opening}
 use Rattle.jxlm_nested.specs.Starts.{IsStartAt, IsTreeErrorAt, coded_part, opened}
 

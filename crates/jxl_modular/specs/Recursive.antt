@@ -12,12 +12,12 @@ use Rattle.jxlm_base.specs.Regions.{grids_in, store_meanings}
 use Rattle.jxlm_base.specs.declared.decoder.Decoder as decoders
 use Rattle.jxlm_base.specs.declared.error.Error.{Error}
 use Rattle.jxlm_base.specs.declared.subgrid.Region.{Region}
-use Rattle.jxlm_part.specs.Decode.{DecodeGives, MovesWithin}
-use Rattle.jxlm_part.specs.Part.{cell_count}
-use Rattle.jxlm_part.specs.Placed.{standing_in}
+use Rattle.jxlm_samples.specs.Decode.{DecodeGives, MovesWithin}
+use Rattle.jxlm_samples.specs.Part.{cell_count}
+use Rattle.jxlm_samples.specs.Placed.{standing_in}
 use Rattle.jxlm_transform.specs.Channels.{Channel}
-use Rattle.jxlm_ma.specs.Steps.{most_steps}
-use Rattle.jxlm_ma.specs.Tree.{Config}
+use Rattle.jxlm_tree.specs.Steps.{most_steps}
+use Rattle.jxlm_tree.specs.Tree.{Config}
 use Rattle.jxl_modular.specs.Image.{Image}
 use Rattle.jxl_modular.specs.Layers.{IsOnlyPart, Layer, SameButTables, coded_channels, coded_grids, list_within, outer_tables, part_of, store_of, transforms_of}
 use Rattle.jxlm_nested.specs.Nested.{nested_regions, with_tables}

@@ -3,7 +3,7 @@ use Rattle.std.specs.Prelude.{◌≡◌, List}
 use Rattle.jxlm_base.specs.declared.subgrid.Region.{Region}
 use Rattle.jxlm_chain.specs.Shape.{SameShape}
 use Rattle.jxl_modular.specs.Image.{Image}
-use Rattle.jxlm_part.specs.Progress.{KeepsOutside}
+use Rattle.jxlm_samples.specs.Progress.{KeepsOutside}
 
 module _ {S D : Type 0} where
   -- Only cells of the buffers may differ: all else of the image is as before, and so are the buffers' sizes.

@@ -10,15 +10,15 @@ use Rattle.jxlm_base.specs.Grid.{Grid}
 use Rattle.jxlm_base.specs.Regions.{grid_of, grids_in, store_meanings}
 use Rattle.jxlm_base.specs.declared.error.Error.{Error}
 use Rattle.jxlm_chain.specs.Chain as chain
-use Rattle.jxlm_ma.specs.Tree.{Config, depth}
+use Rattle.jxlm_tree.specs.Tree.{Config, depth}
 use Rattle.jxlm_transform.specs.Channels.{AreGridsOf, ChannelList}
-use Rattle.jxlm_cut.specs.Cutting.{can_cut}
-use Rattle.jxlm_cut.specs.Passes.{can_group}
-use Rattle.jxlm_cut.specs.declared.part.SectionPart.{SectionPart}
-use Rattle.jxlm_cut.specs.declared.pass.Pass.{Pass}
-use Rattle.jxlm_part.specs.Coded.{IsCodedWhole}
-use Rattle.jxlm_part.specs.Decode.{MovesWithin}
-use Rattle.jxlm_part.specs.Part.{Part, cell_count}
+use Rattle.jxlm_groups.specs.Cutting.{can_cut}
+use Rattle.jxlm_groups.specs.Passes.{can_group}
+use Rattle.jxlm_groups.specs.declared.part.SectionPart.{SectionPart}
+use Rattle.jxlm_groups.specs.declared.pass.Pass.{Pass}
+use Rattle.jxlm_samples.specs.Coded.{IsCodedWhole}
+use Rattle.jxlm_samples.specs.Decode.{MovesWithin}
+use Rattle.jxlm_samples.specs.Part.{Part, cell_count}
 use Rattle.jxlm_nested.specs.Nested.{NestedTurn, NotBegun, PartTurn}
 use Rattle.jxlm_nested.specs.Starts.{Start, coded_part}
 use Rattle.jxl_modular.specs.Groups.{Exists, IsCut, channels_in, held_in, part_in, pieces_of}

@@ -6,9 +6,9 @@ pub use Rattle.jxlm_base.specs.declared.decoder.RleToken
 pub use Rattle.jxlm_base.specs.declared.error.Error
 pub use Rattle.jxlm_base.specs.declared.grid.OutOfMemory
 pub use Rattle.jxlm_base.specs.declared.subgrid.Region
-pub use Rattle.jxlm_ma.specs.declared.flat.Leaf
-pub use Rattle.jxlm_tree.specs.declared.predictor.Predictor
-pub use Rattle.jxlm_tree.specs.declared.predictor.WpHeader
+pub use Rattle.jxlm_tree.specs.declared.flat.Leaf
+pub use Rattle.jxlm_predictor.specs.declared.predictor.Predictor
+pub use Rattle.jxlm_predictor.specs.declared.predictor.WpHeader
 pub use Rattle.jxlm_transform.specs.declared.channels.ModularChannelInfo
 pub use Rattle.jxlm_transform.specs.declared.param.ChannelShift
 pub use Rattle.jxlm_transform.specs.declared.param.ModularChannelParams
@@ -16,7 +16,7 @@ pub use Rattle.jxlm_transform.specs.declared.param.ModularParams
 pub use Rattle.jxlm_transform.specs.declared.transform.Palette
 pub use Rattle.jxlm_transform.specs.declared.transform.Rct
 pub use Rattle.jxlm_transform.specs.declared.transform.SqueezeParams
-pub use Rattle.jxlm_write.specs.declared.header.EncodeTransform
-pub use Rattle.jxlm_write.specs.declared.header.SqueezeStep
-pub use Rattle.jxlm_write.specs.declared.tree.EncodeNode
+pub use Rattle.jxlm_encode_write.specs.declared.header.EncodeTransform
+pub use Rattle.jxlm_encode_write.specs.declared.header.SqueezeStep
+pub use Rattle.jxlm_encode_write.specs.declared.tree.EncodeNode
 pub use Rattle.jxlm_encode.specs.declared.error.EncodeError

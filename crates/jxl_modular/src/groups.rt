@@ -6,7 +6,7 @@ ghost use Rattle.std.specs.List.{list_all};
 ghost use Rattle.std.specs.Option.{option_copied};
 ghost use Rattle.jxlm_base.specs.Bits.{bytes_of, position_of};
 ghost use Rattle.jxlm_base.specs.ErrorKind.{BadSqueeze, UnlessNoMemory, kind_of};
-ghost use Rattle.jxlm_part.specs.Part.{cell_count};
+ghost use Rattle.jxlm_samples.specs.Part.{cell_count};
 
 use crate::image::ModularImageDestination;
 use crate::recursive::{NestedHeader, RecursiveModularImage};
@@ -15,10 +15,10 @@ use jxlm_base::decoder::Decoder;
 use jxlm_base::error::Result;
 use jxlm_base::grid::{AlignedGrid, OutOfMemory};
 use jxlm_base::sample::Sample;
-use jxlm_cut::part::{Kind, SectionPart};
-use jxlm_cut::pass::{Pass, passes};
-use jxlm_ma::flat::Steps;
-use jxlm_ma::ma::MaConfig;
+use jxlm_groups::part::{Kind, SectionPart};
+use jxlm_groups::pass::{Pass, passes};
+use jxlm_tree::flat::Steps;
+use jxlm_tree::ma::MaConfig;
 use std::alloc::Global;
 use std::collections::BTreeMap;
 
@@ -162,8 +162,8 @@ pub struct TransformedGlobalModular<'dest, S, D: Decoder> {
 
 impl<S: Sample, D: Decoder> ModularImageDestination<S, D> {
     ghost use Rattle.std.specs.Borrow.{sem};
-    ghost use Rattle.jxlm_cut.specs.Cutting.{can_cut};
-    ghost use Rattle.jxlm_cut.specs.Passes.{can_group as groups_possible, passes_of};
+    ghost use Rattle.jxlm_groups.specs.Cutting.{can_cut};
+    ghost use Rattle.jxlm_groups.specs.Passes.{can_group as groups_possible, passes_of};
     ghost use Rattle.jxl_modular.specs.Groups.{IsCut};
     ghost use Rattle.jxl_modular.specs.GroupParts.{AreNew, EachCellIsInOnePart, image_of, loan, passes_in};
     ghost use Rattle.jxl_modular.specs.Image.{coded_list};
@@ -211,7 +211,7 @@ impl<S: Sample, D: Decoder> ModularImageDestination<S, D> {
 
 impl<'dest, S: Sample, D: Decoder> TransformedGlobalModular<'dest, S, D> {
     ghost use Rattle.std.specs.Borrow.{sem};
-    ghost use Rattle.jxlm_cut.specs.declared.part.Kind.TheVariants as kinds;
+    ghost use Rattle.jxlm_groups.specs.declared.part.Kind.TheVariants as kinds;
     ghost use Rattle.jxl_modular.specs.GroupParts.{KeepsOtherParts, NestedPartGives, PartGives, channels_of, groups_of, image_of, is_partial, loan, pass_count, passes_in, regions_of, steps_of};
     ghost use Rattle.jxl_modular.specs.Layers.{StandsIn};
     ghost use Rattle.jxl_modular.specs.Recursive.{IsReadIn, ReadFails, image_in, layer_in};
@@ -219,7 +219,7 @@ impl<'dest, S: Sample, D: Decoder> TransformedGlobalModular<'dest, S, D> {
     ghost use Rattle.jxl_modular.specs.SameButCells.{SameButIn};
     ghost use Rattle.jxl_modular.specs.Image.{IsOnlyImage, coded_grids};
     ghost use Rattle.jxlm_base.specs.Regions.{store_meanings};
-    ghost use Rattle.jxlm_ma.specs.TreeReading.{IsOutOfMemory};
+    ghost use Rattle.jxlm_tree.specs.TreeReading.{IsOutOfMemory};
     ghost use Rattle.jxlm_transform.specs.Channels.{AreGridsOf};
 
     /// How many LF groups the image has: 0 where no channel is cut into them. They are numbered by rows, left to right.

@@ -33,7 +33,7 @@ pub mod error {
 
 /// Trees as the samples of one channel walk them.
 pub mod flat {
-    pub use jxlm_ma::flat::{FlatMaTree, Leaf, Steps};
+    pub use jxlm_tree::flat::{FlatMaTree, Leaf, Steps};
 }
 
 /// Grids of samples, and rectangles in them.
@@ -43,7 +43,7 @@ pub mod grid {
 
 /// Meta-adaptive trees.
 pub mod ma {
-    pub use jxlm_ma::ma::{MaConfig, MaConfigParams};
+    pub use jxlm_tree::ma::{MaConfig, MaConfigParams};
 }
 
 /// What an image is read by.
@@ -61,7 +61,7 @@ pub mod plain {
 
 /// Predictors, and the properties of a cell of a channel.
 pub mod predictor {
-    pub use jxlm_tree::predictor::{
+    pub use jxlm_predictor::predictor::{
         PredictionResult, Predictor, PredictorState, Properties, WpHeader,
     };
 }
@@ -88,8 +88,8 @@ pub mod transform {
 
 pub use jxlm_base::error::{Error, Result};
 pub use jxlm_base::sample::Sample;
-pub use jxlm_ma::flat::FlatMaTree;
-pub use jxlm_ma::ma::{MaConfig, MaConfigParams};
+pub use jxlm_tree::flat::FlatMaTree;
+pub use jxlm_tree::ma::{MaConfig, MaConfigParams};
 pub use jxlm_transform::channels::ModularChannelInfo;
 pub use jxlm_transform::param::{
     ChannelShift, GradientSums, ModularChannelParams, ModularParams, PaletteTables,

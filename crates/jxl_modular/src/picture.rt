@@ -6,7 +6,7 @@ ghost use Rattle.jxlm_base.specs.Bits.{bytes_of, position_of};
 ghost use Rattle.jxlm_base.specs.ErrorKind.{UnlessMemory, kind_of};
 ghost use Rattle.jxlm_transform.specs.Channels.{AreGridsOf, image_list};
 ghost use Rattle.jxlm_transform.specs.Params.{IsValidParams};
-ghost use Rattle.jxlm_part.specs.Decode.{MovesWithin};
+ghost use Rattle.jxlm_samples.specs.Decode.{MovesWithin};
 ghost use Rattle.jxl_modular.specs.Inner.Filled.{IsFilled, FillFails, samples_in};
 ghost use Rattle.jxl_modular.specs.Image.{cost_of, image_grids};
 ghost use Rattle.jxl_modular.specs.Inner.Laid.{IsLaidOut};
@@ -18,7 +18,7 @@ use jxlm_base::bits::Bitstream;
 use jxlm_base::decoder::Decoder;
 use jxlm_base::error::Result;
 use jxlm_base::sample::Sample;
-use jxlm_ma::flat::Steps;
+use jxlm_tree::flat::Steps;
 use jxlm_transform::param::ModularParams;
 use std::alloc::Global;
 

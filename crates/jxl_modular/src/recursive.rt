@@ -4,7 +4,7 @@ ghost use Rattle.std.specs.Prelude.{◌≡◌, ◌↔◌, ◌+◌, ◌*◌, true
 ghost use Rattle.std.specs.Option.{option_copied};
 ghost use Rattle.jxlm_base.specs.Bits.{bytes_of, position_of};
 ghost use Rattle.jxlm_base.specs.ErrorKind.{NoMemory, kind_of};
-ghost use Rattle.jxlm_part.specs.Part.{cell_count};
+ghost use Rattle.jxlm_samples.specs.Part.{cell_count};
 ghost use Rattle.jxl_modular.specs.Layers.{StandsIn};
 
 use crate::image::ModularImageDestination;
@@ -13,10 +13,10 @@ use jxlm_base::decoder::Decoder;
 use jxlm_base::error::Result;
 use jxlm_base::grid::AlignedGrid;
 use jxlm_base::sample::Sample;
-use jxlm_ma::flat::Steps;
-use jxlm_ma::ma::MaConfig;
+use jxlm_tree::flat::Steps;
+use jxlm_tree::ma::MaConfig;
 use jxlm_nested::nested::NestedPart;
-use jxlm_part::channels::have_samples;
+use jxlm_samples::channels::have_samples;
 use jxlm_transform::channels::PlacedChannel;
 use std::alloc::Global;
 use std::marker::Model;
@@ -36,9 +36,9 @@ impl<S, D: Decoder> Model for NestedHeader<S, D> {
     ghost use Rattle.jxl_modular.specs.Inner.LayerCode.{IsLayer, layer_code, layer_kept};
     ghost use Rattle.jxl_modular.specs.Layers.{Layer};
     ghost use Rattle.jxl_modular.specs.Inner.StepCode.{step_code};
-    ghost use Rattle.jxlm_ma.specs.TreeCode.{coded_config};
-    ghost use Rattle.jxlm_ma.specs.contracts.flat.Leaf as leaves;
-    ghost use Rattle.jxlm_tree.specs.contracts.predictor.WpHeader as weights;
+    ghost use Rattle.jxlm_tree.specs.TreeCode.{coded_config};
+    ghost use Rattle.jxlm_tree.specs.contracts.flat.Leaf as leaves;
+    ghost use Rattle.jxlm_predictor.specs.contracts.predictor.WpHeader as weights;
     ghost use Rattle.jxlm_transform.specs.contracts.transform.Rct as colours;
     ghost use Rattle.jxlm_transform.specs.contracts.transform.Palette as palettes;
     ghost use Rattle.jxlm_transform.specs.contracts.transform.SqueezeParams as squeezes;

@@ -5,7 +5,7 @@ ghost use Rattle.std.specs.List.{All};
 ghost use Rattle.std.specs.Option.{option_copied, option_copied_mut};
 ghost use Rattle.jxlm_base.specs.Bits.{bytes_of, position_of};
 ghost use Rattle.jxlm_base.specs.ErrorKind.{kind_of};
-ghost use Rattle.jxlm_ma.specs.TreeReading.{IsOutOfMemory};
+ghost use Rattle.jxlm_tree.specs.TreeReading.{IsOutOfMemory};
 ghost use Rattle.jxlm_transform.specs.Params.{IsValidParams};
 ghost use Rattle.jxl_modular.specs.Parsing.{ParseGives, image_of};
 
@@ -61,7 +61,7 @@ impl<S: Sample, D: Decoder> Modular<S, D> {
     /// which the ones before it leave is `InvalidRctParams`, `InvalidPaletteParams` or `InvalidSqueezeParams`; then
     /// more than 65536 coded channels are `ProfileConformance`; then a header that uses the global tree where there is
     /// none is `GlobalMaTreeNotAvailable`; and then, for a header that does not use it, come the errors of the tree, as
-    /// by [`MaConfig::parse`](jxlm_ma::ma::MaConfig::parse): it may have 1025 nodes and one more for each coded
+    /// by [`MaConfig::parse`](jxlm_tree::ma::MaConfig::parse): it may have 1025 nodes and one more for each coded
     /// sample, at most 2^20 + 1, and a depth of 2048. The reader is then after the
     /// last field that was read whole; after an error inside a decoder's own `parse` its position is up to the
     /// decoder. Out of memory, `Buffer` or `Decoder(OutOfMemory)`, may come at any time, and leaves the reader

@@ -2,7 +2,7 @@
 
 ghost use Rattle.std.specs.Prelude.{◌≡◌, length, pos, true, Ok, IfOk, IfErr, OnErr, OnOk};
 ghost use Rattle.std.specs.Option.{option_copied};
-ghost use Rattle.jxlm_cut.specs.Passes.{passes_of};
+ghost use Rattle.jxlm_groups.specs.Passes.{passes_of};
 ghost use Rattle.jxl_modular.specs.Image.{image_grids};
 ghost use Rattle.jxl_modular.specs.SameButCells.{SameButCells};
 ghost use Rattle.jxl_modular.specs.Sections.{AreDecoded, Heard, HeardSome, SectionsFit, SectionsLeave, SectionsStop};
@@ -18,11 +18,11 @@ use jxlm_base::bits::Bitstream;
 use jxlm_base::decoder::Decoder;
 use jxlm_base::error::Result;
 use jxlm_base::sample::Sample;
-pub use jxlm_cut::area::{Area, PartArea};
-pub use jxlm_cut::part::SectionPart;
-use jxlm_cut::pass::passes;
-use jxlm_ma::flat::Steps;
-use jxlm_ma::ma::MaConfig;
+pub use jxlm_groups::area::{Area, PartArea};
+pub use jxlm_groups::part::SectionPart;
+use jxlm_groups::pass::passes;
+use jxlm_tree::flat::Steps;
+use jxlm_tree::ma::MaConfig;
 pub use progress::Progress;
 use std::alloc::Global;
 use std::collections::BTreeMap;

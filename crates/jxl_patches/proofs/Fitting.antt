@@ -7,7 +7,7 @@ use Rattle.std.proofs.lemmas.List.{length-append, get_or_push, get_or_append_lef
 use Rattle.std.proofs.Math.Nat.{suc-mul}
 use Rattle.jxlm_base.specs.Decoding.{Meaning}
 use Rattle.jxlm_base.specs.ErrorKind.{ErrorKind, BadEnum}
-use Rattle.jxl_headers.specs.declared.size.Size.{Size}
+use Rattle.jxl_image_header.specs.declared.size.Size.{Size}
 use Rattle.jxl_toc.proofs.Cases.{less_or_same}
 use Rattle.jxl_toc.specs.Tokens.{After, token}
 use Rattle.jxl_toc.specs.Turns.{chained}

@@ -1,6 +1,6 @@
 -- What patches leave of a sample.
 use Rattle.std.proofs.Common.{◌≡◌, ℕ, ℤ, zero, suc, ◌+◌, ◌*◌, ◌<◌, true, false, List, [], length, get_or, Option, ◌⊎◌, inl, inr, refl, ap, ◌∙◌, arith}
-use Rattle.jxl_headers.specs.declared.size.Size.{Size}
+use Rattle.jxl_image_header.specs.declared.size.Size.{Size}
 use Rattle.jxlm_base.specs.Grid.{Grid, grid}
 use Rattle.jxl_toc.proofs.Cases.{less_or_same}
 use Rattle.jxl_patches.specs.Dictionaries.{IsWithin, place_at}

@@ -1,6 +1,6 @@
 -- A dictionary in memory, as patches, and what is true of those that were read.
 use Rattle.std.specs.Prelude.{◌≡◌, ℕ, ◌+◌, ◌*◌, ◌<◌, ◌≤◌, List, length, get_or, Option, Some, None}
-use Rattle.jxl_headers.specs.declared.size.Size.{Size}
+use Rattle.jxl_image_header.specs.declared.size.Size.{Size}
 use Rattle.jxl_patches.specs.Patches.{Patches, nowhere}
 use Rattle.jxl_patches.specs.declared.dictionary.Dictionary.{Dictionary}
 use Rattle.jxl_patches.specs.declared.dictionary.Place.{Place}

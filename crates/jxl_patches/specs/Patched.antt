@@ -3,7 +3,7 @@ use Rattle.std.specs.Prelude.{◌≡◌, ℕ, zero, suc, ◌+◌, ◌-◌, ◌*�
 use Rattle.std.specs.Global.{Vec}
 use Rattle.std.specs.Int.{int_wrap, w32}
 use Rattle.jxlm_base.specs.Grid.{Grid, grid, at}
-use Rattle.jxl_headers.specs.declared.size.Size.{Size}
+use Rattle.jxl_image_header.specs.declared.size.Size.{Size}
 use Rattle.jxl_patches.specs.Dictionaries.{AreWithin, place_at}
 use Rattle.jxl_patches.specs.Patches.{Patches, nowhere}
 use Rattle.jxl_patches.specs.declared.dictionary.Place.{Place}

@@ -5,8 +5,8 @@ use Rattle.std.specs.Option.{ok_or, option_and_then, option_map_or}
 use Rattle.jxlm_base.specs.Decoding.{Meaning}
 use Rattle.jxlm_base.specs.ErrorKind.{ErrorKind, BadEnum, BadProfile}
 use Rattle.jxlm_base.specs.Grammar.{Grammar, give, fail}
-use Rattle.jxl_headers.specs.Fields.{meant}
-use Rattle.jxl_headers.specs.declared.size.Size.{Size}
+use Rattle.jxl_image_header.specs.Fields.{meant}
+use Rattle.jxl_image_header.specs.declared.size.Size.{Size}
 use Rattle.jxl_toc.specs.Tokens.{Tokens, token, coded}
 use Rattle.jxl_toc.specs.Turns.{◌>>=◌, chained}
 use Rattle.jxl_patches.specs.declared.dictionary.Rectangle.{Rectangle}

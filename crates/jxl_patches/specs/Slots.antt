@@ -3,8 +3,8 @@ use Rattle.std.specs.Prelude.{◌≡◌, ℕ, ◌+◌, ◌*◌, ℤ, List, [], l
 use Rattle.jxlm_base.specs.Decoding.{Meaning}
 use Rattle.jxlm_base.specs.Grammar.{Grammar, give, ◌>>=◌}
 use Rattle.jxlm_base.specs.Grid.{Grid}
-use Rattle.jxl_headers.specs.Fields.{when}
-use Rattle.jxl_headers.specs.declared.size.Size.{Size}
+use Rattle.jxl_image_header.specs.Fields.{when}
+use Rattle.jxl_image_header.specs.declared.size.Size.{Size}
 use Rattle.jxl_patches.specs.Patches.{Patches, dictionary}
 use Rattle.jxl_patches.specs.Patched.{ArePatched, AreSaved, HaveSides}
 

@@ -13,7 +13,7 @@ use crate::error::Result;
 use crate::place::places;
 use crate::source::{place_count, rectangle_count, source};
 use crate::token::decoder;
-use jxl_headers::size::Size;
+use jxl_image_header::size::Size;
 use jxlm_base::bits::Bitstream;
 use jxlm_base::decoder::Decoder;
 use std::alloc::Global;

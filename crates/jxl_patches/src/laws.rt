@@ -1,7 +1,7 @@
 //! Laws of patches, each the contract of a function that does nothing.
 
 ghost use Rattle.std.specs.Prelude.{◌≡◌, ℕ, List, Option, Some, pos, ◌+ℤ◌, ◌↔◌, true};
-ghost use Rattle.jxl_headers.specs.declared.size.Size.{Size as TheSize};
+ghost use Rattle.jxl_image_header.specs.declared.size.Size.{Size as TheSize};
 ghost use Rattle.jxlm_base.specs.Grammar.{IsExact};
 ghost use Rattle.jxlm_base.specs.Numbers.{unpack};
 ghost use Rattle.jxl_patches.specs.Patches.{dictionary, moved};

@@ -11,7 +11,7 @@ ghost use Rattle.jxl_patches.specs.SavedParts.{slots_of};
 use crate::dictionary::Dictionary;
 use crate::error::PatchError;
 use crate::slots::SavedFrames;
-use jxl_headers::size::Size;
+use jxl_image_header::size::Size;
 use jxlm_base::bits::Bitstream;
 use jxlm_base::decoder::Decoder;
 use jxlm_base::grid::AlignedGrid;

@@ -10,7 +10,7 @@ ghost use Rattle.jxl_patches.specs.Inner.Steps.{TokenRead, Checks, StepRead, ins
 use crate::dictionary::{Dictionary, PatchMode, Place, Rectangle};
 use crate::error::{PatchError, Result};
 use crate::token::token;
-use jxl_headers::size::Size;
+use jxl_image_header::size::Size;
 use jxlm_base::bits::Bitstream;
 use jxlm_base::decoder::Decoder;
 

@@ -5,7 +5,7 @@ ghost use Rattle.jxl_patches.specs.Patched.{frames_of};
 ghost use Rattle.jxl_patches.specs.Slots.{no_slots, saved_in};
 ghost use Rattle.jxl_patches.specs.SavedParts.{slots_of};
 
-use jxl_headers::size::Size;
+use jxl_image_header::size::Size;
 use jxlm_base::grid::{AlignedGrid, OutOfMemory};
 use std::alloc::Global;
 

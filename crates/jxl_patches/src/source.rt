@@ -9,7 +9,7 @@ ghost use Rattle.jxl_patches.specs.Inner.Steps.{TokenRead, Checks, slot as the_s
 use crate::dictionary::Rectangle;
 use crate::error::{PatchError, Result};
 use crate::token::token;
-use jxl_headers::size::Size;
+use jxl_image_header::size::Size;
 use jxlm_base::bits::Bitstream;
 use jxlm_base::decoder::Decoder;
 

@@ -5,9 +5,9 @@ use Rattle.std.specs.Int.{div_ceil}
 use Rattle.std.specs.List.{All, AllZip}
 use Rattle.std.proofs.lemmas.List.Elements.{All-cons, All-head, All-nil, All-tail}
 use Rattle.jxlm_base.specs.Grid.{Grid}
-use Rattle.jxl_headers.specs.Images.{Image}
-use Rattle.jxl_headers.specs.declared.channel.ExtraChannel.{ExtraChannel}
-use Rattle.jxl_headers.specs.declared.size.Size.{Size}
+use Rattle.jxl_image_header.specs.Images.{Image}
+use Rattle.jxl_image_header.specs.declared.channel.ExtraChannel.{ExtraChannel}
+use Rattle.jxl_image_header.specs.declared.size.Size.{Size}
 use Rattle.jxl_picture.specs.Pictures.{AreChannels, IsWhole, colour_count}
 use Rattle.jxl_picture.specs.Inner.Sides.{HasShiftedSides, HasSides, HaveSides}
 use Rattle.jxl_picture.proofs.Shifts.{shifted_none}

@@ -3,10 +3,10 @@ use Rattle.std.specs.Prelude.{ℕ, ◌+◌, ◌-◌, ◌==◌, ◌&&◌, ◌||�
 use Rattle.std.specs.List.{list_all}
 use Rattle.std.specs.Fmt.{decimal}
 use Rattle.jxlm_base.specs.Grid.{Grid}
-use Rattle.jxlm_text.specs.Printing.{image_text}
-use Rattle.jxl_headers.specs.Images.{Image}
-use Rattle.jxl_headers.specs.declared.channel.BitDepth.{BitDepth}
-use Rattle.jxl_headers.specs.declared.channel.ExtraChannel.{ExtraChannel}
+use Rattle.jxl_text.specs.Printing.{image_text}
+use Rattle.jxl_image_header.specs.Images.{Image}
+use Rattle.jxl_image_header.specs.declared.channel.BitDepth.{BitDepth}
+use Rattle.jxl_image_header.specs.declared.channel.ExtraChannel.{ExtraChannel}
 use Rattle.jxl_picture.specs.Pictures.{is_grey, colour_count, has_full_alpha, is_full_alpha}
 use Rattle.jxl_picture.specs.Rasters.{Layer, maximum, raster_text, float_rows}
 use Rattle.jxl_picture.specs.declared.format.Format.{Format}

@@ -1,7 +1,7 @@
 -- How large a picture may be.
 use Rattle.std.specs.Prelude.{ℕ, ◌+◌, ◌*◌, ◌^◌, ◌≤◌, length}
-use Rattle.jxl_headers.specs.Images.{Image}
-use Rattle.jxl_headers.specs.declared.size.Size.{Size}
+use Rattle.jxl_image_header.specs.Images.{Image}
+use Rattle.jxl_image_header.specs.declared.size.Size.{Size}
 use Rattle.jxl_picture.specs.Pictures.{colour_count}
 use Rattle.jxl_picture.specs.declared.limits.Limits.{Limits}
 

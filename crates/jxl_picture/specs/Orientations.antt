@@ -2,8 +2,8 @@
 use Rattle.std.specs.Prelude.{◌≡◌, ℕ, ◌-◌, ◌<◌, ◌==◌, ◌||◌, nat_lt, ℤ, List, Bool, if◌then◌else◌}
 use Rattle.std.specs.List.{AllZip}
 use Rattle.jxlm_base.specs.Grid.{Grid, cell}
-use Rattle.jxl_headers.specs.Images.{Image}
-use Rattle.jxl_headers.specs.declared.size.Size.{Size}
+use Rattle.jxl_image_header.specs.Images.{Image}
+use Rattle.jxl_image_header.specs.declared.size.Size.{Size}
 
 -- columns become rows: orientations 5 to 8
 abbrev pub is_turned : ℕ → Bool

@@ -3,9 +3,9 @@ use Rattle.std.specs.Prelude.{◌≡◌, ℕ, ◌^◌, ◌==◌, ◌&&◌, ℤ, 
 use Rattle.std.specs.Int.{div_ceil}
 use Rattle.std.specs.List.{AllZip, list_any}
 use Rattle.jxlm_base.specs.Grid.{Grid}
-use Rattle.jxl_headers.specs.Images.{Image}
-use Rattle.jxl_headers.specs.declared.channel.ExtraChannel.{ExtraChannel}
-use Rattle.jxl_headers.specs.declared.size.Size.{Size}
+use Rattle.jxl_image_header.specs.Images.{Image}
+use Rattle.jxl_image_header.specs.declared.channel.ExtraChannel.{ExtraChannel}
+use Rattle.jxl_image_header.specs.declared.size.Size.{Size}
 
 -- colours are grey
 abbrev pub is_grey : Image → Bool

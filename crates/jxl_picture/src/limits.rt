@@ -1,11 +1,11 @@
 //! How large a picture may be.
 
 ghost use Rattle.std.specs.Prelude.{◌≡◌, ◌^◌, ◌↔◌, IsTrue};
-ghost use Rattle.jxl_headers.specs.Images.{image_of};
+ghost use Rattle.jxl_image_header.specs.Images.{image_of};
 ghost use Rattle.jxl_picture.specs.Limits.{Allow};
 
 use crate::picture::colours;
-use jxl_headers::image::ImageHeader;
+use jxl_image_header::image::ImageHeader;
 
 /// How large a picture may be. A picture of one colour needs no bits for its samples, so a short file may ask for any
 /// size: a reader compares what the header says with these before it takes memory.

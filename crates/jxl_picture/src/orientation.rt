@@ -6,7 +6,7 @@ ghost use Rattle.jxlm_base.specs.Grid.{cell};
 ghost use Rattle.jxl_picture.specs.Inner.Cells.{column_of as the_column, row_of as the_row};
 ghost use Rattle.jxl_picture.specs.Orientations.{AreUndone, IsOriented, is_turned as turned, counted as the_counted, shown_size as the_shown_size};
 
-use jxl_headers::size::Size;
+use jxl_image_header::size::Size;
 use jxlm_base::grid::{AlignedGrid, OutOfMemory};
 use jxlm_base::sample::Sample;
 use std::alloc::Global;

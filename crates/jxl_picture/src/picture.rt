@@ -3,15 +3,15 @@
 ghost use Rattle.std.specs.Prelude.{◌≡◌, ◌^◌, ◌↔◌, IfOk, IsTrue, length};
 ghost use Rattle.std.specs.Int.{div_ceil};
 ghost use Rattle.std.specs.List.{AllZip};
-ghost use Rattle.jxl_headers.specs.Images.{image_of};
+ghost use Rattle.jxl_image_header.specs.Images.{image_of};
 ghost use Rattle.jxl_picture.specs.Inner.Sides.{HasShiftedSides, HasSides};
 ghost use Rattle.jxl_picture.specs.Pictures.{IsWhole, colour_count, is_grey as colours_are_grey, has_alpha as there_is_alpha, has_full_alpha as there_is_full_alpha, is_full_alpha as the_full_alpha};
 ghost use Rattle.jxl_picture.specs.Orientations.{IsUpright};
 
 use crate::orientation::{shown_channels, shown_size};
-use jxl_headers::channel::ExtraChannel;
-use jxl_headers::image::ImageHeader;
-use jxl_headers::size::Size;
+use jxl_image_header::channel::ExtraChannel;
+use jxl_image_header::image::ImageHeader;
+use jxl_image_header::size::Size;
 use jxlm_base::grid::{AlignedGrid, OutOfMemory};
 use std::alloc::Global;
 

@@ -4,9 +4,9 @@ use Rattle.std.specs.Prelude.{Any}
 use Rattle.std.specs.List.{filter, range_with_len}
 use Rattle.std.proofs.lemmas.List.{append-nil, map-append}
 use Rattle.std.proofs.lemmas.List.Elements.{All-nil, All-cons, All-append}
-use Rattle.jxlm_cut.specs.declared.part.SectionPart.{SectionPart}
+use Rattle.jxlm_groups.specs.declared.part.SectionPart.{SectionPart}
 use Rattle.jxl_modular.specs.declared.sections.Section.{Section}
-use Rattle.jxlm_sections.proofs.PartLists.{IsAmong, among_filter, among_range}
+use Rattle.jxlm_section_split.proofs.PartLists.{IsAmong, among_filter, among_range}
 use Rattle.jxl_still.specs.Places.{held}
 use Rattle.jxl_still.specs.Inner.Listing.{AddingFails, AreAdded, IsOfGroup, IsPlaced, Lacks}
 use Rattle.jxl_still.specs.declared.error.FrameError.{FrameError}

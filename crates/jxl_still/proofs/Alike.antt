@@ -4,11 +4,11 @@ use Rattle.std.specs.Int.{Width}
 use Rattle.jxlm_base.specs.Decoding.{Meaning}
 use Rattle.jxlm_base.specs.ErrorKind.{kind_of}
 use Rattle.jxlm_base.specs.Grid.{Grid}
-use Rattle.jxlm_ma.proofs.Memory.{unless_so}
-use Rattle.jxlm_ma.specs.Tree.{Config}
+use Rattle.jxlm_tree.proofs.Memory.{unless_so}
+use Rattle.jxlm_tree.specs.Tree.{Config}
 use Rattle.jxlm_transform.specs.Channels.{ChannelList}
-use Rattle.jxlm_cut.specs.declared.part.SectionPart.{SectionPart}
-use Rattle.jxlm_cut.specs.declared.pass.Pass.{Pass}
+use Rattle.jxlm_groups.specs.declared.part.SectionPart.{SectionPart}
+use Rattle.jxlm_groups.specs.declared.pass.Pass.{Pass}
 use Rattle.jxl_still.specs.Stills.{CanDecode, HasSections, HeaderStands, IsStill, StillFails}
 use Rattle.jxl_still.specs.declared.error.FrameError.{FrameError}
 use Rattle.jxl_still.specs.declared.error.FrameError.TheVariants as errors

@@ -7,26 +7,26 @@ use Rattle.std.proofs.lemmas.Bool.{cases_lt, le-leb, lt-ltb, ltb-true}
 use Rattle.std.proofs.lemmas.List.Elements.{All-append, All-filter, filter_passes}
 use Rattle.jxlm_transform.proofs.StepFacts.{both_of}
 use Rattle.jxlm_transform.specs.Channels.{Channel, ChannelList}
-use Rattle.jxlm_cut.proofs.PartChannels.{counts_cells}
-use Rattle.jxlm_cut.proofs.PieceFacts.{counted_of, held_exists, lf_exists, pass_exists}
-use Rattle.jxlm_cut.proofs.Parts.{get_of}
-use Rattle.jxlm_cut.proofs.Pictured.{IsOfPicture}
-use Rattle.jxlm_cut.proofs.Steps.{IsPictured}
-use Rattle.jxlm_cut.specs.Counts.{group_count, is_kind}
-use Rattle.jxlm_cut.specs.Cutting.{global_count, is_low_frequency, pass_of}
-use Rattle.jxlm_cut.specs.Passes.{can_group, holds}
-use Rattle.jxlm_cut.specs.declared.pass.Pass.{Pass}
-use Rattle.jxlm_cut.specs.declared.part.Kind.TheVariants as kinds
-use Rattle.jxlm_cut.specs.declared.part.SectionPart.{SectionPart}
-use Rattle.jxlm_cut.specs.declared.part.SectionPart.TheVariants as parts
-use Rattle.jxlm_part.specs.Part.{cell_count}
+use Rattle.jxlm_groups.proofs.PartChannels.{counts_cells}
+use Rattle.jxlm_groups.proofs.PieceFacts.{counted_of, held_exists, lf_exists, pass_exists}
+use Rattle.jxlm_groups.proofs.Parts.{get_of}
+use Rattle.jxlm_groups.proofs.Pictured.{IsOfPicture}
+use Rattle.jxlm_groups.proofs.Steps.{IsPictured}
+use Rattle.jxlm_groups.specs.Counts.{group_count, is_kind}
+use Rattle.jxlm_groups.specs.Cutting.{global_count, is_low_frequency, pass_of}
+use Rattle.jxlm_groups.specs.Passes.{can_group, holds}
+use Rattle.jxlm_groups.specs.declared.pass.Pass.{Pass}
+use Rattle.jxlm_groups.specs.declared.part.Kind.TheVariants as kinds
+use Rattle.jxlm_groups.specs.declared.part.SectionPart.{SectionPart}
+use Rattle.jxlm_groups.specs.declared.part.SectionPart.TheVariants as parts
+use Rattle.jxlm_samples.specs.Part.{cell_count}
 use Rattle.jxl_modular.specs.GroupParts.{pass_count}
 use Rattle.jxl_modular.specs.Groups.{Exists, channels_in}
 use Rattle.jxl_modular.specs.Image.{Image, coded_list}
 use Rattle.jxl_modular.specs.Sections.{IsComplete}
 use Rattle.jxl_modular.specs.declared.sections.Section.{Section}
-use Rattle.jxlm_sections.specs.CutPicture.{lf_groups}
-use Rattle.jxlm_sections.proofs.PartLists.{IsAmong, among_filter, among_left, among_range, among_right, any_section, each_of_range, each_section}
+use Rattle.jxlm_section_split.specs.CutPicture.{lf_groups}
+use Rattle.jxlm_section_split.proofs.PartLists.{IsAmong, among_filter, among_left, among_range, among_right, any_section, each_of_range, each_section}
 use Rattle.jxl_still.proofs.Order.{Before, Ordered, before_unlike, ordered_append, ordered_filter, ordered_passes, ordered_range, sections_ordered}
 use Rattle.jxl_still.proofs.Passes.{all_passes, among_one}
 use Rattle.jxl_still.specs.Inner.Parts.{groups_in_order, low_parts, parts_of_pass, parts_of_passes, with_samples}

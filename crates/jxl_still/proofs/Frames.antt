@@ -11,27 +11,27 @@ use Rattle.jxlm_base.specs.ErrorKind.{kind_of}
 use Rattle.jxlm_base.specs.Grid.{Grid}
 use Rattle.jxlm_base.specs.declared.bits.Bitstream.{Bitstream}
 use Rattle.jxlm_base.specs.declared.error.Error.{Error}
-use Rattle.jxlm_ma.proofs.Memory.{always_so, unless_so}
-use Rattle.jxlm_ma.specs.Tree.{Config}
+use Rattle.jxlm_tree.proofs.Memory.{always_so, unless_so}
+use Rattle.jxlm_tree.specs.Tree.{Config}
 use Rattle.jxlm_chain.specs.Chain.{Chain}
 use Rattle.jxlm_transform.specs.ChannelSteps.{Step}
 use Rattle.jxlm_transform.specs.Channels.{AreGridsOf, Channel, ChannelList, image_list}
 use Rattle.jxlm_transform.specs.Params.{IsValidChannel}
 use Rattle.jxlm_transform.specs.declared.param.ModularChannelParams.{ModularChannelParams}
-use Rattle.jxlm_cut.proofs.Steps.{IsPictured}
-use Rattle.jxlm_cut.specs.Cutting.{can_cut}
-use Rattle.jxlm_cut.specs.declared.part.SectionPart.{SectionPart}
-use Rattle.jxlm_cut.specs.declared.part.SectionPart.TheVariants as parts
-use Rattle.jxlm_part.specs.Part.{cell_count}
-use Rattle.jxlm_cut.specs.Passes.{can_group, one_picture}
+use Rattle.jxlm_groups.proofs.Steps.{IsPictured}
+use Rattle.jxlm_groups.specs.Cutting.{can_cut}
+use Rattle.jxlm_groups.specs.declared.part.SectionPart.{SectionPart}
+use Rattle.jxlm_groups.specs.declared.part.SectionPart.TheVariants as parts
+use Rattle.jxlm_samples.specs.Part.{cell_count}
+use Rattle.jxlm_groups.specs.Passes.{can_group, one_picture}
 use Rattle.jxl_modular.specs.Groups.{channels_in}
 use Rattle.jxl_modular.specs.Image.{Image, coded_list}
 use Rattle.jxl_modular.specs.Sections.{AreDecoded, IsComplete, SectionsFit, SectionsLeave, SectionsStop}
 use Rattle.jxl_modular.specs.declared.sections.Section.{Section}
-use Rattle.jxlm_sections.proofs.Openings.{opened_steps}
-use Rattle.jxlm_sections.proofs.Pictures.{still_picture}
-use Rattle.jxlm_sections.proofs.Whole.{all_whole}
-use Rattle.jxlm_cut.specs.declared.pass.Pass.{Pass}
+use Rattle.jxlm_section_split.proofs.Openings.{opened_steps}
+use Rattle.jxlm_section_split.proofs.Pictures.{still_picture}
+use Rattle.jxlm_section_split.proofs.Whole.{all_whole}
+use Rattle.jxlm_groups.specs.declared.pass.Pass.{Pass}
 use Rattle.jxl_still.specs.Places.{own_passes, section_at, stream_of}
 use Rattle.jxl_still.proofs.Complete.{all_ones, complete, each_one, exist, sections_in_order, unlike}
 use Rattle.jxl_still.proofs.Order.{streams_rise}

@@ -1,13 +1,13 @@
 -- The sections of an image, or why there are none.
 use Rattle.std.proofs.Common.{◌≡◌, IsTrue, List, subst}
-use Rattle.jxlm_cut.specs.Cutting.{can_cut}
-use Rattle.jxlm_cut.specs.declared.part.SectionPart.{SectionPart}
-use Rattle.jxlm_cut.specs.declared.pass.Pass.{Pass}
+use Rattle.jxlm_groups.specs.Cutting.{can_cut}
+use Rattle.jxlm_groups.specs.declared.part.SectionPart.{SectionPart}
+use Rattle.jxlm_groups.specs.declared.pass.Pass.{Pass}
 use Rattle.jxl_modular.specs.GroupParts.{pass_count}
 use Rattle.jxl_modular.specs.Groups.{IsCut}
 use Rattle.jxl_modular.specs.Image.{Image, coded_list}
 use Rattle.jxl_modular.specs.declared.sections.Section.{Section}
-use Rattle.jxlm_sections.proofs.PartLists.{IsAmong, among_left, among_right}
+use Rattle.jxlm_section_split.proofs.PartLists.{IsAmong, among_left, among_right}
 use Rattle.jxl_still.specs.Inner.Listing.{AddingFails, AreAdded, ListingFails}
 use Rattle.jxl_still.specs.Inner.Parts.{groups_in_order, low_parts, parts_of_passes}
 use Rattle.jxl_still.specs.Places.{own_passes}

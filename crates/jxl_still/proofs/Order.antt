@@ -6,11 +6,11 @@ use Rattle.std.specs.List.{All, AllPairs, filter, flat_map, range_with_len}
 use Rattle.std.proofs.lemmas.List.Elements.{All-head, All-tail, All-append, All-filter}
 use Rattle.std.proofs.lemmas.List.Kept.{AllPairs-cons}
 use Rattle.std.proofs.lemmas.Bool.{ltb-true}
-use Rattle.jxlm_cut.proofs.Parts.{get_of}
-use Rattle.jxlm_cut.specs.declared.part.SectionPart.{SectionPart}
-use Rattle.jxlm_cut.specs.declared.part.SectionPart.TheVariants as parts
+use Rattle.jxlm_groups.proofs.Parts.{get_of}
+use Rattle.jxlm_groups.specs.declared.part.SectionPart.{SectionPart}
+use Rattle.jxlm_groups.specs.declared.part.SectionPart.TheVariants as parts
 use Rattle.jxl_modular.specs.declared.sections.Section.{Section}
-use Rattle.jxlm_sections.proofs.PartLists.{each_of_range, each_section}
+use Rattle.jxlm_section_split.proofs.PartLists.{each_of_range, each_section}
 use Rattle.jxl_still.proofs.Passes.{all_passes}
 use Rattle.jxl_still.specs.Inner.Listing.{IsOfGroup}
 use Rattle.jxl_still.specs.Places.{held, place_of, stream_of}

@@ -5,7 +5,7 @@ use Rattle.std.proofs.lemmas.Bool.{cases_lt}
 use Rattle.std.proofs.lemmas.Grind.{flat_map-append}
 use Rattle.std.proofs.lemmas.List.{append-nil}
 use Rattle.std.proofs.lemmas.List.Elements.{All-append, All-nil}
-use Rattle.jxlm_sections.proofs.PartLists.{IsAmong, among_left, among_right}
+use Rattle.jxlm_section_split.proofs.PartLists.{IsAmong, among_left, among_right}
 
 module _ {X : Type 0} (f : ℕ → List X) where
   pub all_passes : (P : X → Type 0) (a n : ℕ) → ((k : ℕ) → a ≤ k → All P (f k)) → All P (flat_map f (range_with_len a n))

@@ -10,8 +10,8 @@ use Rattle.jxlm_base.specs.ErrorKind.{ErrorAt}
 use Rattle.jxlm_transform.proofs.StepFacts.{both_of}
 use Rattle.jxlm_transform.specs.Transforms.{OfPalette, OfRct, OfSqueeze, Transform}
 use Rattle.jxlm_transform.specs.declared.transform.Palette.{Palette}
-use Rattle.jxlm_tree.specs.declared.predictor.Predictor.{Predictor}
-use Rattle.jxlm_tree.specs.declared.predictor.Predictor.TheVariants as predictors
+use Rattle.jxlm_predictor.specs.declared.predictor.Predictor.{Predictor}
+use Rattle.jxlm_predictor.specs.declared.predictor.Predictor.TheVariants as predictors
 use Rattle.jxlm_header.specs.Header.{Header, header}
 use Rattle.jxl_modular.specs.declared.sections.Section.{Section}
 use Rattle.jxl_still.specs.Stills.{IsWeightedAt}

@@ -2,10 +2,10 @@
 use Rattle.std.specs.Prelude.{ℕ, ◌+◌, ◌*◌, ◌^◌, ◌≤◌, List, [], length, nat_lt, IsTrue, if◌then◌else◌, slice_get, Option, None}
 use Rattle.std.specs.Borrow.{Bor}
 use Rattle.std.specs.Option.{option_map}
-use Rattle.jxlm_cut.specs.Passes.{can_group, passes_of}
-use Rattle.jxlm_cut.specs.declared.part.SectionPart.{SectionPart}
-use Rattle.jxlm_cut.specs.declared.part.SectionPart.TheVariants as parts
-use Rattle.jxlm_cut.specs.declared.pass.Pass.{Pass}
+use Rattle.jxlm_groups.specs.Passes.{can_group, passes_of}
+use Rattle.jxlm_groups.specs.declared.part.SectionPart.{SectionPart}
+use Rattle.jxlm_groups.specs.declared.part.SectionPart.TheVariants as parts
+use Rattle.jxlm_groups.specs.declared.pass.Pass.{Pass}
 use Rattle.jxl_still.specs.declared.places.Places.{Places}
 
 -- the passes that the frame comes in

@@ -11,15 +11,15 @@ use Rattle.jxlm_base.specs.Grid.{Grid}
 use Rattle.jxlm_transform.specs.Channels.{ChannelList}
 use Rattle.jxlm_transform.specs.Transforms.{OfPalette}
 use Rattle.jxlm_transform.specs.declared.transform.Palette.{Palette}
-use Rattle.jxlm_tree.specs.declared.predictor.Predictor.TheVariants.{SelfCorrecting}
-use Rattle.jxlm_cut.specs.Cutting.{can_cut}
-use Rattle.jxlm_cut.specs.declared.part.SectionPart.{SectionPart}
-use Rattle.jxlm_cut.specs.declared.part.SectionPart.TheVariants as parts
-use Rattle.jxlm_cut.specs.declared.pass.Pass.{Pass}
+use Rattle.jxlm_predictor.specs.declared.predictor.Predictor.TheVariants.{SelfCorrecting}
+use Rattle.jxlm_groups.specs.Cutting.{can_cut}
+use Rattle.jxlm_groups.specs.declared.part.SectionPart.{SectionPart}
+use Rattle.jxlm_groups.specs.declared.part.SectionPart.TheVariants as parts
+use Rattle.jxlm_groups.specs.declared.pass.Pass.{Pass}
 use Rattle.jxlm_header.specs.Header.{Header, header}
 use Rattle.jxlm_header.specs.Opening.{Opening}
-use Rattle.jxlm_ma.specs.Tree.{Config}
-use Rattle.jxlm_part.specs.Part.{cell_count}
+use Rattle.jxlm_tree.specs.Tree.{Config}
+use Rattle.jxlm_samples.specs.Part.{cell_count}
 use Rattle.jxl_modular.specs.Fresh.{fresh}
 use Rattle.jxl_modular.specs.Groups.{channels_in}
 use Rattle.jxl_modular.specs.Image.{Image, coded_list}

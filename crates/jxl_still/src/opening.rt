@@ -22,7 +22,7 @@ use jxlm_base::sample::Sample;
 use jxlm_header::header::ModularHeader;
 use jxlm_transform::param::ModularParams;
 use jxlm_transform::transform::TransformInfo;
-use jxlm_tree::predictor::Predictor;
+use jxlm_predictor::predictor::Predictor;
 use std::alloc::Global;
 
 // Whether the predictor is the weighted one.

@@ -1,7 +1,7 @@
 //! The sections of a frame, by the parts of its image.
 
 ghost use Rattle.std.specs.Prelude.{◌≡◌, ◌∷◌, [], ◌<◌, ◌≤◌, ◌^◌, ◌↔◌, None, IfErr, IfOk, IfSome, IfNone, IsTrue, MatchOption, OnOk};
-ghost use Rattle.jxlm_cut.specs.Passes.{can_group as groups_possible};
+ghost use Rattle.jxlm_groups.specs.Passes.{can_group as groups_possible};
 ghost use Rattle.jxl_modular.specs.Groups.{IsCut};
 
 use crate::error::FrameError;
@@ -12,7 +12,7 @@ use jxlm_base::bits::Bitstream;
 use jxlm_base::decoder::Decoder;
 use jxlm_base::error::Error;
 use jxlm_base::sample::Sample;
-use jxlm_cut::pass::can_group;
+use jxlm_groups::pass::can_group;
 use std::alloc::Global;
 use std::collections::BTreeMap;
 
@@ -38,7 +38,7 @@ impl<'a, 't> Places<'a, 't> {
     ghost use Rattle.jxl_still.specs.Inner.Parts.{low_parts, parts_of_pass, parts_of_passes};
 
     /// Whether there are at most 2^24 of each, so that the indices of their streams are numbers of 32 bits, and the
-    /// passes can cut an image ([`can_group`](jxlm_cut::pass::can_group)).
+    /// passes can cut an image ([`can_group`](jxlm_groups::pass::can_group)).
     pub fn are_usable(&self) -> bool
         ensures { IsTrue result ↔ AreUsable self.now }
     {

@@ -4,7 +4,7 @@ use Rattle.std.specs.Prelude.{◌==◌, ◌&&◌, if◌then◌else◌}
 use Rattle.std.proofs.lemmas.Bool.{eqb-true}
 use Rattle.std.proofs.Math.Nat.{div-lt_iff_lt-mul, lt-div-mul-add, suc-mul, mul_assoc, mul_comm}
 use Rattle.std.proofs.lemmas.Nat.{mul-le}
-use Rattle.jxl_headers.specs.declared.size.Size.{Size}
+use Rattle.jxl_image_header.specs.declared.size.Size.{Size}
 use Rattle.jxl_toc.specs.Layouts.{Layout, groups_of, section_count_of, max_sections}
 
 abbrev along : ℕ → ℕ → ℕ

@@ -4,8 +4,8 @@ use Rattle.jxlm_base.specs.Decoding.{Found, Meaning}
 use Rattle.jxlm_base.specs.ErrorKind.{ErrorKind, ErrorAt, UnlessMemory, kind_of}
 use Rattle.jxlm_base.specs.Grammar.{IsErrorAt, flag}
 use Rattle.jxlm_base.specs.declared.error.Error.{Error}
-use Rattle.jxl_headers.specs.Fields.{when}
-use Rattle.jxl_headers.specs.Reading.{Parses}
+use Rattle.jxl_image_header.specs.Fields.{when}
+use Rattle.jxl_image_header.specs.Reading.{Parses}
 use Rattle.jxl_toc.proofs.ReadSteps.{unless_so, with_decoder}
 use Rattle.jxl_toc.specs.Reading.{Decodes}
 use Rattle.jxl_toc.specs.Orders.{lehmer_code}

@@ -8,7 +8,7 @@ use Rattle.jxlm_base.specs.Grammar.{Grammar, IsExact}
 use Rattle.jxlm_base.specs.declared.decoder.DecoderError.{DecoderError}
 use Rattle.jxlm_base.specs.declared.bits.U32Spec.TheVariants.{Offset}
 use Rattle.jxlm_base.proofs.GrammarLaws.{exact-give, exact-fail, exact-either, exact-flag, exact-u32, exact-repeated}
-use Rattle.jxl_headers.proofs.HeaderLaws.{bind, exact-aligned, exact-here, exact-long, exact-meant, found_same, none_found}
+use Rattle.jxl_image_header.proofs.HeaderLaws.{bind, exact-aligned, exact-here, exact-long, exact-meant, found_same, none_found}
 use Rattle.jxl_toc.proofs.Tokens.{of_decoder}
 use Rattle.jxl_toc.specs.Tokens.{Tokens, called, token, coded}
 use Rattle.jxl_toc.specs.Turns.{chained}

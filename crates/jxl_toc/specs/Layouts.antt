@@ -1,6 +1,6 @@
 -- The groups of a frame, its sections and the streams of their parts (ISO/IEC 18181-1, table of contents, stream index).
 use Rattle.std.specs.Prelude.{ℕ, ◌+◌, ◌-◌, ◌*◌, ◌/◌, ◌==◌, ◌&&◌, ◌<◌, ◌≤◌, nat_le, if◌then◌else◌, Option, Some, None}
-use Rattle.jxl_headers.specs.declared.size.Size.{Size}
+use Rattle.jxl_image_header.specs.declared.size.Size.{Size}
 
 -- how many groups of this side a frame is cut into; the last of a row and of a column may be smaller
 abbrev pub groups_of : Size → ℕ → ℕ

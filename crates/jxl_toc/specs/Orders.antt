@@ -4,7 +4,7 @@ use Rattle.std.specs.List.{filter, list_any, range_with_len}
 use Rattle.jxlm_base.specs.Decoding.{Meaning}
 use Rattle.jxlm_base.specs.ErrorKind.{BadEnum}
 use Rattle.jxlm_base.specs.Grammar.{Grammar, give, fail, either}
-use Rattle.jxl_headers.specs.Fields.{meant}
+use Rattle.jxl_image_header.specs.Fields.{meant}
 use Rattle.jxl_toc.specs.Tokens.{Tokens, token, coded}
 use Rattle.jxl_toc.specs.Turns.{◌>>=◌, chained}
 

@@ -3,7 +3,7 @@ use Rattle.std.specs.Prelude.{ℕ, ◌+◌, ◌*◌, ◌%◌, ◌==◌, ◌&&◌
 use Rattle.jxlm_base.specs.Decoding.{Meaning}
 use Rattle.jxlm_base.specs.ErrorKind.{BadProfile}
 use Rattle.jxlm_base.specs.Grammar.{Grammar, give, fail, either, ◌>>=◌}
-use Rattle.jxl_headers.specs.Fields.{long}
+use Rattle.jxl_image_header.specs.Fields.{long}
 use Rattle.jxl_toc.specs.Tokens.{Tokens, token, coded}
 use Rattle.jxl_toc.specs.Turns.{chained}
 

@@ -1,8 +1,8 @@
 -- What the first section of a Modular frame begins with (ISO/IEC 18181-1, frame: LF global).
 use Rattle.std.specs.Prelude.{ℕ, ◌+◌, ◌*◌, ◌/◌, ◌^◌, min, Bool, true}
 use Rattle.jxlm_base.specs.Grammar.{Grammar, flag, ◌>>=◌}
-use Rattle.jxl_headers.specs.Fields.{skipped, told_if, when}
-use Rattle.jxl_headers.specs.declared.size.Size.{Size}
+use Rattle.jxl_image_header.specs.Fields.{skipped, told_if, when}
+use Rattle.jxl_image_header.specs.declared.size.Size.{Size}
 
 -- three floats of 16 bits, where they are told, which Modular does not use; and whether a tree follows that sections share
 abbrev pub section_start : Grammar Bool

@@ -6,7 +6,7 @@ use Rattle.jxlm_base.specs.ErrorKind.{Eof, ErrorAt, UnlessMemory, kind_of}
 use Rattle.jxlm_base.specs.Grammar.{Grammar, IsErrorAt, flag, u32, give, repeated, ◌>>=◌}
 use Rattle.jxlm_base.specs.declared.bits.U32Spec.TheVariants.{Offset}
 use Rattle.jxlm_base.specs.declared.error.Error.{Error}
-use Rattle.jxl_headers.specs.Fields.{here, aligned, when}
+use Rattle.jxl_image_header.specs.Fields.{here, aligned, when}
 use Rattle.jxl_toc.specs.Orders.{IsOrder, lehmer_code}
 use Rattle.jxl_toc.specs.declared.toc.TocEntry.{TocEntry}
 use Rattle.jxl_toc.specs.declared.toc.Toc.{Toc}

@@ -4,7 +4,7 @@ ghost use Rattle.std.specs.Prelude.{◌≡◌, ◌+◌, ◌-◌, ◌/◌, ◌<�
 ghost use Rattle.std.specs.Option.{option_map};
 ghost use Rattle.jxl_toc.specs.Layouts.{groups_of as the_groups_of, lf_section_of, pass_section_of, lf_stream_of, pass_stream_of, section_count_of, layout_of, layout_if, IsLayout, max_sections};
 
-use jxl_headers::size::Size;
+use jxl_image_header::size::Size;
 
 /// What a frame is cut into: groups, groups of low frequencies, which are 8 times as wide and as high, and passes.
 ///

@@ -9,7 +9,7 @@ ghost use Rattle.jxl_toc.specs.Profiles.{kind_of as the_kind_of, one_byte, profi
 ghost use Rattle.jxl_toc.specs.Inner.Steps.{StateReads, context_after, length_in};
 
 use crate::order::{decoder, token};
-use jxl_headers::fields::{self, long};
+use jxl_image_header::fields::{self, long};
 use jxlm_base::bits::{Bitstream, BitstreamError};
 use jxlm_base::decoder::Decoder;
 use jxlm_base::error::Result;

@@ -6,7 +6,7 @@ use Rattle.jxlm_transform.specs.Channels.{Channel, image_channel, image_list}
 use Rattle.jxlm_transform.specs.Params.{of_one_size, sized}
 use Rattle.jxlm_transform.specs.declared.param.ChannelShift.TheVariants.{Shifts}
 use Rattle.jxlm_transform.specs.declared.param.ModularChannelParams.{ModularChannelParams}
-use Rattle.jxlm_cut.specs.Passes.{is_of_picture_of, one_picture}
+use Rattle.jxlm_groups.specs.Passes.{is_of_picture_of, one_picture}
 
 -- a channel of this size
 abbrev one_of : ℕ → ℕ → Channel

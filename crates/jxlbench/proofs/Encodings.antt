@@ -4,8 +4,8 @@ use Rattle.std.specs.Prelude.{◌≢◌}
 use Rattle.std.specs.Int.{Width}
 use Rattle.jxlm_base.specs.Grid.{Grid}
 use Rattle.jxlm_base.specs.Regions.{store_meanings}
-use Rattle.jxlm_program.specs.Encoding.{IsEncodedIn}
-use Rattle.jxlm_program.specs.declared.arguments.Format.{Format}
+use Rattle.jxlmod_commands.specs.Encoding.{IsEncodedIn}
+use Rattle.jxlmod_commands.specs.declared.arguments.Format.{Format}
 use Rattle.jxlbench.specs.Encoding.{IsEncodedAs}
 
 none_of_meanings : {S : Type 0} (f : S → ℤ) (grids : List (Grid S)) → store_meanings f grids ≡ [] → grids ≡ []

@@ -6,7 +6,7 @@ use Rattle.jxlm_base.specs.Grid.{Grid}
 use Rattle.jxlm_transform.specs.Channels.{ChannelList, image_list}
 use Rattle.jxlm_transform.specs.Params.{of_one_size}
 use Rattle.jxl_modular.specs.Picture.{IsPicture}
-use Rattle.jxlm_sections.specs.CutPicture.{IsCutPicture}
+use Rattle.jxlm_section_split.specs.CutPicture.{IsCutPicture}
 use Rattle.jxlbench.specs.Checksum.{checksum}
 use Rattle.jxlbench.specs.declared.request.Request.{Request}
 use Rattle.jxlbench.specs.declared.request.Source.{Source}

@@ -3,8 +3,8 @@ use Rattle.std.specs.Prelude.{◌≡◌, ◌≢◌, ℕ, ℤ, List, [], length}
 use Rattle.std.specs.Int.{Width}
 use Rattle.jxlm_base.specs.Grid.{Grid}
 use Rattle.jxlm_plain.specs.Plain.{plain}
-use Rattle.jxlm_program.specs.Encoding.{IsEncodedIn}
-use Rattle.jxlm_program.specs.declared.arguments.Format.{Format}
+use Rattle.jxlmod_commands.specs.Encoding.{IsEncodedIn}
+use Rattle.jxlmod_commands.specs.declared.arguments.Format.{Format}
 use Rattle.jxlbench.specs.Checksum.{bytes_checksum}
 use Rattle.jxlbench.specs.Decoding.{IsAsked}
 use Rattle.jxlbench.specs.declared.request.Request.{Request}

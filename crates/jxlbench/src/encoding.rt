@@ -13,8 +13,8 @@ use jxl_modular::encode::EncodeError;
 use jxl_modular::grid::AlignedGrid;
 use jxl_modular::plain::PlainDecoder;
 use jxl_modular::sample::Sample;
-use jxlm_program::arguments::Format;
-use jxlm_program::encoding::encode_image;
+use jxlmod_commands::arguments::Format;
+use jxlmod_commands::encoding::encode_image;
 use std::alloc::Global;
 use std::time::{Clock, Instant};
 

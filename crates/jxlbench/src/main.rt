@@ -7,7 +7,7 @@ mod encoding;
 mod request;
 mod run;
 
-use jxlm_program::run::words_of;
+use jxlmod_commands::run::words_of;
 use std::env;
 use std::process::ExitCode;
 

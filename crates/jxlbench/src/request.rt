@@ -1,7 +1,7 @@
 //! What the arguments ask for.
 ghost use Rattle.std.specs.Prelude.{◌<◌, IfSome};
 
-use jxlm_program::arguments::{Format, Samples, number};
+use jxlmod_commands::arguments::{Format, Samples, number};
 
 /// How the image stands in the input.
 #[derive(Clone, Copy, Debug, PartialEq, Eq)]

@@ -7,7 +7,7 @@ use jxl_modular::encode::EncodeError;
 use jxl_modular::error::Error;
 use jxl_modular::plain::{PlainDecoder, PlainDecoder2};
 use jxl_modular::sample::Sample;
-use jxlm_program::arguments::{Format, Samples};
+use jxlmod_commands::arguments::{Format, Samples};
 use std::alloc::Global;
 use std::io;
 use std::io::{Read, Write};

@@ -1,7 +1,7 @@
 -- The format in which a picture is written suits it.
 use Rattle.std.proofs.Common.{◌≡◌, Bool, true, false, Option, Some, None, refl, subst}
 use Rattle.std.specs.Prelude.{if◌then◌else◌}
-use Rattle.jxl_headers.specs.Images.{Image}
+use Rattle.jxl_image_header.specs.Images.{Image}
 use Rattle.jxl_picture.specs.Formats.{suits, usual, usual_whole}
 use Rattle.jxl_picture.specs.declared.format.Format.{Format}
 use Rattle.jxl_picture.specs.declared.format.Format.TheVariants.{Pfm}

@@ -1,9 +1,9 @@
 -- What the program writes of a file: its picture, or what its headers tell.
 use Rattle.std.specs.Prelude.{◌≡◌, ◌⊎◌, ℕ, List, [], length, Bool, true, false, MatchBool, IsTrue, Option, Some, None, if◌then◌else◌}
 use Rattle.std.specs.Io.KnownBytes.{Appends, Consumes, IsAtEnd}
-use Rattle.jxlm_entropy.specs.Parse.{decoder_at}
-use Rattle.jxlm_entropy.specs.Tokens.{entropy}
-use Rattle.jxl_headers.specs.Images.{Image, image_of}
+use Rattle.jxl_coding.specs.Parse.{decoder_at}
+use Rattle.jxl_coding.specs.Tokens.{entropy}
+use Rattle.jxl_image_header.specs.Images.{Image, image_of}
 use Rattle.jxl_picture.specs.Formats.{suits, text_of, usual}
 use Rattle.jxl_picture.specs.declared.format.Format.{Format}
 use Rattle.jxl_picture.specs.declared.limits.Limits.{Limits}
@@ -11,7 +11,7 @@ use Rattle.jxl_picture.specs.declared.picture.Picture.{Picture}
 use Rattle.jxl_info.specs.Headers.{HeadersOfFile, IsInfoOfFile}
 use Rattle.jxl_lossless.specs.Pictures.{FileFails, IsPictureOfFile}
 use Rattle.jxl_front.specs.declared.error.FrontError.TheVariants as fronts
-use Rattle.jxl_headers.specs.declared.size.Size.{Size}
+use Rattle.jxl_image_header.specs.declared.size.Size.{Size}
 use Rattle.jxldec.specs.Failures.{failure_line, is_of_output, subject}
 use Rattle.jxldec.specs.Warnings.{kinds_left_out, warnings}
 use Rattle.jxldec.specs.declared.failures.Failure.{Failure}

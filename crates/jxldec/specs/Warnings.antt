@@ -1,7 +1,7 @@
 -- What the text of a picture leaves out, and the lines that warn of it.
 use Rattle.std.specs.Prelude.{ℕ, ◌==◌, List, [], ◌++◌, ◌∷◌, Bool, length, if◌then◌else◌, codes}
 use Rattle.std.specs.List.{flat_map}
-use Rattle.jxl_headers.specs.declared.channel.ExtraChannel.{ExtraChannel}
+use Rattle.jxl_image_header.specs.declared.channel.ExtraChannel.{ExtraChannel}
 use Rattle.jxl_info.specs.Names.{kind_name}
 use Rattle.jxl_picture.specs.Pictures.{is_full_alpha}
 use Rattle.jxl_picture.specs.declared.format.Format.{Format}

@@ -4,7 +4,7 @@ ghost use Rattle.std.specs.Prelude.{◌≡◌};
 ghost use Rattle.jxldec.specs.Failures.{IsOfWriting, failure_text, is_of_output};
 
 use crate::reason::Reason;
-use jxl_headers::size::Size;
+use jxl_image_header::size::Size;
 use jxl_lossless::{FileError, Limits};
 use std::io::ErrorKind;
 use std::{fmt, io};

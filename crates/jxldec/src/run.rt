@@ -2,7 +2,7 @@
 
 ghost use Rattle.std.specs.Prelude.{◌≡◌, ◌≤◌, [], length, true, false, IfErr, IfOk, IfSome, IsTrue, OnOk, string_bytes};
 ghost use Rattle.std.specs.Io.KnownBytes.{Appends};
-ghost use Rattle.jxl_headers.specs.Images.{image_of};
+ghost use Rattle.jxl_image_header.specs.Images.{image_of};
 ghost use Rattle.jxl_lossless.specs.Pictures.{IsPictureOfFile};
 ghost use Rattle.jxl_picture.specs.Pictures.{IsWhole};
 ghost use Rattle.jxldec.specs.Failures.{IsOfWriting, failure_line, is_of_output};
@@ -14,12 +14,12 @@ use crate::meter::Line;
 use crate::options::Options;
 use crate::warning::{LeftOut, warn};
 use jxl_front::error::FrontError;
-use jxl_headers::image::ImageHeader;
+use jxl_image_header::image::ImageHeader;
 use jxl_info::headers::{Headers, HeadersError, is_boxed};
 use jxl_info::text::info_text;
 use jxl_lossless::{FileError, Limits, Picture, Steps, decode_lossless_with};
 use jxl_picture::format::Format;
-use jxlm_entropy::decoder::EntropyDecoder;
+use jxl_coding::decoder::EntropyDecoder;
 use std::alloc::Global;
 use std::io::{Read, Write};
 

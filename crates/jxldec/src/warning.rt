@@ -2,13 +2,13 @@
 
 ghost use Rattle.std.specs.Prelude.{◌≡◌, ◌++◌, IfOk, OnOk, IsTrue, false, [], string_bytes};
 ghost use Rattle.std.specs.Io.KnownBytes.{Appends};
-ghost use Rattle.jxl_headers.specs.Images.{image_of};
+ghost use Rattle.jxl_image_header.specs.Images.{image_of};
 ghost use Rattle.jxl_picture.specs.Pictures.{is_full_alpha as the_full_alpha};
 ghost use Rattle.jxldec.specs.Warnings.{kinds_left_out, warning_lines};
 ghost use Rattle.jxldec.specs.Inner.Kinds.{rest_kinds};
 
-use jxl_headers::channel::ExtraChannel;
-use jxl_headers::image::ImageHeader;
+use jxl_image_header::channel::ExtraChannel;
+use jxl_image_header::image::ImageHeader;
 use jxl_info::names::kind_name;
 use jxl_picture::format::Format;
 use jxlm_base::grid::OutOfMemory;

@@ -2,9 +2,9 @@
 use Rattle.std.specs.Prelude.{◌≡◌, ◌+◌, ◌≤◌, ◌&&◌, nat_lt, Bool, true, List, Option, Some, None, get_or, length, max, vec_len}
 use Rattle.std.specs.List.{All}
 use Rattle.jxlm_base.specs.declared.subgrid.Region.{Region}
-use Rattle.jxlm_tree.specs.Standing.{HasSameRoom, room_of, weights_of}
-use Rattle.jxlm_tree.specs.declared.predictor.WpHeader.{WpHeader}
-use Rattle.jxlm_tree.specs.declared.state.PredictorState.{PredictorState}
+use Rattle.jxlm_predictor.specs.Standing.{HasSameRoom, room_of, weights_of}
+use Rattle.jxlm_predictor.specs.declared.predictor.WpHeader.{WpHeader}
+use Rattle.jxlm_predictor.specs.declared.state.PredictorState.{PredictorState}
 use Rattle.jxlm_transform.specs.Params.{IsSide}
 use Rattle.jxlm_transform.specs.ColourRows.{HasRoom, KeepsRoom}
 use Rattle.jxlm_transform.specs.Layout.{no_region}

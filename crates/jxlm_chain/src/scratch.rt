@@ -6,14 +6,14 @@ ghost use Rattle.jxlm_base.specs.ErrorKind.{NoMemory, kind_of};
 ghost use Rattle.jxlm_chain.specs.Scratch.{HasRoomFor, IsNarrow, IsNarrowUndo};
 ghost use Rattle.jxlm_chain.specs.Inner.Needs.{AreNarrow, Covers, CoversCells, larger_needs};
 ghost use Rattle.jxlm_chain.specs.Undoings.{SuitsWeights, undo_of_code, undos_of};
-ghost use Rattle.jxlm_tree.specs.SelfCorrecting.{IsHeader};
+ghost use Rattle.jxlm_predictor.specs.SelfCorrecting.{IsHeader};
 
 use crate::undo::Undoing;
 use jxlm_base::error::Result;
 use jxlm_base::grid::{OutOfMemory, Region};
 use jxlm_base::sample::Sample;
 use jxlm_transform::rct::RctScratch;
-use jxlm_tree::predictor::{PredictorState, WpHeader};
+use jxlm_predictor::predictor::{PredictorState, WpHeader};
 use std::alloc::Global;
 
 /// Room for what the undoing of one transform after another needs beside the samples.

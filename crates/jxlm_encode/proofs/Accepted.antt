@@ -18,10 +18,10 @@ use Rattle.jxlm_transform.specs.Transforms.{HasChannels, IsTransform, Transform,
 use Rattle.jxlm_transform.specs.Transforms.{transform_of as transform_in}
 use Rattle.jxlm_transform.specs.declared.transform.TransformInfo.{TransformInfo}
 use Rattle.jxlm_transform.proofs.SideBounds.{came}
-use Rattle.jxlm_write.specs.Headers.{transform_of}
-use Rattle.jxlm_write.specs.Laws.{IsWritten}
-use Rattle.jxlm_write.specs.declared.header.EncodeTransform.{EncodeTransform}
-use Rattle.jxlm_write.specs.declared.header.EncodeTransform.TheVariants as given
+use Rattle.jxlm_encode_write.specs.Headers.{transform_of}
+use Rattle.jxlm_encode_write.specs.Laws.{IsWritten}
+use Rattle.jxlm_encode_write.specs.declared.header.EncodeTransform.{EncodeTransform}
+use Rattle.jxlm_encode_write.specs.declared.header.EncodeTransform.TheVariants as given
 use Rattle.jxlm_encode.specs.Encoded.{AreAccepted, IsRefusedAfter, IsTransformRefused}
 use Rattle.jxlm_encode.specs.Inner.Errors.{IsNotMemory}
 use Rattle.jxlm_encode.specs.Inner.Placing.{AppliesOne, AreRefused, HaveCome, Refuses, listed}

@@ -21,33 +21,33 @@ use Rattle.jxlm_chain.proofs.LayoutLaws.{lie_after_all, lie_first}
 use Rattle.jxlm_chain.proofs.PlacedSteps.{placed_by}
 use Rattle.jxlm_chain.proofs.ShapeLaws.{lie_in_kept, tables_kept}
 use Rattle.jxlm_chain.proofs.Undone.{chain_of}
-use Rattle.jxlm_ma.specs.Tree.{AllLeaves, Shape}
-use Rattle.jxlm_ma.specs.declared.flat.Leaf.{Leaf}
-use Rattle.jxlm_ma.proofs.FlatTrees.{each_leaf}
-use Rattle.jxlm_part.specs.Part.{cells_of}
-use Rattle.jxlm_part.proofs.Loops.{all_cells}
+use Rattle.jxlm_tree.specs.Tree.{AllLeaves, Shape}
+use Rattle.jxlm_tree.specs.declared.flat.Leaf.{Leaf}
+use Rattle.jxlm_tree.proofs.FlatTrees.{each_leaf}
+use Rattle.jxlm_samples.specs.Part.{cells_of}
+use Rattle.jxlm_samples.proofs.Loops.{all_cells}
 use Rattle.jxlm_transform.specs.Channels.{AreGridsOf, Channel}
 use Rattle.jxlm_transform.specs.ChannelSteps.{CodedList, Step, list_after_all}
 use Rattle.jxlm_transform.specs.Steps.{HasChannels, Sides}
 use Rattle.jxlm_transform.specs.Transforms.{IsTransform, Transform}
 use Rattle.jxlm_transform.proofs.SideBounds.{narrow_coded}
 use Rattle.jxlm_transform.proofs.StepLaws.{steps_list}
-use Rattle.jxlm_write.specs.Laws.{IsWritten}
-use Rattle.jxlm_write.specs.declared.tree.EncodeNode.{EncodeNode}
+use Rattle.jxlm_encode_write.specs.Laws.{IsWritten}
+use Rattle.jxlm_encode_write.specs.declared.tree.EncodeNode.{EncodeNode}
 use Rattle.jxlm_encode.specs.declared.error.EncodeError.{EncodeError}
 use Rattle.jxlm_encode.specs.declared.error.EncodeError.TheVariants.{InvalidTransform, InvalidTree, OutOfMemory}
-use Rattle.jxlm_write.specs.Headers.{transform_of}
-use Rattle.jxlm_write.specs.declared.header.EncodeTransform.{EncodeTransform}
-use Rattle.jxlm_write.proofs.Spelled.{each_of}
+use Rattle.jxlm_encode_write.specs.Headers.{transform_of}
+use Rattle.jxlm_encode_write.specs.declared.header.EncodeTransform.{EncodeTransform}
+use Rattle.jxlm_encode_write.proofs.Spelled.{each_of}
 use Rattle.jxlm_encode.specs.Encoded.{AreAccepted, EncodeFails, IsTransformRefused, IsSmall, IsTreeGiven, given_list}
 use Rattle.jxlm_encode.specs.Inner.Listing.{IsNotGiven}
 use Rattle.jxlm_encode.specs.Inner.Placing.{ArePlaced, AreRefused, listed}
 use Rattle.jxlm_encode.specs.Inner.Writing.{ArePrepared, ChannelsLie, part_at}
-use Rattle.jxlm_redo.specs.Redo.{IsNoPalette, UndoesNoPalette}
-use Rattle.jxlm_tokens.specs.Tokens.{AreTokensOf}
+use Rattle.jxlm_encode_transform.specs.Redo.{IsNoPalette, UndoesNoPalette}
+use Rattle.jxlm_encode_tokens.specs.Tokens.{AreTokensOf}
 use Rattle.jxlm_encode.proofs.Accepted.{is_transform}
 use Rattle.jxlm_encode.proofs.Listings.{IsGivenLeaf, leaves_given}
-use Rattle.jxlm_redo.proofs.NoPalettes.{no_palettes}
+use Rattle.jxlm_encode_transform.proofs.NoPalettes.{no_palettes}
 use Rattle.jxlm_encode.proofs.NoPalettes.{no_tables, steps_have, written_steps}
 use Rattle.jxlm_encode.proofs.OwnGrids.{own_buffers, own_grids, own_narrow}
 

@@ -5,24 +5,24 @@ use Rattle.std.specs.Int.{Width}
 use Rattle.jxlm_base.specs.Decoding.{Meaning}
 use Rattle.jxlm_base.specs.Grid.{Grid}
 use Rattle.jxlm_header.specs.Opening.{depth_limit, node_limit}
-use Rattle.jxlm_ma.specs.Tree.{config_of}
-use Rattle.jxlm_ma.specs.TreeStands.{TreeStands}
-use Rattle.jxlm_ma.proofs.FlatTrees.{reached_leaf}
-use Rattle.jxlm_part.specs.Coded.{IsCodedToTheEnd, IsCodedWhole}
-use Rattle.jxlm_part.specs.Part.{Part, cell_count}
+use Rattle.jxlm_tree.specs.Tree.{config_of}
+use Rattle.jxlm_tree.specs.TreeStands.{TreeStands}
+use Rattle.jxlm_tree.proofs.FlatTrees.{reached_leaf}
+use Rattle.jxlm_samples.specs.Coded.{IsCodedToTheEnd, IsCodedWhole}
+use Rattle.jxlm_samples.specs.Part.{Part, cell_count}
 use Rattle.jxlm_plain.specs.Plain.{plain, plain2}
-use Rattle.jxlm_tokens.specs.Laws.{HasOneCluster}
-use Rattle.jxlm_tokens.proofs.WrittenCoded.{gamma_written_coded, written_coded}
+use Rattle.jxlm_encode_tokens.specs.Laws.{HasOneCluster}
+use Rattle.jxlm_encode_tokens.proofs.WrittenCoded.{gamma_written_coded, written_coded}
 use Rattle.jxlm_transform.specs.Transforms.{Transform}
-use Rattle.jxlm_write.specs.Headers.{header_bits}
-use Rattle.jxlm_write.specs.Nodes.{tree_tokens}
-use Rattle.jxlm_write.specs.Tokens.{gamma_bits, gamma_token_bits, one_cluster, one_gamma_cluster, token_bits}
-use Rattle.jxlm_write.specs.Trees.{gamma_tree_bits, leaves_in, tree_bits}
-use Rattle.jxlm_write.specs.Written.{HasBits, digits}
-use Rattle.jxlm_write.specs.declared.tree.EncodeNode.{EncodeNode}
-use Rattle.jxlm_write.proofs.BitLists.{filled_stands, has_first, has_rest}
-use Rattle.jxlm_write.proofs.HeaderLaws.{headers_stand}
-use Rattle.jxlm_write.proofs.TreeLaws.{gamma_trees_stand, trees_stand}
+use Rattle.jxlm_encode_write.specs.Headers.{header_bits}
+use Rattle.jxlm_encode_write.specs.Nodes.{tree_tokens}
+use Rattle.jxlm_encode_write.specs.Tokens.{gamma_bits, gamma_token_bits, one_cluster, one_gamma_cluster, token_bits}
+use Rattle.jxlm_encode_write.specs.Trees.{gamma_tree_bits, leaves_in, tree_bits}
+use Rattle.jxlm_encode_write.specs.Written.{HasBits, digits}
+use Rattle.jxlm_encode_write.specs.declared.tree.EncodeNode.{EncodeNode}
+use Rattle.jxlm_encode_write.proofs.BitLists.{filled_stands, has_first, has_rest}
+use Rattle.jxlm_encode_write.proofs.HeaderLaws.{headers_stand}
+use Rattle.jxlm_encode_write.proofs.TreeLaws.{gamma_trees_stand, trees_stand}
 use Rattle.jxlm_encode.specs.Encoded.{coded_part}
 use Rattle.jxlm_encode.specs.Bytes.{AreBytesFor, AreBytesOf, AreBytesOf2, AreWritten, AreWritten2}
 use Rattle.jxlm_encode.specs.Inner.Writing.{ArePrepared}

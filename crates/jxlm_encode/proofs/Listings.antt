@@ -2,14 +2,14 @@
 use Rattle.std.proofs.Common.{◌≡◌, ℕ, zero, suc, ◌+◌, ◌-◌, ◌/◌, ◌<◌, ◌≤◌, List, [], ◌∷◌, ◌++◌, length, map, take, drop, get_or, refl, sym, ap, ◌∙◌, subst, arith}
 use Rattle.std.specs.Prelude.{◌↔◌}
 use Rattle.std.proofs.lemmas.List.{take-append-drop, length-take-le, drop_all, drop_more, length-append, length-drop, length-map}
-use Rattle.jxlm_ma.specs.Tree.{AllLeaves, Node, Shape, leaf, decision, leaf_node, decision_node, levels, node_count}
-use Rattle.jxlm_ma.specs.declared.flat.Leaf.{Leaf}
-use Rattle.jxlm_ma.proofs.Listing.{Lists, lists-levels, queue_of-levels, queue_of-lists}
-use Rattle.jxlm_ma.proofs.Shapes.{levels-count}
-use Rattle.jxlm_write.specs.Nodes.{node_of}
-use Rattle.jxlm_write.specs.Trees.{leaves_in}
-use Rattle.jxlm_write.specs.declared.tree.EncodeNode.{EncodeNode}
-use Rattle.jxlm_write.specs.declared.tree.EncodeNode.TheVariants as given
+use Rattle.jxlm_tree.specs.Tree.{AllLeaves, Node, Shape, leaf, decision, leaf_node, decision_node, levels, node_count}
+use Rattle.jxlm_tree.specs.declared.flat.Leaf.{Leaf}
+use Rattle.jxlm_tree.proofs.Listing.{Lists, lists-levels, queue_of-levels, queue_of-lists}
+use Rattle.jxlm_tree.proofs.Shapes.{levels-count}
+use Rattle.jxlm_encode_write.specs.Nodes.{node_of}
+use Rattle.jxlm_encode_write.specs.Trees.{leaves_in}
+use Rattle.jxlm_encode_write.specs.declared.tree.EncodeNode.{EncodeNode}
+use Rattle.jxlm_encode_write.specs.declared.tree.EncodeNode.TheVariants as given
 use Rattle.jxlm_encode.specs.Inner.Listing.{AreNodesOf, ListsOneTree, left_after}
 
 -- ---- a list of nodes that is one tree's, and its tree

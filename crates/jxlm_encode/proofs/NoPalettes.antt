@@ -9,8 +9,8 @@ use Rattle.jxlm_transform.specs.Steps.{HasChannels, tables_of}
 use Rattle.jxlm_transform.specs.Transforms.{Transform, OfRct, OfPalette, OfSqueeze}
 use Rattle.jxlm_transform.specs.declared.transform.SqueezeParams.{SqueezeParams}
 use Rattle.jxlm_transform.proofs.SideBounds.{came}
-use Rattle.jxlm_write.specs.Laws.{IsWritten}
-use Rattle.jxlm_redo.specs.Redo.{IsNoPalette}
+use Rattle.jxlm_encode_write.specs.Laws.{IsWritten}
+use Rattle.jxlm_encode_transform.specs.Redo.{IsNoPalette}
 
 same_ok : {X : Type 0} (x y : X) → ◌≡◌ {A = Result X ErrorKind} (Ok x) (Ok y) → x ≡ y
 same_ok x y e = cc

@@ -7,18 +7,18 @@ use Rattle.jxlm_base.specs.Decoding.{Meaning}
 use Rattle.jxlm_base.specs.ErrorKind.{ErrorKind}
 use Rattle.jxlm_base.specs.Grid.{Grid}
 use Rattle.jxlm_chain.specs.Chain.{Chain, Codes}
-use Rattle.jxlm_ma.specs.Tree.{Shape}
-use Rattle.jxlm_ma.specs.declared.flat.Leaf.{Leaf}
-use Rattle.jxlm_ma.proofs.Listing.{levels-injective}
-use Rattle.jxlm_part.specs.Part.{cells_of}
+use Rattle.jxlm_tree.specs.Tree.{Shape}
+use Rattle.jxlm_tree.specs.declared.flat.Leaf.{Leaf}
+use Rattle.jxlm_tree.proofs.Listing.{levels-injective}
+use Rattle.jxlm_samples.specs.Part.{cells_of}
 use Rattle.jxlm_plain.specs.Plain.{plain, plain2}
-use Rattle.jxlm_redo.specs.Redo.{IsNoPalette}
-use Rattle.jxlm_tokens.specs.Tokens.{AreTokensOf}
-use Rattle.jxlm_tokens.proofs.OneList.{one_list_each}
+use Rattle.jxlm_encode_transform.specs.Redo.{IsNoPalette}
+use Rattle.jxlm_encode_tokens.specs.Tokens.{AreTokensOf}
+use Rattle.jxlm_encode_tokens.proofs.OneList.{one_list_each}
 use Rattle.jxlm_transform.specs.Channels.{ChannelList}
 use Rattle.jxlm_transform.specs.ChannelSteps.{CodedList, Step, RctStep, PaletteStep, SqueezeStep}
 use Rattle.jxlm_transform.specs.Transforms.{Transform}
-use Rattle.jxlm_write.specs.declared.tree.EncodeNode.{EncodeNode}
+use Rattle.jxlm_encode_write.specs.declared.tree.EncodeNode.{EncodeNode}
 use Rattle.jxlm_encode.specs.Bytes.{AreBytesFor, AreBytesOf, AreBytesOf2, AreWritten, AreWritten2}
 use Rattle.jxlm_encode.specs.Encoded.{IsEncodedFor, coded_part, given_list}
 use Rattle.jxlm_encode.specs.Laws.{DetermineBytes}

@@ -6,13 +6,13 @@ use Rattle.std.proofs.lemmas.List.Elements.{All-head, All-tail}
 use Rattle.std.proofs.lemmas.Nat.{div-add-mod', pow_pos}
 use Rattle.std.proofs.Math.Nat.{pow-suc, mod-lt}
 use Rattle.jxlm_transform.specs.Transforms.{Transform}
-use Rattle.jxlm_write.specs.Headers.{header_bits}
-use Rattle.jxlm_write.specs.Nodes.{tree_tokens}
-use Rattle.jxlm_write.specs.Tokens.{token_bits}
-use Rattle.jxlm_write.specs.Trees.{tree_bits}
-use Rattle.jxlm_write.specs.Written.{AreFilled, bits_of, digits}
-use Rattle.jxlm_write.specs.declared.tree.EncodeNode.{EncodeNode}
-use Rattle.jxlm_write.proofs.BitLists.{digits_low, length-bits, length-digits}
+use Rattle.jxlm_encode_write.specs.Headers.{header_bits}
+use Rattle.jxlm_encode_write.specs.Nodes.{tree_tokens}
+use Rattle.jxlm_encode_write.specs.Tokens.{token_bits}
+use Rattle.jxlm_encode_write.specs.Trees.{tree_bits}
+use Rattle.jxlm_encode_write.specs.Written.{AreFilled, bits_of, digits}
+use Rattle.jxlm_encode_write.specs.declared.tree.EncodeNode.{EncodeNode}
+use Rattle.jxlm_encode_write.proofs.BitLists.{digits_low, length-bits, length-digits}
 use Rattle.jxlm_encode.specs.Bytes.{AreWritten, AreWritten2, IsLeastWidth}
 use Rattle.jxlm_encode.specs.Laws.{IsByte}
 

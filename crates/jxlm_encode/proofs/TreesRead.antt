@@ -6,19 +6,19 @@ use Rattle.jxlm_base.specs.ErrorKind.{ErrorAt, kind_of}
 use Rattle.jxlm_base.specs.Grammar.{IsErrorAt}
 use Rattle.jxlm_base.specs.declared.error.Error.{Error}
 use Rattle.jxlm_header.specs.Opening.{depth_limit}
-use Rattle.jxlm_ma.specs.Tree.{Config, Node, Shape, config_of, depth, levels}
-use Rattle.jxlm_ma.specs.TreeReading.{IsTooDeep, IsTreeAt, TreeGives, listing_at}
-use Rattle.jxlm_ma.specs.TreeStands.{OneTreeStands, TreeStands, TreesAreReadExactly}
-use Rattle.jxlm_ma.specs.declared.flat.Leaf.{Leaf}
-use Rattle.jxlm_ma.proofs.Listing.{levels-injective}
+use Rattle.jxlm_tree.specs.Tree.{Config, Node, Shape, config_of, depth, levels}
+use Rattle.jxlm_tree.specs.TreeReading.{IsTooDeep, IsTreeAt, TreeGives, listing_at}
+use Rattle.jxlm_tree.specs.TreeStands.{OneTreeStands, TreeStands, TreesAreReadExactly}
+use Rattle.jxlm_tree.specs.declared.flat.Leaf.{Leaf}
+use Rattle.jxlm_tree.proofs.Listing.{levels-injective}
 use Rattle.jxlm_plain.specs.Plain.{PlainState, plain}
-use Rattle.jxlm_write.specs.Nodes.{node_of, tree_tokens}
-use Rattle.jxlm_write.specs.Tokens.{decoder_bits, gamma_decoder_bits, gamma_token_bits, one_cluster, token_bits}
-use Rattle.jxlm_write.specs.Trees.{gamma_tree_bits, leaves_in, tree_bits}
-use Rattle.jxlm_write.specs.Written.{AreFilled, HasBits}
-use Rattle.jxlm_write.proofs.BitLists.{filled_stands}
-use Rattle.jxlm_write.specs.declared.tree.EncodeNode.{EncodeNode}
-use Rattle.jxlm_write.proofs.TreeLaws.{trees_stand}
+use Rattle.jxlm_encode_write.specs.Nodes.{node_of, tree_tokens}
+use Rattle.jxlm_encode_write.specs.Tokens.{decoder_bits, gamma_decoder_bits, gamma_token_bits, one_cluster, token_bits}
+use Rattle.jxlm_encode_write.specs.Trees.{gamma_tree_bits, leaves_in, tree_bits}
+use Rattle.jxlm_encode_write.specs.Written.{AreFilled, HasBits}
+use Rattle.jxlm_encode_write.proofs.BitLists.{filled_stands}
+use Rattle.jxlm_encode_write.specs.declared.tree.EncodeNode.{EncodeNode}
+use Rattle.jxlm_encode_write.proofs.TreeLaws.{trees_stand}
 use Rattle.jxlm_encode.specs.Inner.Errors.{IsNotMemory}
 use Rattle.jxlm_encode.specs.declared.error.EncodeError.{EncodeError}
 use Rattle.jxlm_encode.specs.declared.error.EncodeError.TheVariants.{InvalidTree, OutOfMemory}

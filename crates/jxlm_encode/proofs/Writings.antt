@@ -6,19 +6,19 @@ use Rattle.std.specs.List.{All}
 use Rattle.jxlm_base.specs.Grid.{Grid}
 use Rattle.jxlm_base.specs.Regions.{AllLie, LieApart}
 use Rattle.jxlm_chain.specs.declared.placed.PlacedChannels.{PlacedChannels}
-use Rattle.jxlm_part.specs.Placed.{PartLies}
-use Rattle.jxlm_part.specs.declared.part.PlacedPart.{PlacedPart}
+use Rattle.jxlm_samples.specs.Placed.{PartLies}
+use Rattle.jxlm_samples.specs.declared.part.PlacedPart.{PlacedPart}
 use Rattle.jxlm_transform.specs.Channels.{AreRegionsOf, IsNarrow, infos, regions}
 use Rattle.jxlm_transform.specs.declared.channels.PlacedChannel.{PlacedChannel}
 use Rattle.jxlm_transform.specs.Transforms.{Transform}
-use Rattle.jxlm_tree.specs.SelfCorrecting.{IsHeader}
-use Rattle.jxlm_tree.specs.WeightsHeader.{default_weights}
-use Rattle.jxlm_write.specs.Headers.{header_bits}
-use Rattle.jxlm_write.specs.Nodes.{tree_tokens}
-use Rattle.jxlm_write.specs.Tokens.{gamma_token_bits, token_bits}
-use Rattle.jxlm_write.specs.Trees.{gamma_tree_bits, tree_bits}
-use Rattle.jxlm_write.specs.Written.{AreFilled}
-use Rattle.jxlm_write.specs.declared.tree.EncodeNode.{EncodeNode}
+use Rattle.jxlm_predictor.specs.SelfCorrecting.{IsHeader}
+use Rattle.jxlm_predictor.specs.WeightsHeader.{default_weights}
+use Rattle.jxlm_encode_write.specs.Headers.{header_bits}
+use Rattle.jxlm_encode_write.specs.Nodes.{tree_tokens}
+use Rattle.jxlm_encode_write.specs.Tokens.{gamma_token_bits, token_bits}
+use Rattle.jxlm_encode_write.specs.Trees.{gamma_tree_bits, tree_bits}
+use Rattle.jxlm_encode_write.specs.Written.{AreFilled}
+use Rattle.jxlm_encode_write.specs.declared.tree.EncodeNode.{EncodeNode}
 use Rattle.jxlm_encode.specs.Bytes.{AreWritten, AreWritten2, IsLeastWidth}
 use Rattle.jxlm_encode.specs.Inner.Writing.{ChannelsLie}
 

@@ -5,16 +5,16 @@ use Rattle.std.specs.List.{All}
 use Rattle.std.specs.Int.{Width}
 use Rattle.jxlm_base.specs.Decoding.{Meaning}
 use Rattle.jxlm_base.specs.Grid.{Grid}
-use Rattle.jxlm_part.specs.Part.{cells_of}
+use Rattle.jxlm_samples.specs.Part.{cells_of}
 use Rattle.jxlm_plain.specs.Plain.{plain, plain2}
-use Rattle.jxlm_tokens.specs.Tokens.{AreTokensOf}
+use Rattle.jxlm_encode_tokens.specs.Tokens.{AreTokensOf}
 use Rattle.jxlm_transform.specs.Transforms.{Transform}
-use Rattle.jxlm_write.specs.Headers.{header_bits}
-use Rattle.jxlm_write.specs.Nodes.{tree_tokens}
-use Rattle.jxlm_write.specs.Tokens.{gamma_token_bits, token_bits}
-use Rattle.jxlm_write.specs.Trees.{gamma_tree_bits, tree_bits}
-use Rattle.jxlm_write.specs.Written.{AreFilled}
-use Rattle.jxlm_write.specs.declared.tree.EncodeNode.{EncodeNode}
+use Rattle.jxlm_encode_write.specs.Headers.{header_bits}
+use Rattle.jxlm_encode_write.specs.Nodes.{tree_tokens}
+use Rattle.jxlm_encode_write.specs.Tokens.{gamma_token_bits, token_bits}
+use Rattle.jxlm_encode_write.specs.Trees.{gamma_tree_bits, tree_bits}
+use Rattle.jxlm_encode_write.specs.Written.{AreFilled}
+use Rattle.jxlm_encode_write.specs.declared.tree.EncodeNode.{EncodeNode}
 use Rattle.jxlm_encode.specs.Encoded.{IsEncodedFor, coded_part}
 
 -- the least width that all of these tokens fit

@@ -8,21 +8,21 @@ use Rattle.jxlm_base.specs.Grid.{Grid}
 use Rattle.jxlm_chain.specs.Chain.{Chain}
 use Rattle.jxlm_header.specs.Header.{header}
 use Rattle.jxlm_header.specs.Opening.{node_limit, depth_limit}
-use Rattle.jxlm_ma.specs.Tree.{Shape, levels, node_count, depth, config_of}
-use Rattle.jxlm_ma.specs.TreeStands.{TreeStands}
-use Rattle.jxlm_ma.specs.declared.flat.Leaf.{Leaf}
-use Rattle.jxlm_part.specs.Coded.{IsCodedWhole}
-use Rattle.jxlm_part.specs.Part.{Part}
+use Rattle.jxlm_tree.specs.Tree.{Shape, levels, node_count, depth, config_of}
+use Rattle.jxlm_tree.specs.TreeStands.{TreeStands}
+use Rattle.jxlm_tree.specs.declared.flat.Leaf.{Leaf}
+use Rattle.jxlm_samples.specs.Coded.{IsCodedWhole}
+use Rattle.jxlm_samples.specs.Part.{Part}
 use Rattle.jxlm_plain.specs.Plain.{plain, plain2}
 use Rattle.jxlm_transform.specs.Channels.{Channel, ChannelList, image_list}
 use Rattle.jxlm_transform.specs.ChannelSteps.{CodedList, coded_list}
 use Rattle.jxlm_transform.specs.Params.{sized, IsSide}
 use Rattle.jxlm_transform.specs.Transforms.{Transform}
 use Rattle.jxlm_transform.specs.declared.param.ChannelShift.TheVariants.{Shifts}
-use Rattle.jxlm_tree.specs.WeightsHeader.{default_weights}
-use Rattle.jxlm_write.specs.Laws.{IsWritten}
-use Rattle.jxlm_write.specs.Nodes.{node_of, has_token}
-use Rattle.jxlm_write.specs.declared.tree.EncodeNode.{EncodeNode}
+use Rattle.jxlm_predictor.specs.WeightsHeader.{default_weights}
+use Rattle.jxlm_encode_write.specs.Laws.{IsWritten}
+use Rattle.jxlm_encode_write.specs.Nodes.{node_of, has_token}
+use Rattle.jxlm_encode_write.specs.declared.tree.EncodeNode.{EncodeNode}
 use Rattle.jxlm_encode.specs.declared.error.EncodeError.{EncodeError}
 use Rattle.jxlm_encode.specs.declared.error.EncodeError.TheVariants.{InvalidTransform, InvalidTree, OutOfMemory}
 

@@ -1,8 +1,8 @@
 //! The tree that an encoder is given, looked at, written, and read as a reader reads it.
 
 ghost use Rattle.std.specs.Prelude.{◌≡◌, ◌+◌, ◌<◌, ◌≤◌, ◌^◌, ◌++◌, ◌↔◌, IfOk, IfErr, IsTrue, length};
-ghost use Rattle.jxlm_write.specs.Nodes.{tree_tokens};
-ghost use Rattle.jxlm_write.specs.Trees.{gamma_tree_bits, tree_bits};
+ghost use Rattle.jxlm_encode_write.specs.Nodes.{tree_tokens};
+ghost use Rattle.jxlm_encode_write.specs.Trees.{gamma_tree_bits, tree_bits};
 ghost use Rattle.jxlm_transform.specs.Channels.{infos};
 ghost use Rattle.jxlm_encode.specs.Encoded.{IsTreeGiven};
 ghost use Rattle.jxlm_encode.specs.Inner.Listing.{IsNotGiven, IsNotRead, IsTreeRead, ListsOneTree, left_after};
@@ -10,14 +10,14 @@ ghost use Rattle.jxlm_encode.specs.Inner.Listing.{IsNotGiven, IsNotRead, IsTreeR
 use crate::error::{EncodeError, unless_memory};
 use jxlm_base::bits::Bitstream;
 use jxlm_header::opening::{DEPTH_LIMIT, node_limit};
-use jxlm_ma::ma::{MaConfig, MaConfigParams, each_tree_is_read_exactly};
+use jxlm_tree::ma::{MaConfig, MaConfigParams, each_tree_is_read_exactly};
 use jxlm_plain::plain::PlainDecoder;
 use jxlm_transform::channels::PlacedChannel;
-use jxlm_write::plain::{
+use jxlm_encode_write::plain::{
     width_of, write_decoder, write_gamma_decoder, write_gamma_tokens, write_tokens,
 };
-use jxlm_write::tree::{EncodeNode, has_tokens, tokens_of};
-use jxlm_write::writer::BitWriter;
+use jxlm_encode_write::tree::{EncodeNode, has_tokens, tokens_of};
+use jxlm_encode_write::writer::BitWriter;
 use std::alloc::{AllocError, Global};
 
 /// How many nodes are missing after a node, of some that were.

@@ -6,7 +6,7 @@ ghost use Rattle.jxlm_base.specs.Grid.{IsFull};
 ghost use Rattle.jxlm_base.specs.Regions.{store_meanings};
 ghost use Rattle.jxlm_chain.specs.Placed.{IsPlaced};
 ghost use Rattle.jxlm_transform.specs.Transforms.{transform_of as transform_in};
-ghost use Rattle.jxlm_write.specs.Headers.{params_of as the_params, transform_of};
+ghost use Rattle.jxlm_encode_write.specs.Headers.{params_of as the_params, transform_of};
 ghost use Rattle.jxlm_encode.specs.Encoded.{IsSmall, given_list};
 ghost use Rattle.jxlm_encode.specs.Inner.Placing.{AppliesOne, ArePlaced, AreRefused, Refuses};
 
@@ -17,7 +17,7 @@ use jxlm_chain::placed::PlacedChannels;
 use jxlm_transform::channels::ModularChannelInfo;
 use jxlm_transform::param::ModularChannelParams;
 use jxlm_transform::transform::{Rct, Squeeze, SqueezeParams, TransformInfo};
-use jxlm_write::header::{EncodeTransform, SqueezeStep};
+use jxlm_encode_write::header::{EncodeTransform, SqueezeStep};
 use std::alloc::{AllocError, Global};
 
 /// The maximum number of transforms.

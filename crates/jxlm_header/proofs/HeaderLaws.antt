@@ -9,10 +9,10 @@ use Rattle.jxlm_transform.specs.Channels.{ChannelList, tables_for}
 use Rattle.jxlm_transform.specs.Transforms.{transform_by}
 use Rattle.jxlm_transform.specs.declared.param.PaletteTables.{PaletteTables}
 use Rattle.jxlm_transform.proofs.TransformLaws.{exact-checked, exact-transform}
-use Rattle.jxlm_tree.proofs.WeightsLaws.{exact-wp_header}
+use Rattle.jxlm_predictor.proofs.WeightsLaws.{exact-wp_header}
 use Rattle.jxlm_transform.proofs.Failures.{unless_so}
-use Rattle.jxlm_tree.specs.WeightsHeader.{wp_header}
-use Rattle.jxlm_tree.specs.declared.predictor.WpHeader.{WpHeader}
+use Rattle.jxlm_predictor.specs.WeightsHeader.{wp_header}
+use Rattle.jxlm_predictor.specs.declared.predictor.WpHeader.{WpHeader}
 use Rattle.jxlm_header.specs.Header.{header_by}
 use Rattle.jxlm_header.specs.Opening.{resolved, opening}
 

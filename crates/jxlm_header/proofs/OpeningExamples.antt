@@ -5,7 +5,7 @@ use Rattle.jxlm_transform.specs.Channels.{image_list}
 use Rattle.jxlm_transform.specs.Params.{sized}
 use Rattle.jxlm_transform.specs.declared.param.ChannelShift.TheVariants.{Shifts}
 use Rattle.jxlm_transform.specs.declared.param.ModularChannelParams.{ModularChannelParams}
-use Rattle.jxlm_tree.specs.WeightsHeader.{default_weights}
+use Rattle.jxlm_predictor.specs.WeightsHeader.{default_weights}
 use Rattle.jxlm_header.specs.Opening.{opening}
 
 -- channels of 2 by 2

@@ -5,7 +5,7 @@ use Rattle.jxlm_base.specs.ErrorKind.{ErrorKind, BadProfile, NoGlobalTree, kind_
 use Rattle.jxlm_base.specs.Grammar.{Grammar, IsExact}
 use Rattle.jxlm_base.specs.Grammar as fields
 use Rattle.jxlm_base.specs.declared.error.Error.{Error}
-use Rattle.jxlm_tree.specs.declared.predictor.WpHeader.{WpHeader}
+use Rattle.jxlm_predictor.specs.declared.predictor.WpHeader.{WpHeader}
 use Rattle.jxlm_transform.specs.Channels.{Channel, ChannelList, area, tables_for}
 use Rattle.jxlm_transform.specs.ChannelSteps.{CodedList, coded_list}
 use Rattle.jxlm_transform.specs.Kinds.{is_palette, is_squeeze}

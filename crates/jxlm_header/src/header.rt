@@ -12,7 +12,7 @@ use jxlm_base::error::Result;
 use jxlm_base::grid::OutOfMemory;
 use jxlm_transform::param::PaletteTables;
 use jxlm_transform::transform::{Squeeze, TransformInfo};
-use jxlm_tree::predictor::WpHeader;
+use jxlm_predictor::predictor::WpHeader;
 use std::alloc::Global;
 
 /// What comes before an image's tree.

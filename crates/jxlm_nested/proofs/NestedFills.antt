@@ -11,16 +11,16 @@ use Rattle.jxlm_base.specs.declared.subgrid.Region.{Region}
 use Rattle.jxlm_chain.specs.Shape.{SameShape}
 use Rattle.jxlm_chain.specs.Undoings.{undos_of}
 use Rattle.jxlm_chain.proofs.ShapeLaws.{all_lie_kept, narrow_kept, shape_kept, undos_kept}
-use Rattle.jxlm_part.specs.Decode.{DecodeGives, MovesWithin}
-use Rattle.jxlm_part.specs.Part.{Part, cell_count}
-use Rattle.jxlm_part.specs.Placed.{PartLies, standing_in}
-use Rattle.jxlm_part.specs.declared.part.PlacedPart.{PlacedPart}
+use Rattle.jxlm_samples.specs.Decode.{DecodeGives, MovesWithin}
+use Rattle.jxlm_samples.specs.Part.{Part, cell_count}
+use Rattle.jxlm_samples.specs.Placed.{PartLies, standing_in}
+use Rattle.jxlm_samples.specs.declared.part.PlacedPart.{PlacedPart}
 use Rattle.jxlm_base.specs.Regions.{AllLie, LieApart}
 use Rattle.std.proofs.lemmas.List.{length-map}
 use Rattle.std.specs.List.{All}
 use Rattle.jxlm_transform.specs.Channels.{AreRegionsOf, Channel, IsNarrow, infos, regions}
 use Rattle.jxlm_transform.specs.declared.channels.PlacedChannel.{PlacedChannel}
-use Rattle.jxlm_ma.specs.Steps.{most_steps}
+use Rattle.jxlm_tree.specs.Steps.{most_steps}
 use Rattle.jxlm_nested.specs.NestedParts.{CanFill, Decodes, DecodesTo, Fills, FillsIn, WithSteps, nested_channels, regions_in, with_own_tables}
 use Rattle.jxlm_nested.specs.Nested.{Turn}
 use Rattle.jxlm_nested.specs.declared.nested.NestedPart.{NestedPart}

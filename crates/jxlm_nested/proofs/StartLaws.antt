@@ -8,8 +8,8 @@ use Rattle.jxlm_base.specs.ErrorKind.{UnlessMemory, kind_of}
 use Rattle.jxlm_base.specs.Grammar.{IsErrorAt}
 use Rattle.jxlm_base.specs.declared.error.Error.{Error}
 use Rattle.jxlm_transform.specs.Channels.{ChannelList}
-use Rattle.jxlm_ma.proofs.Memory.{unless_so}
-use Rattle.jxlm_ma.specs.Tree.{Config}
+use Rattle.jxlm_tree.proofs.Memory.{unless_so}
+use Rattle.jxlm_tree.specs.Tree.{Config}
 use Rattle.jxlm_chain.specs.declared.placed.PlacedChannels.{PlacedChannels}
 use Rattle.jxlm_header.specs.declared.header.ModularHeader.{ModularHeader}
 use Rattle.jxlm_transform.specs.Lists.{list_of}

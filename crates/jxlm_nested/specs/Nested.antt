@@ -12,14 +12,14 @@ use Rattle.jxlm_base.specs.declared.error.Error.{Error}
 use Rattle.jxlm_base.specs.declared.subgrid.Region.{Region}
 use Rattle.jxlm_chain.specs.Chain.{IsOnlyImage}
 use Rattle.jxlm_transform.specs.Layout.{layout_after_all}
-use Rattle.jxlm_part.specs.Decode.{DecodeGives}
-use Rattle.jxlm_part.specs.Part.{Part, cell_count}
-use Rattle.jxlm_part.specs.Placed.{standing_in}
+use Rattle.jxlm_samples.specs.Decode.{DecodeGives}
+use Rattle.jxlm_samples.specs.Part.{Part, cell_count}
+use Rattle.jxlm_samples.specs.Placed.{standing_in}
 use Rattle.jxlm_transform.specs.Channels.{ChannelList}
 use Rattle.jxlm_transform.specs.ChannelSteps.{Step}
 use Rattle.jxlm_transform.specs.Steps.{tables_of}
-use Rattle.jxlm_ma.specs.Tree.{Config, Shape, depth}
-use Rattle.jxlm_ma.specs.declared.flat.Leaf.{Leaf}
+use Rattle.jxlm_tree.specs.Tree.{Config, Shape, depth}
+use Rattle.jxlm_tree.specs.declared.flat.Leaf.{Leaf}
 use Rattle.jxlm_nested.specs.Zeros.{zeros}
 use Rattle.jxlm_nested.specs.Starts.{IsTreeErrorAt, Start, coded_part, opened}
 

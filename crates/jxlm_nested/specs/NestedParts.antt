@@ -14,12 +14,12 @@ use Rattle.jxlm_chain.specs.Steps.{CanUndoAll, IsNarrowStore}
 use Rattle.jxlm_chain.specs.Undo.{UndoesAll}
 use Rattle.jxlm_chain.specs.Undoings.{SuitsWeights, undos_of}
 use Rattle.jxlm_header.specs.Opening.{Opening}
-use Rattle.jxlm_part.specs.Decode.{MovesWithin}
+use Rattle.jxlm_samples.specs.Decode.{MovesWithin}
 use Rattle.jxlm_transform.specs.Channels.{AreRegionsOf, Channel, ChannelList, IsNarrow}
 use Rattle.jxlm_transform.specs.Lists.{layout_of, list_of}
-use Rattle.jxlm_tree.specs.SelfCorrecting.{IsHeader}
-use Rattle.jxlm_ma.specs.Steps.{most_steps}
-use Rattle.jxlm_ma.specs.Tree.{Config}
+use Rattle.jxlm_predictor.specs.SelfCorrecting.{IsHeader}
+use Rattle.jxlm_tree.specs.Steps.{most_steps}
+use Rattle.jxlm_tree.specs.Tree.{Config}
 use Rattle.jxlm_nested.specs.Zeros.{zeros}
 use Rattle.jxlm_nested.specs.Opened.{IsOpened, opened_of, steps_of_header}
 use Rattle.jxlm_nested.specs.Nested.{PartTurn, Turn}

@@ -5,10 +5,10 @@ use Rattle.jxlm_base.specs.Decoding.{Found, Meaning}
 use Rattle.jxlm_base.specs.ErrorKind.{ErrorKind, ErrorAt}
 use Rattle.jxlm_base.specs.Grammar.{IsErrorAt}
 use Rattle.jxlm_transform.specs.Channels.{ChannelList}
-use Rattle.jxlm_ma.specs.Tree.{Config}
-use Rattle.jxlm_ma.specs.TreeReading.{IsTreeAt, IsTooDeep, listing_at}
+use Rattle.jxlm_tree.specs.Tree.{Config}
+use Rattle.jxlm_tree.specs.TreeReading.{IsTreeAt, IsTooDeep, listing_at}
 use Rattle.jxlm_header.specs.Opening.{Opening, opening, node_limit, depth_limit}
-use Rattle.jxlm_part.specs.Part.{Part}
+use Rattle.jxlm_samples.specs.Part.{Part}
 
 -- the header at bit position p, and what it comes to for the given channels, with a global tree or without
 abbrev pub opened : {D : Type 0} → Option (Config D) → List ℕ → ChannelList → ℕ → Result (Found Opening) ErrorAt

@@ -7,10 +7,10 @@ ghost use Rattle.jxlm_base.specs.Grid.{Grid};
 ghost use Rattle.jxlm_base.specs.Outside.{KeepsOutside};
 ghost use Rattle.jxlm_chain.specs.Undo.{UndoesAll};
 ghost use Rattle.jxlm_chain.specs.Undoings.{undos_of};
-ghost use Rattle.jxlm_part.specs.Decode.{DecodeGives, MovesWithin};
-ghost use Rattle.jxlm_part.specs.Part.{cell_count};
-ghost use Rattle.jxlm_part.specs.Placed.{standing_in};
-ghost use Rattle.jxlm_ma.specs.Steps.{most_steps};
+ghost use Rattle.jxlm_samples.specs.Decode.{DecodeGives, MovesWithin};
+ghost use Rattle.jxlm_samples.specs.Part.{cell_count};
+ghost use Rattle.jxlm_samples.specs.Placed.{standing_in};
+ghost use Rattle.jxlm_tree.specs.Steps.{most_steps};
 ghost use Rattle.jxlm_nested.specs.NestedParts.{CanFill, head_of, nested_channels, regions_in};
 ghost use Rattle.jxlm_nested.specs.Starts.{coded_part};
 
@@ -21,9 +21,9 @@ use jxlm_base::error::Result;
 use jxlm_base::grid::AlignedGrid;
 use jxlm_base::sample::Sample;
 use jxlm_chain::placed::PlacedChannels;
-use jxlm_ma::flat::Steps;
-use jxlm_part::channels::have_samples;
-use jxlm_part::part::PlacedPart;
+use jxlm_tree::flat::Steps;
+use jxlm_samples::channels::have_samples;
+use jxlm_samples::part::PlacedPart;
 use jxlm_transform::channels::{ModularChannels, PlacedChannel};
 use std::alloc::Global;
 

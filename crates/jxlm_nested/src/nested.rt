@@ -25,9 +25,9 @@ use jxlm_chain::placed::PlacedChannels;
 use jxlm_chain::scratch::Scratch;
 use jxlm_chain::undo::undo_all;
 use jxlm_header::header::ModularHeader;
-use jxlm_ma::flat::Steps;
-use jxlm_ma::ma::MaConfig;
-use jxlm_part::part::PlacedPart;
+use jxlm_tree::flat::Steps;
+use jxlm_tree::ma::MaConfig;
+use jxlm_samples::part::PlacedPart;
 use jxlm_transform::channels::{ModularChannels, PlacedChannel};
 use std::alloc::Global;
 

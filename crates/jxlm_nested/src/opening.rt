@@ -17,7 +17,7 @@ use jxlm_base::error::{Error, Result};
 use jxlm_chain::placed::PlacedChannels;
 use jxlm_header::header::ModularHeader;
 use jxlm_header::opening::{DEPTH_LIMIT, check, node_limit};
-use jxlm_ma::ma::{MaConfig, MaConfigParams};
+use jxlm_tree::ma::{MaConfig, MaConfigParams};
 use jxlm_transform::channels::{PlacedChannel, tables_for};
 use std::alloc::Global;
 

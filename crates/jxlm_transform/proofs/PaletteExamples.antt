@@ -2,7 +2,7 @@
 use Rattle.std.specs.Prelude.{◌≡◌, refl, List, [], ◌∷◌, length, map, ℤ, pos, negsuc, neg_ℤ, None}
 use Rattle.std.specs.Int.{w16, w32, int_wrap}
 use Rattle.jxlm_base.specs.Grid.{grid}
-use Rattle.jxlm_tree.specs.declared.predictor.Predictor.TheVariants.{Zero, West, AvgWestAndNorth}
+use Rattle.jxlm_predictor.specs.declared.predictor.Predictor.TheVariants.{Zero, West, AvgWestAndNorth}
 use Rattle.jxlm_transform.specs.declared.transform.Palette.{Palette}
 use Rattle.jxlm_transform.specs.Palette.{colour_of, listed_difference, implicit_colour, deltas, finished_sample, finished_channels}
 

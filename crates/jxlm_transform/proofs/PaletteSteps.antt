@@ -12,12 +12,12 @@ use Rattle.jxlm_base.specs.declared.subgrid.Region.{Region}
 use Rattle.jxlm_base.specs.Outside.{KeepsOutside}
 use Rattle.jxlm_base.proofs.Regions.{grid_of_set, grid_of_set_apart, IsFull-grid_of}
 use Rattle.jxlm_base.proofs.Outside.{keeps_written, lies_still}
-use Rattle.jxlm_tree.specs.Standing.{StandsAt, setting, IsReady, HasSameRoom}
-use Rattle.jxlm_tree.specs.declared.state.PredictorState.{PredictorState}
+use Rattle.jxlm_predictor.specs.Standing.{StandsAt, setting, IsReady, HasSameRoom}
+use Rattle.jxlm_predictor.specs.declared.state.PredictorState.{PredictorState}
 use Rattle.jxlm_transform.specs.declared.transform.Palette.{Palette}
 use Rattle.jxlm_transform.specs.declared.palette.FinishedChannel.{FinishedChannel}
 use Rattle.jxlm_transform.proofs.PaletteLaws.{is_finished}
-use Rattle.jxlm_tree.specs.Predictions.{prediction}
+use Rattle.jxlm_predictor.specs.Predictions.{prediction}
 use Rattle.jxlm_transform.specs.Palette.{finished_channel, finished_sample, finished_samples, is_delta, colour_of}
 use Rattle.jxlm_transform.specs.Inner.PaletteSteps.{ChannelLies, SetsSample, StillToCome, Filled, FillsOn, FillsOnBy, IsSimpleIndex, StandsBefore, kept, looked_up, table_in, index_in}
 

@@ -4,8 +4,8 @@ use Rattle.jxlm_base.specs.ErrorKind.{ErrorKind, BadEnum}
 use Rattle.jxlm_base.specs.Grammar.{Grammar, IsExact, ◌>>=◌}
 use Rattle.jxlm_base.specs.declared.bits.U32Spec.TheVariants.{Const, Offset}
 use Rattle.jxlm_base.proofs.GrammarLaws.{exact-give, exact-fail, exact-number, exact-bind, exact-either, exact-repeated, exact-flag, exact-u32}
-use Rattle.jxlm_tree.specs.Predictions.{predictors}
-use Rattle.jxlm_tree.specs.declared.predictor.WpHeader.{WpHeader}
+use Rattle.jxlm_predictor.specs.Predictions.{predictors}
+use Rattle.jxlm_predictor.specs.declared.predictor.WpHeader.{WpHeader}
 use Rattle.jxlm_transform.specs.Params.{columns}
 use Rattle.jxlm_transform.specs.declared.param.PaletteTables.{PaletteTables}
 use Rattle.jxlm_transform.specs.Transforms.{OfRct, OfPalette, OfSqueeze, begin_channel, rct, checked, predictor, weights_for, palette_by, squeeze_params, squeeze, transform_by}

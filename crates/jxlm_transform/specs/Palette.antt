@@ -5,7 +5,7 @@ use Rattle.std.specs.Int.{Width, int_wrap}
 use Rattle.jxlm_base.specs.Grid.{Grid, grid, at, place, below}
 use Rattle.jxlm_base.specs.Regions.{Lies, AllLie, AreApart, LieApart}
 use Rattle.jxlm_base.specs.declared.subgrid.Region.{Region}
-use Rattle.jxlm_tree.specs.Predictions.{prediction}
+use Rattle.jxlm_predictor.specs.Predictions.{prediction}
 use Rattle.jxlm_transform.specs.Channels.{HasSides}
 use Rattle.jxlm_transform.specs.declared.transform.Palette.{Palette}
 

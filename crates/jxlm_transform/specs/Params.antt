@@ -4,7 +4,7 @@ use Rattle.std.specs.Borrow.{Bor}
 use Rattle.std.specs.Global.{Vec}
 use Rattle.std.specs.Int.{IsPowerOfTwo}
 use Rattle.std.specs.List.{All}
-use Rattle.jxlm_ma.specs.declared.ma.MaConfig.{MaConfig}
+use Rattle.jxlm_tree.specs.declared.ma.MaConfig.{MaConfig}
 use Rattle.jxlm_transform.specs.declared.param.ChannelShift.{ChannelShift}
 use Rattle.jxlm_transform.specs.declared.param.ChannelShift.TheVariants.{Shifts}
 use Rattle.jxlm_transform.specs.declared.param.GradientSums.{GradientSums}

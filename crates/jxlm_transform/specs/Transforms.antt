@@ -6,10 +6,10 @@ use Rattle.jxlm_base.specs.ErrorKind.{ErrorKind, BadEnum, ErrorAt, UnlessNoMemor
 use Rattle.jxlm_base.specs.Grammar.{Grammar, IsErrorAt, number, flag, u32, give, fail, either, repeated, ◌>>=◌}
 use Rattle.jxlm_base.specs.declared.bits.U32Spec.TheVariants.{Const, Offset}
 use Rattle.jxlm_base.specs.declared.error.Error.{Error}
-use Rattle.jxlm_tree.specs.Predictions.{predictors}
-use Rattle.jxlm_tree.specs.declared.predictor.Predictor.{Predictor}
-use Rattle.jxlm_tree.specs.declared.predictor.Predictor.TheVariants.{SelfCorrecting}
-use Rattle.jxlm_tree.specs.declared.predictor.WpHeader.{WpHeader}
+use Rattle.jxlm_predictor.specs.Predictions.{predictors}
+use Rattle.jxlm_predictor.specs.declared.predictor.Predictor.{Predictor}
+use Rattle.jxlm_predictor.specs.declared.predictor.Predictor.TheVariants.{SelfCorrecting}
+use Rattle.jxlm_predictor.specs.declared.predictor.WpHeader.{WpHeader}
 use Rattle.jxlm_transform.specs.Params.{columns}
 use Rattle.jxlm_transform.specs.declared.param.PaletteTables.{PaletteTables}
 use Rattle.jxlm_transform.specs.declared.param.PaletteTables.TheVariants.{OfColours}

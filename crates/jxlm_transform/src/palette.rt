@@ -3,14 +3,14 @@
 ghost use Rattle.std.specs.Prelude.{◌≡◌, ◌+◌, ◌-◌, ◌*◌, ◌/◌, ◌%◌, ◌^◌, ◌<◌, ◌≤◌, ◌↔◌, IsTrue, ℕ, ℤ, pos, ◌+ℤ◌, if◌then◌else◌, unsigned_abs, List, [], ◌∷◌, ◌++◌, get_or, length, take, drop, map, min, FitsSigned, IfOk, IfErr};
 ghost use Rattle.std.specs.Option.{ForSome};
 ghost use Rattle.jxlm_base.specs.ErrorKind.{NoMemory, kind_of};
-ghost use Rattle.jxlm_tree.specs.Holding.{IsCurrent};
-ghost use Rattle.jxlm_tree.specs.SelfCorrecting.{IsHeader};
+ghost use Rattle.jxlm_predictor.specs.Holding.{IsCurrent};
+ghost use Rattle.jxlm_predictor.specs.SelfCorrecting.{IsHeader};
 ghost use Rattle.std.specs.Int.{int_wrap, w32};
 ghost use Rattle.jxlm_base.specs.Grid.{at};
 ghost use Rattle.jxlm_base.specs.Regions.{Lies, grid_of, store_meanings};
 ghost use Rattle.jxlm_base.specs.Outside.{KeepsOutside, SetsRow};
-ghost use Rattle.jxlm_tree.specs.Predictions.{prediction};
-ghost use Rattle.jxlm_tree.specs.Standing.{Setting, StandsAt, IsReady, HasSameRoom, room_of, setting, weights_of};
+ghost use Rattle.jxlm_predictor.specs.Predictions.{prediction};
+ghost use Rattle.jxlm_predictor.specs.Standing.{Setting, StandsAt, IsReady, HasSameRoom, room_of, setting, weights_of};
 ghost use Rattle.jxlm_transform.specs.Palette.{colour_of, deltas, difference, implicit_colour, is_delta, listed_difference, finished_channel, IsPaletteOf, PaletteHasOneImage, PaletteLies};
 ghost use Rattle.jxlm_transform.specs.Inner.PaletteSteps.{ChannelLies, ChannelsDone, channel_at, columns_of, FillsOn, FillsOnBy, AreSimple, IsSimple, IsSimpleIndex, IsSimpleRow, SetsNext, StandsBefore, StandsNext, index_in, kept, number_of, table_in};
 
@@ -19,8 +19,8 @@ use jxlm_base::error::Result;
 use jxlm_base::grid::{AlignedGrid, Region};
 use jxlm_base::region::{region_get, region_row, region_set};
 use jxlm_base::sample::Sample;
-use jxlm_tree::predictor::{PredictorState, Properties};
-use jxlm_tree::reduced::reduced;
+use jxlm_predictor::predictor::{PredictorState, Properties};
+use jxlm_predictor::reduced::reduced;
 use std::alloc::Global;
 
 /// The differences that negative indices name, by channels.

@@ -9,7 +9,7 @@ ghost use Rattle.jxlm_base.specs.ErrorKind.{NoMemory, kind_of};
 
 use jxlm_base::decoder::Decoder;
 use jxlm_base::error::Result;
-use jxlm_ma::ma::MaConfig;
+use jxlm_tree::ma::MaConfig;
 use std::alloc::Global;
 
 /// The maximum side of a picture.

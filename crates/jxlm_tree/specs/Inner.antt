@@ -1,4 +1,13 @@
-pub mod CorrectingSteps
-pub mod ListedWeights
-pub mod OwnProperties
-pub mod StateSteps
+pub mod Building
+pub mod DraftReading
+pub mod Kept
+pub mod Queue
+pub mod TreeShape
+pub mod Walking
+pub mod Compiled
+pub mod FlatNodes
+pub mod FlatShapes
+pub mod Marked
+pub mod Pruned
+pub mod SoundNodes
+pub mod Tables

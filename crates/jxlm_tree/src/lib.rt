@@ -1,13 +1,14 @@
-//! Neighbours, predictors and properties.
+//! Meta-adaptive trees: how they are read, and how they are compiled for the samples of one channel.
 #![tactic(auto)]
 
-mod around;
-pub mod clamping;
-pub mod earlier;
-pub mod eighths;
-pub mod place;
-pub mod predictor;
-mod properties;
-pub mod reduced;
-mod self_correcting;
-mod state;
+mod alike;
+mod build;
+mod compile;
+pub mod flat;
+pub mod ma;
+mod marks;
+mod nodes;
+pub mod paths;
+mod steps;
+mod sums;
+mod tree;

@@ -1,7 +1,7 @@
 //! Reads a Modular image from standard input, and prints its samples.
 #![tactic(auto)]
 
-use jxlm_program::run::{report, run, words_of};
+use jxlmod_commands::run::{report, run, words_of};
 use std::env;
 use std::process::ExitCode;
 

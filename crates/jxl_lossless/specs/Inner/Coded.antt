@@ -4,10 +4,10 @@ use Rattle.std.specs.Int.{Width, w32}
 use Rattle.jxlm_base.specs.Decoding.{Meaning}
 use Rattle.jxlm_base.specs.ErrorKind.{UnlessMemory, kind_of}
 use Rattle.jxlm_base.specs.Grid.{Grid}
-use Rattle.jxlm_ma.specs.Tree.{Config}
-use Rattle.jxl_headers.specs.Images.{Image}
-use Rattle.jxl_headers.specs.declared.size.Size.{Size}
-use Rattle.jxl_frames.specs.Frames.{Frame, frame_size}
+use Rattle.jxlm_tree.specs.Tree.{Config}
+use Rattle.jxl_image_header.specs.Images.{Image}
+use Rattle.jxl_image_header.specs.declared.size.Size.{Size}
+use Rattle.jxl_frame_header.specs.Frames.{Frame, frame_size}
 use Rattle.jxl_toc.specs.Starts.{section_start}
 use Rattle.jxl_patches.specs.Errors.{patch_kind}
 use Rattle.jxl_patches.specs.Patches.{Patches}

@@ -5,7 +5,7 @@ use Rattle.jxlm_transform.specs.declared.param.ChannelShift.TheVariants.{Shifts}
 use Rattle.jxlm_transform.specs.declared.param.GradientSums.TheVariants.{Clamped}
 use Rattle.jxlm_transform.specs.declared.param.ModularChannelParams.{ModularChannelParams}
 use Rattle.jxlm_transform.specs.declared.param.PaletteTables.TheVariants.{OfDeltasToo}
-use Rattle.jxl_headers.specs.declared.channel.ExtraChannel.{ExtraChannel}
+use Rattle.jxl_image_header.specs.declared.channel.ExtraChannel.{ExtraChannel}
 
 -- a channel of this shift in a picture of these sides; in a file the table of a palette has columns for deltas too, and
 -- sums are clamped

@@ -5,9 +5,9 @@ use Rattle.jxlm_base.specs.Decoding.{Meaning}
 use Rattle.jxlm_base.specs.ErrorKind.{ErrorKind, OfDecoder}
 use Rattle.jxlm_base.specs.Grid.{Grid}
 use Rattle.jxlm_base.specs.declared.decoder.DecoderError.{DecoderError}
-use Rattle.jxlm_part.specs.Coded.{DecodingFails, IsCodedWhole}
+use Rattle.jxlm_samples.specs.Coded.{DecodingFails, IsCodedWhole}
 use Rattle.jxl_modular.specs.Image.{Image, IsOnlyImage, cost_of, image_grids}
-use Rattle.jxlm_part.specs.Part.{Part, cell_count}
+use Rattle.jxlm_samples.specs.Part.{Part, cell_count}
 
 module _ {S D : Type 0} where
   -- the part of all coded channels of an image, read with this stream index

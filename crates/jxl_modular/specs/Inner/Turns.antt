@@ -6,9 +6,9 @@ use Rattle.jxlm_base.specs.Bits.{bytes_of, position_of}
 use Rattle.jxlm_base.specs.Decoding.{Meaning}
 use Rattle.jxlm_base.specs.Grid.{Grid}
 use Rattle.jxlm_base.specs.declared.error.Error.{Error}
-use Rattle.jxlm_cut.specs.declared.pass.Pass.{Pass}
-use Rattle.jxlm_part.specs.Decode.{MovesWithin}
-use Rattle.jxlm_ma.specs.Tree.{Config}
+use Rattle.jxlm_groups.specs.declared.pass.Pass.{Pass}
+use Rattle.jxlm_samples.specs.Decode.{MovesWithin}
+use Rattle.jxlm_tree.specs.Tree.{Config}
 use Rattle.jxl_modular.specs.Image.{Image}
 use Rattle.jxlm_nested.specs.Nested.{PartTurn}
 use Rattle.jxl_modular.specs.Groups.{held_in, part_in}

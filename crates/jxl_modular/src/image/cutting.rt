@@ -1,7 +1,7 @@
 //! Images that are cut into parts (ISO/IEC 18181-1, frame: groups, LF groups and passes).
 
 ghost use Rattle.jxlm_base.specs.Bits.{bytes_of, position_of};
-ghost use Rattle.jxlm_part.specs.Part.{cell_count};
+ghost use Rattle.jxlm_samples.specs.Part.{cell_count};
 ghost use Rattle.std.specs.Prelude.{◌≡◌, ◌↔◌, ◌<◌, IsOk, IsTrue, IsFalse, IfOk, IfErr};
 
 use super::ModularImageDestination;
@@ -9,26 +9,26 @@ use jxlm_base::bits::Bitstream;
 use jxlm_base::decoder::Decoder;
 use jxlm_base::error::Result;
 use jxlm_base::sample::Sample;
-use jxlm_cut::area::{PartArea, parts, picture_sides};
-use jxlm_cut::complete::has_each_part;
-use jxlm_cut::cut::{check_cut, exists, group_count};
-use jxlm_cut::part::{Kind, SectionPart};
-use jxlm_cut::pass::{Pass, passes};
-use jxlm_cut::pieces::{has_pieces, pieces};
-use jxlm_ma::flat::Steps;
-use jxlm_ma::ma::MaConfig;
+use jxlm_groups::area::{PartArea, parts, picture_sides};
+use jxlm_groups::complete::has_each_part;
+use jxlm_groups::cut::{check_cut, exists, group_count};
+use jxlm_groups::part::{Kind, SectionPart};
+use jxlm_groups::pass::{Pass, passes};
+use jxlm_groups::pieces::{has_pieces, pieces};
+use jxlm_tree::flat::Steps;
+use jxlm_tree::ma::MaConfig;
 use jxlm_nested::nested::NestedPart;
-use jxlm_part::part::PlacedPart;
+use jxlm_samples::part::PlacedPart;
 use std::alloc::Global;
 use std::collections::{BTreeMap, BTreeSet};
 
 impl<S: Sample, D: Decoder> ModularImageDestination<S, D> {
     ghost use Rattle.jxlm_base.specs.ErrorKind.{BadSqueeze, NoMemory, kind_of};
-    ghost use Rattle.jxlm_cut.specs.Areas.{areas_of, picture_of};
-    ghost use Rattle.jxlm_cut.specs.Passes.{can_group as groups_possible, passes_of};
-    ghost use Rattle.jxlm_cut.specs.Counts.{exists as the_existing, group_count as the_group_count};
-    ghost use Rattle.jxlm_cut.specs.Cutting.{can_cut};
-    ghost use Rattle.jxlm_cut.specs.PartSets.{HoldsEach};
+    ghost use Rattle.jxlm_groups.specs.Areas.{areas_of, picture_of};
+    ghost use Rattle.jxlm_groups.specs.Passes.{can_group as groups_possible, passes_of};
+    ghost use Rattle.jxlm_groups.specs.Counts.{exists as the_existing, group_count as the_group_count};
+    ghost use Rattle.jxlm_groups.specs.Cutting.{can_cut};
+    ghost use Rattle.jxlm_groups.specs.PartSets.{HoldsEach};
     ghost use Rattle.jxl_modular.specs.Image.{coded_list};
     ghost use Rattle.jxl_modular.specs.Groups.{PartOfGives, channels_in, held_in};
     ghost use Rattle.jxl_modular.specs.Inner.Laid.{IsLaidOut};

@@ -14,7 +14,7 @@ use jxlm_base::grid::{AlignedGrid, Region};
 use jxlm_base::sample::Sample;
 use jxlm_chain::placed::PlacedChannels;
 use jxlm_header::header::ModularHeader;
-use jxlm_ma::ma::MaConfig;
+use jxlm_tree::ma::MaConfig;
 use jxlm_transform::channels::ModularChannelInfo;
 use std::alloc::Global;
 

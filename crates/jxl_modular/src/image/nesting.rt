@@ -4,7 +4,7 @@ ghost use Rattle.std.specs.Prelude.{◌≡◌, ◌++◌, [], pos, IsOk, IfOk, If
 ghost use Rattle.std.specs.Option.{option_copied};
 ghost use Rattle.jxlm_base.specs.Bits.{bytes_of, position_of};
 ghost use Rattle.jxlm_base.specs.ErrorKind.{NoMemory, kind_of};
-ghost use Rattle.jxlm_part.specs.Part.{cell_count};
+ghost use Rattle.jxlm_samples.specs.Part.{cell_count};
 ghost use Rattle.jxlm_transform.specs.Channels.{infos, regions};
 
 use super::{ModularImageDestination, TransformedModularSubimage, first_of};
@@ -14,11 +14,11 @@ use jxlm_base::decoder::Decoder;
 use jxlm_base::error::{Error, Result};
 use jxlm_base::grid::{AlignedGrid, OutOfMemory};
 use jxlm_base::sample::Sample;
-use jxlm_cut::part::SectionPart;
-use jxlm_cut::pass::Pass;
-use jxlm_cut::pieces::pieces;
-use jxlm_ma::flat::Steps;
-use jxlm_ma::ma::MaConfig;
+use jxlm_groups::part::SectionPart;
+use jxlm_groups::pass::Pass;
+use jxlm_groups::pieces::pieces;
+use jxlm_tree::flat::Steps;
+use jxlm_tree::ma::MaConfig;
 use jxlm_nested::nested::{NestedPart, add_tables};
 use jxlm_transform::channels::PlacedChannel;
 use std::alloc::Global;

@@ -3,7 +3,7 @@
 ghost use Rattle.std.specs.Prelude.{◌≡◌, length, IfOk, IfErr};
 ghost use Rattle.std.specs.List.{zip};
 ghost use Rattle.jxlm_base.specs.ErrorKind.{kind_of};
-ghost use Rattle.jxlm_ma.specs.TreeReading.{IsOutOfMemory};
+ghost use Rattle.jxlm_tree.specs.TreeReading.{IsOutOfMemory};
 
 use super::ModularImageDestination;
 use jxlm_base::decoder::Decoder;

@@ -10,7 +10,7 @@ use crate::image::ModularImageDestination;
 use jxlm_base::decoder::Decoder;
 use jxlm_base::error::Result;
 use jxlm_base::sample::Sample;
-use jxlm_cut::pass::Pass;
+use jxlm_groups::pass::Pass;
 use std::alloc::Global;
 use std::collections::BTreeSet;
 

@@ -3,7 +3,7 @@
 ghost use Rattle.std.specs.Prelude.{◌≡◌, ◌≢◌, ◌↔◌, IfOk, IfErr, IsTrue};
 ghost use Rattle.std.specs.List.{All, AllPairs};
 ghost use Rattle.jxlm_base.specs.ErrorKind.{NoMemory, kind_of};
-ghost use Rattle.jxlm_cut.specs.Passes.{passes_of};
+ghost use Rattle.jxlm_groups.specs.Passes.{passes_of};
 ghost use Rattle.jxl_modular.specs.Groups.{Exists};
 ghost use Rattle.jxl_modular.specs.Sections.{FitGives};
 
@@ -12,7 +12,7 @@ use crate::image::ModularImageDestination;
 use jxlm_base::decoder::Decoder;
 use jxlm_base::error::Result;
 use jxlm_base::sample::Sample;
-use jxlm_cut::pass::{Pass, passes};
+use jxlm_groups::pass::{Pass, passes};
 use std::alloc::Global;
 use std::collections::{BTreeMap, BTreeSet};
 

@@ -9,9 +9,9 @@ use crate::image::ModularImageDestination;
 use jxlm_base::decoder::Decoder;
 use jxlm_base::error::Result;
 use jxlm_base::sample::Sample;
-use jxlm_cut::pass::Pass;
-use jxlm_ma::flat::Steps;
-use jxlm_ma::ma::MaConfig;
+use jxlm_groups::pass::Pass;
+use jxlm_tree::flat::Steps;
+use jxlm_tree::ma::MaConfig;
 use std::alloc::Global;
 
 impl<S: Sample, D: Decoder> ModularImageDestination<S, D> {

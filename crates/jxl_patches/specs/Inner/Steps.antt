@@ -4,8 +4,8 @@ use Rattle.std.specs.Option.{ok_or, option_and_then, option_map_or}
 use Rattle.jxlm_base.specs.Decoding.{Found, Meaning}
 use Rattle.jxlm_base.specs.ErrorKind.{BadEnum, BadProfile, ErrorAt, ErrorKind, UnlessMemory}
 use Rattle.jxlm_base.specs.Grammar.{Grammar, IsErrorAt, ◌>>=◌}
-use Rattle.jxl_headers.specs.Fields.{meant}
-use Rattle.jxl_headers.specs.declared.size.Size.{Size}
+use Rattle.jxl_image_header.specs.Fields.{meant}
+use Rattle.jxl_image_header.specs.declared.size.Size.{Size}
 use Rattle.jxl_toc.specs.Tokens.{After, Tokens, called, token}
 use Rattle.jxl_patches.specs.Dictionaries.{patches_of}
 use Rattle.jxl_patches.specs.Errors.{patch_kind}

@@ -3,9 +3,9 @@ use Rattle.std.specs.Prelude.{◌≡◌, ℕ, ◌+◌, ◌^◌, ℤ, List, lengt
 use Rattle.std.specs.Int.{div_ceil}
 use Rattle.std.specs.List.{All, AllZip}
 use Rattle.jxlm_base.specs.Grid.{Grid}
-use Rattle.jxl_headers.specs.Images.{Image}
-use Rattle.jxl_headers.specs.declared.channel.ExtraChannel.{ExtraChannel}
-use Rattle.jxl_headers.specs.declared.size.Size.{Size}
+use Rattle.jxl_image_header.specs.Images.{Image}
+use Rattle.jxl_image_header.specs.declared.channel.ExtraChannel.{ExtraChannel}
+use Rattle.jxl_image_header.specs.declared.size.Size.{Size}
 use Rattle.jxl_picture.specs.Pictures.{colour_count}
 
 -- a channel has these sides

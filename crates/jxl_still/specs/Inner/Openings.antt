@@ -5,7 +5,7 @@ use Rattle.jxlm_base.specs.ErrorKind.{ErrorKind, UnlessMemory, kind_of}
 use Rattle.jxlm_base.specs.Grammar.{IsErrorAt}
 use Rattle.jxlm_transform.specs.Channels.{ChannelList}
 use Rattle.jxlm_header.specs.Opening.{Opening}
-use Rattle.jxlm_ma.specs.Tree.{Config}
+use Rattle.jxlm_tree.specs.Tree.{Config}
 use Rattle.jxl_modular.specs.Fresh.{fresh}
 use Rattle.jxl_modular.specs.Image.{Image}
 use Rattle.jxl_modular.specs.Parsing.{IsStartAt, IsTreeErrorAt, opened}

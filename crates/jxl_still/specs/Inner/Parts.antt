@@ -1,16 +1,16 @@
 -- The groups with samples, of each kind and of each pass.
 use Rattle.std.specs.Prelude.{ℕ, List, ◌++◌, map, nat_lt}
 use Rattle.std.specs.List.{filter, flat_map, range_with_len}
-use Rattle.jxlm_cut.specs.Counts.{group_count}
-use Rattle.jxlm_cut.specs.declared.part.Kind.TheVariants as kinds
-use Rattle.jxlm_cut.specs.declared.part.SectionPart.{SectionPart}
-use Rattle.jxlm_cut.specs.declared.part.SectionPart.TheVariants as parts
-use Rattle.jxlm_cut.specs.declared.pass.Pass.{Pass}
-use Rattle.jxlm_part.specs.Part.{cell_count}
+use Rattle.jxlm_groups.specs.Counts.{group_count}
+use Rattle.jxlm_groups.specs.declared.part.Kind.TheVariants as kinds
+use Rattle.jxlm_groups.specs.declared.part.SectionPart.{SectionPart}
+use Rattle.jxlm_groups.specs.declared.part.SectionPart.TheVariants as parts
+use Rattle.jxlm_groups.specs.declared.pass.Pass.{Pass}
+use Rattle.jxlm_samples.specs.Part.{cell_count}
 use Rattle.jxl_modular.specs.GroupParts.{pass_count}
 use Rattle.jxl_modular.specs.Groups.{channels_in}
 use Rattle.jxl_modular.specs.Image.{Image, coded_list}
-use Rattle.jxlm_sections.specs.CutPicture.{lf_groups}
+use Rattle.jxlm_section_split.specs.CutPicture.{lf_groups}
 
 module _ {S D : Type 0} (x : Image S D) (passes : List Pass) where
   -- these parts as far as they have samples

@@ -5,8 +5,8 @@ use Rattle.jxlm_base.specs.Bits.{bytes_of, position_of}
 use Rattle.jxlm_base.specs.Decoding.{Found}
 use Rattle.jxlm_base.specs.ErrorKind.{ErrorAt}
 use Rattle.jxlm_transform.specs.Transforms.{Transform, OfPalette}
-use Rattle.jxlm_tree.specs.declared.predictor.Predictor.{Predictor}
-use Rattle.jxlm_tree.specs.declared.predictor.Predictor.TheVariants.{SelfCorrecting}
+use Rattle.jxlm_predictor.specs.declared.predictor.Predictor.{Predictor}
+use Rattle.jxlm_predictor.specs.declared.predictor.Predictor.TheVariants.{SelfCorrecting}
 use Rattle.jxlm_header.specs.Header.{Header, header}
 use Rattle.jxl_modular.specs.declared.sections.Section.{Section}
 

@@ -2,7 +2,7 @@
 use Rattle.std.specs.Prelude.{◌≡◌, ℕ, ◌+◌, ◌/◌, ◌<◌, List, length, get_or, take, sum, slice_index}
 use Rattle.jxlm_base.specs.Grammar.{Grammar, u32, give, repeated, ◌>>=◌}
 use Rattle.jxlm_base.specs.declared.bits.U32Spec.TheVariants.{Offset}
-use Rattle.jxl_headers.specs.Fields.{here, aligned}
+use Rattle.jxl_image_header.specs.Fields.{here, aligned}
 use Rattle.jxl_toc.specs.Tocs.{Table}
 use Rattle.jxl_toc.specs.declared.toc.Table.{Table as TableInMemory}
 use Rattle.jxl_toc.specs.declared.toc.TocEntry.{TocEntry}

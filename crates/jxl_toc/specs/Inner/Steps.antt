@@ -4,7 +4,7 @@ use Rattle.jxlm_base.specs.Decoding.{Found, Meaning}
 use Rattle.jxlm_base.specs.ErrorKind.{BadProfile, ErrorAt, UnlessMemory, kind_of}
 use Rattle.jxlm_base.specs.Grammar.{Grammar, IsErrorAt, give, fail, either, ◌>>=◌}
 use Rattle.jxlm_base.specs.declared.error.Error.{Error}
-use Rattle.jxl_headers.specs.Fields.{long, meant}
+use Rattle.jxl_image_header.specs.Fields.{long, meant}
 use Rattle.jxl_toc.specs.Tokens.{After, Tokens, called, token}
 use Rattle.jxl_toc.specs.Orders.{context_of}
 use Rattle.jxl_toc.specs.Profiles as profiles

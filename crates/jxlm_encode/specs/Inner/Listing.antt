@@ -1,12 +1,12 @@
 -- Trees as an encoder is given them, before and after they were read back.
 use Rattle.std.specs.Prelude.{◌≡◌, ℕ, zero, suc, [], ◌∷◌, ◌+◌, ◌-◌, ◌≤◌, List, map}
 use Rattle.jxlm_header.specs.Opening.{depth_limit}
-use Rattle.jxlm_ma.specs.Tree.{Shape, levels, node_count, depth}
-use Rattle.jxlm_ma.specs.declared.flat.Leaf.{Leaf}
+use Rattle.jxlm_tree.specs.Tree.{Shape, levels, node_count, depth}
+use Rattle.jxlm_tree.specs.declared.flat.Leaf.{Leaf}
 use Rattle.jxlm_transform.specs.Channels.{Channel}
-use Rattle.jxlm_write.specs.Nodes.{node_of}
-use Rattle.jxlm_write.specs.declared.tree.EncodeNode.{EncodeNode}
-use Rattle.jxlm_write.specs.declared.tree.EncodeNode.TheVariants as given
+use Rattle.jxlm_encode_write.specs.Nodes.{node_of}
+use Rattle.jxlm_encode_write.specs.declared.tree.EncodeNode.{EncodeNode}
+use Rattle.jxlm_encode_write.specs.declared.tree.EncodeNode.TheVariants as given
 use Rattle.jxlm_encode.specs.Encoded.{IsTreeGiven}
 use Rattle.jxlm_encode.specs.declared.error.EncodeError.{EncodeError}
 use Rattle.jxlm_encode.specs.declared.error.EncodeError.TheVariants.{InvalidTransform, InvalidTree, OutOfMemory}

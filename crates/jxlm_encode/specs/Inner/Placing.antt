@@ -8,7 +8,7 @@ use Rattle.jxlm_transform.specs.Channels.{Channel, ChannelList}
 use Rattle.jxlm_transform.specs.Lists.{list_of}
 use Rattle.jxlm_transform.specs.ChannelSteps.{Step, coded_list}
 use Rattle.jxlm_transform.specs.Transforms.{Transform}
-use Rattle.jxlm_write.specs.Laws.{IsWritten}
+use Rattle.jxlm_encode_write.specs.Laws.{IsWritten}
 use Rattle.jxlm_encode.specs.Encoded.{IsRefusedAfter, IsTransformRefused}
 use Rattle.jxlm_encode.specs.declared.error.EncodeError.{EncodeError}
 use Rattle.jxlm_encode.specs.declared.error.EncodeError.TheVariants.{InvalidTransform, InvalidTree, OutOfMemory}

@@ -9,13 +9,13 @@ use Rattle.jxlm_chain.specs.Chain.{Chain}
 use Rattle.jxlm_chain.specs.declared.placed.PlacedChannels.{PlacedChannels}
 use Rattle.jxlm_transform.specs.Channels.{AreRegionsOf, IsNarrow}
 use Rattle.jxlm_transform.specs.Transforms.{Transform}
-use Rattle.jxlm_ma.specs.Tree.{Shape}
-use Rattle.jxlm_ma.specs.declared.flat.Leaf.{Leaf}
-use Rattle.jxlm_part.specs.Part.{Part, cell_count, cells_of}
-use Rattle.jxlm_tokens.specs.Tokens.{AreTokensOf}
+use Rattle.jxlm_tree.specs.Tree.{Shape}
+use Rattle.jxlm_tree.specs.declared.flat.Leaf.{Leaf}
+use Rattle.jxlm_samples.specs.Part.{Part, cell_count, cells_of}
+use Rattle.jxlm_encode_tokens.specs.Tokens.{AreTokensOf}
 use Rattle.jxlm_transform.specs.ChannelSteps.{CodedList}
-use Rattle.jxlm_tree.specs.WeightsHeader.{default_weights}
-use Rattle.jxlm_write.specs.declared.tree.EncodeNode.{EncodeNode}
+use Rattle.jxlm_predictor.specs.WeightsHeader.{default_weights}
+use Rattle.jxlm_encode_write.specs.declared.tree.EncodeNode.{EncodeNode}
 use Rattle.jxlm_encode.specs.Encoded.{AreAccepted, IsTreeGiven, coded_part, given_list}
 
 -- the coded channels lie in the store, narrow, at most 65536, and apart from one another

@@ -1,5 +1,5 @@
 use Rattle.std.proofs.Common.{◌++◌, ◌∙◌, ap, sym, Option, string_bytes, codes}
-use Rattle.jxl_headers.specs.declared.size.Size.{Size}
+use Rattle.jxl_image_header.specs.declared.size.Size.{Size}
 use Rattle.jxl_info.specs.Texts.{preview_line, size_text}
 use Rattle.jxl_info.proofs.TextPieces.{line_grown}
 use Rattle.jxl_info.proofs.text.append_preview.Goals as goal

@@ -1,12 +1,12 @@
 use Rattle.std.proofs.Common.{◌≡◌, ◌∙◌, ◌<◌, ℕ, ℤ, List, length, ap, arith, subst}
 use Rattle.std.specs.Prelude.{IfErr, IfOk}
 use Rattle.std.specs.BTreeMap.{BTreeMap}
-use Rattle.jxl_headers.specs.Images.{image_of}
+use Rattle.jxl_image_header.specs.Images.{image_of}
 use Rattle.jxl_front.specs.Fronts.{layout_in}
 use Rattle.jxl_front.specs.FrontParts.{frame_at}
 use Rattle.jxl_patches.specs.SavedParts.{slots_of}
-use Rattle.jxl_frames.specs.Frames.{frame_of}
-use Rattle.jxl_frames.specs.Passes.{passes_of, shifts_held}
+use Rattle.jxl_frame_header.specs.Frames.{frame_of}
+use Rattle.jxl_frame_header.specs.Passes.{passes_of, shifts_held}
 use Rattle.jxl_lossless.specs.Inner.Coded.{IsMade, MadeFails}
 use Rattle.jxl_lossless.proofs.FrameSections.{sections_are, some_listed}
 use Rattle.jxl_lossless.proofs.Frames.{frame_fails, framed}

@@ -4,7 +4,7 @@ use Rattle.jxlm_base.specs.Bits.{bytes_of, position_of}
 use Rattle.jxlm_base.specs.Grid.{Grid}
 use Rattle.jxlm_base.specs.Regions.{store_meanings}
 use Rattle.jxlm_transform.specs.Channels.{AreGridsOf}
-use Rattle.jxl_headers.specs.Images.{image_of}
+use Rattle.jxl_image_header.specs.Images.{image_of}
 use Rattle.jxl_modular.specs.Image.{grids_given}
 use Rattle.jxl_lossless.specs.Frames.{channels_given}
 use Rattle.jxl_lossless.specs.Inner.Coded.{IsCoded}

@@ -6,9 +6,9 @@ use Rattle.std.proofs.lemmas.List.{with_items_is}
 use Rattle.std.proofs.lemmas.Result.{err_from_is_err_and}
 use Rattle.jxlm_base.specs.Bits.{bytes_of, position_of}
 use Rattle.jxlm_base.specs.Grid.{Grid}
-use Rattle.jxl_headers.specs.Images.{image_of}
-use Rattle.jxl_headers.specs.declared.size.Size.{Size}
-use Rattle.jxl_frames.specs.Frames.{frame_of, has_shifts}
+use Rattle.jxl_image_header.specs.Images.{image_of}
+use Rattle.jxl_image_header.specs.declared.size.Size.{Size}
+use Rattle.jxl_frame_header.specs.Frames.{frame_of, has_shifts}
 use Rattle.jxl_patches.specs.Dictionaries.{patches_of}
 use Rattle.jxl_patches.specs.SavedParts.{slots_of}
 use Rattle.jxl_patches.specs.Slots.{AreOfSize, ArePut}

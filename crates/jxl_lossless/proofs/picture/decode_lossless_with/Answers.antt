@@ -1,5 +1,5 @@
 use Rattle.std.proofs.Common.{Ok}
-use Rattle.jxl_file.specs.Files.{HasCodestream}
+use Rattle.jxl_container.specs.Files.{HasCodestream}
 use Rattle.jxl_lossless.proofs.StreamFailures.{file_fails, of_file}
 use Rattle.jxl_lossless.proofs.picture.decode_lossless_with.Goals as goal
 

@@ -1,8 +1,8 @@
 use Rattle.std.proofs.Common.{◌≡◌, ◌∙◌, ◌+◌, ◌<◌, suc, ◌++◌, ◌∷◌, [], List, length, map, take, drop, get_or, ap, sym, subst, arith}
 use Rattle.std.proofs.lemmas.List.{map_more}
 use Rattle.std.proofs.lemmas.Result.{err_from_is_err_and}
-use Rattle.jxl_headers.specs.Images.{image_of}
-use Rattle.jxl_headers.specs.declared.size.Size.{Size}
+use Rattle.jxl_image_header.specs.Images.{image_of}
+use Rattle.jxl_image_header.specs.declared.size.Size.{Size}
 use Rattle.jxl_front.specs.FrontParts.{frame_at}
 use Rattle.jxl_front.specs.declared.frame.FrameFront.{FrameFront}
 use Rattle.jxl_patches.specs.SavedParts.{slots_of}

@@ -2,7 +2,7 @@ use Rattle.std.specs.Prelude.{pos}
 use Rattle.std.specs.Option.{option_copied}
 use Rattle.std.proofs.Common.{◌≡◌, ◌&&◌, ◌∙◌, ap, refl, sym}
 use Rattle.std.proofs.lemmas.Result.{err_from_is_err_and}
-use Rattle.jxlm_cut.specs.Passes.{passes_of}
+use Rattle.jxlm_groups.specs.Passes.{passes_of}
 use Rattle.jxl_modular.specs.Image.{image_grids}
 use Rattle.jxl_modular.proofs.SectionLaws.{decoded_if_so}
 use Rattle.jxl_modular.proofs.TurnLaws.{leaves, same_both, same_here, stops_at, stops_first, stops_last}

@@ -1,5 +1,5 @@
 use Rattle.std.proofs.Common.{◌≡◌, ◌+◌, length, rules}
-use Rattle.jxl_headers.specs.Images.{image_of}
+use Rattle.jxl_image_header.specs.Images.{image_of}
 use Rattle.jxl_picture.specs.Pictures.{colour_count}
 use Rattle.jxl_picture.proofs.Channels.{have_sides}
 use Rattle.jxl_picture.proofs.format.pam_layers.Goals as goal

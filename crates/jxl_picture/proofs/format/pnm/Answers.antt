@@ -1,5 +1,5 @@
 use Rattle.std.proofs.Common.{◌≡◌, subst, List, sym, rules}
-use Rattle.jxl_headers.specs.Images.{image_of}
+use Rattle.jxl_image_header.specs.Images.{image_of}
 use Rattle.jxl_picture.specs.Formats.{colour_layers}
 use Rattle.jxl_picture.specs.Rasters.{Layer}
 use Rattle.jxl_picture.specs.Inner.Layers.{layers_of}

@@ -1,6 +1,6 @@
 use Rattle.std.proofs.Common.{◌≡◌, ◌∙◌, ap, map, ℤ, List, string_bytes, rules}
 use Rattle.jxlm_base.specs.Grid.{Grid, meanings}
-use Rattle.jxlm_text.specs.Printing.{image_text}
+use Rattle.jxl_text.specs.Printing.{image_text}
 use Rattle.jxl_picture.proofs.Numbers.{own_numbers}
 use Rattle.jxl_picture.proofs.format.text.Goals as goal
 

@@ -1,6 +1,6 @@
 use Rattle.std.proofs.Common.{pos}
 use Rattle.std.specs.Option.{option_copied}
-use Rattle.jxlm_cut.specs.Passes.{passes_of}
+use Rattle.jxlm_groups.specs.Passes.{passes_of}
 use Rattle.jxl_modular.specs.Image.{image_grids}
 use Rattle.jxl_still.proofs.Frames.{whole_decoded}
 use Rattle.jxl_still.proofs.frame.decode_all.Goals as goal

@@ -4,8 +4,8 @@ use Rattle.std.proofs.lemmas.Result.{err_from_is_err_and}
 use Rattle.jxlm_base.specs.Bits.{bytes_of, position_of}
 use Rattle.jxlm_base.specs.ErrorKind.{bitstream_kind}
 use Rattle.jxl_toc.specs.Inner.Entries.{entry_size}
-use Rattle.jxl_headers.proofs.RepeatedLoop.{goes_on, stops}
-use Rattle.jxl_headers.proofs.UnlessMemory.{unless_no_memory}
+use Rattle.jxl_image_header.proofs.RepeatedLoop.{goes_on, stops}
+use Rattle.jxl_image_header.proofs.UnlessMemory.{unless_no_memory}
 use Rattle.jxl_toc.proofs.toc.entry_sizes.Goals as goal
 
 pub returns-in_err-size-clause-gives : goal.returns-in_err-size-clause-gives

@@ -3,8 +3,8 @@ use Rattle.std.proofs.lemmas.Result.{err_from_is_err_and}
 use Rattle.jxlm_base.specs.Bits.{bytes_of, position_of}
 use Rattle.jxlm_base.specs.ErrorKind.{kind_of, UnlessMemory}
 use Rattle.jxlm_base.specs.Grammar.{IsErrorAt, flag}
-use Rattle.jxl_headers.specs.Fields.{when}
-use Rattle.jxl_headers.specs.Reading.{Parses}
+use Rattle.jxl_image_header.specs.Fields.{when}
+use Rattle.jxl_image_header.specs.Reading.{Parses}
 use Rattle.jxl_toc.specs.Orders.{lehmer_code}
 use Rattle.jxl_toc.specs.Tocs.{room}
 use Rattle.jxl_toc.specs.Inner.Entries.{sizes, table_of}

@@ -1,5 +1,5 @@
 use Rattle.std.proofs.Common.{sym, ◌∙◌, inr}
-use Rattle.jxl_headers.specs.Images.{image_of}
+use Rattle.jxl_image_header.specs.Images.{image_of}
 use Rattle.jxldec.proofs.Texts.{chosen_suits}
 use Rattle.jxldec.proofs.run.write_picture.Goals as goal
 

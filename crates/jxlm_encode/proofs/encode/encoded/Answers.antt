@@ -1,7 +1,7 @@
 use Rattle.std.proofs.Common.{ℕ, ◌^◌, ◌<◌, List, map, ◌∙◌, subst}
 use Rattle.std.specs.List.{All}
 use Rattle.jxlm_base.specs.Regions.{store_meanings}
-use Rattle.jxlm_write.specs.Headers.{transform_of}
+use Rattle.jxlm_encode_write.specs.Headers.{transform_of}
 use Rattle.jxlm_encode.specs.Bytes.{AreWritten}
 use Rattle.jxlm_encode.proofs.Formats.{bytes_first}
 use Rattle.jxlm_encode.proofs.encode.encoded.Goals as goal

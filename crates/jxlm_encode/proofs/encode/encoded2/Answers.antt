@@ -1,7 +1,7 @@
 use Rattle.std.proofs.Common.{ℕ, ◌^◌, ◌<◌, List, map, ◌∙◌, subst}
 use Rattle.std.specs.List.{All}
 use Rattle.jxlm_base.specs.Regions.{store_meanings}
-use Rattle.jxlm_write.specs.Headers.{transform_of}
+use Rattle.jxlm_encode_write.specs.Headers.{transform_of}
 use Rattle.jxlm_encode.specs.Bytes.{AreWritten2}
 use Rattle.jxlm_encode.proofs.Formats.{bytes_second}
 use Rattle.jxlm_encode.proofs.encode.encoded2.Goals as goal

@@ -9,14 +9,14 @@ use Rattle.jxlm_chain.specs.Undo.{UndoesAll}
 use Rattle.jxlm_chain.specs.Undoings.{undos_of}
 use Rattle.jxlm_chain.specs.declared.undo.Undoing.{Undoing}
 use Rattle.jxlm_transform.specs.Channels.{Channel, infos}
-use Rattle.jxlm_write.specs.Headers.{transform_of}
+use Rattle.jxlm_encode_write.specs.Headers.{transform_of}
 use Rattle.jxlm_encode.specs.Inner.Listing.{IsNotGiven}
-use Rattle.jxlm_part.specs.Part.{cells_of}
+use Rattle.jxlm_samples.specs.Part.{cells_of}
 use Rattle.jxlm_encode.specs.Encoded.{IsTreeGiven}
 use Rattle.jxlm_encode.specs.Inner.Placing.{ArePlaced}
 use Rattle.jxlm_encode.specs.Inner.Writing.{ChannelsLie, part_at}
-use Rattle.jxlm_redo.specs.Redo.{UndoesNoPalette}
-use Rattle.jxlm_tokens.specs.Tokens.{AreTokensOf}
+use Rattle.jxlm_encode_transform.specs.Redo.{UndoesNoPalette}
+use Rattle.jxlm_encode_tokens.specs.Tokens.{AreTokensOf}
 use Rattle.jxlm_encode.proofs.Encodings.{are_prepared, can_run, channels_lie, each_stands, multipliers, placed_there, runs_no_palette, tree_fails}
 use Rattle.jxlm_encode.proofs.encode.prepared.Goals as goal
 

@@ -1,5 +1,5 @@
 use Rattle.jxlm_plain.specs.declared.plain.PlainDecoder.{PlainDecoder}
-use Rattle.jxlm_part.specs.declared.part.PlacedPart.{PlacedPart}
+use Rattle.jxlm_samples.specs.declared.part.PlacedPart.{PlacedPart}
 use Rattle.jxlm_encode.proofs.Writings.{part_lies}
 use Rattle.jxlm_encode.proofs.encode.tokens_in.Goals as goal
 

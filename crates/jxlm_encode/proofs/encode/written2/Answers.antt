@@ -1,5 +1,5 @@
 use Rattle.std.proofs.Common.{map}
-use Rattle.jxlm_write.specs.Headers.{transform_of}
+use Rattle.jxlm_encode_write.specs.Headers.{transform_of}
 use Rattle.jxlm_encode.proofs.Writings.{all_written2}
 use Rattle.jxlm_encode.proofs.encode.written2.Goals as goal
 

@@ -1,8 +1,8 @@
 use Rattle.std.proofs.Common.{◌+◌, ◌<◌, length, get_or, drop, sym, subst, arith}
 use Rattle.std.specs.Prelude.{◌↔◌, pos}
 use Rattle.std.proofs.lemmas.List.{get_or_default}
-use Rattle.jxlm_write.specs.declared.tree.EncodeNode.{EncodeNode}
-use Rattle.jxlm_write.specs.declared.tree.EncodeNode.TheVariants.{Decision}
+use Rattle.jxlm_encode_write.specs.declared.tree.EncodeNode.{EncodeNode}
+use Rattle.jxlm_encode_write.specs.declared.tree.EncodeNode.TheVariants.{Decision}
 use Rattle.std.proofs.lemmas.Bool.{false≢true}
 use Rattle.jxlm_encode.specs.Inner.Listing.{AreNodesOf, ListsOneTree}
 use Rattle.jxlm_encode.proofs.Listings.{counted_off, left_bound, none_counted, too_many}

@@ -1,5 +1,5 @@
 use Rattle.std.proofs.Common.{◌≡◌, map, take}
-use Rattle.jxlm_write.specs.Headers.{params_of}
+use Rattle.jxlm_encode_write.specs.Headers.{params_of}
 use Rattle.jxlm_encode.proofs.placing.all_params.Given as goal
 
 abbrev pub invariant-loop-step : goal.invariant-loop-step

@@ -1,4 +1,4 @@
-use Rattle.jxlm_write.specs.Headers.{transform_of}
+use Rattle.jxlm_encode_write.specs.Headers.{transform_of}
 use Rattle.jxlm_encode.proofs.Accepted.{refused_one}
 use Rattle.jxlm_encode.proofs.placing.apply_one.Goals as goal
 

@@ -1,5 +1,5 @@
 use Rattle.std.proofs.Common.{map, take}
-use Rattle.jxlm_write.specs.Headers.{transform_of}
+use Rattle.jxlm_encode_write.specs.Headers.{transform_of}
 use Rattle.jxlm_encode.specs.Inner.Placing.{HaveCome}
 use Rattle.jxlm_encode.proofs.placing.placed_by.Given as goal
 

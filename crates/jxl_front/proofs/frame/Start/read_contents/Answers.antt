@@ -1,7 +1,7 @@
 use Rattle.std.proofs.Common.{ap, ◌∙◌}
 use Rattle.jxlm_base.specs.Bits.{bytes_of, position_of}
-use Rattle.jxl_headers.specs.Images.{image_of}
-use Rattle.jxl_frames.specs.Frames.{frame_of}
+use Rattle.jxl_image_header.specs.Images.{image_of}
+use Rattle.jxl_frame_header.specs.Frames.{frame_of}
 use Rattle.jxl_toc.specs.Layouts.{section_count_of}
 use Rattle.jxl_front.proofs.Fronts.{contents_fail, contents_stand}
 use Rattle.jxl_front.proofs.frame.Start.read_contents.Goals as goal

@@ -1,8 +1,8 @@
 use Rattle.std.proofs.Common.{◌≡◌, ◌∙◌, sym, subst, true, false}
 use Rattle.jxlm_base.specs.Bits.{bytes_of, position_of}
-use Rattle.jxl_headers.specs.Images.{image_of}
-use Rattle.jxl_headers.specs.declared.size.Size.{Size}
-use Rattle.jxl_frames.specs.Frames.{frame_of}
+use Rattle.jxl_image_header.specs.Images.{image_of}
+use Rattle.jxl_image_header.specs.declared.size.Size.{Size}
+use Rattle.jxl_frame_header.specs.Frames.{frame_of}
 use Rattle.jxl_picture.specs.Limits.{AllowFrame}
 use Rattle.jxl_front.proofs.Dims.{dim_of}
 use Rattle.jxl_front.proofs.Fronts.{frame_fails, frame_refused, frames_too_large, goes_on, header_stands, plain}

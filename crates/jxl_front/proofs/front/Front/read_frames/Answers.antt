@@ -1,8 +1,8 @@
 use Rattle.std.proofs.Common.{◌≡◌, ◌+◌, ◌++◌, ◌∷◌, [], map, true, false, rules, ap, ◌∙◌, sym, subst}
 use Rattle.std.proofs.lemmas.List.{map-append}
 use Rattle.std.proofs.lemmas.List.Elements.{All-append, All-cons, All-nil}
-use Rattle.jxl_headers.specs.Images.{image_of}
-use Rattle.jxl_frames.specs.Frames.{frame_of, is_saved}
+use Rattle.jxl_image_header.specs.Images.{image_of}
+use Rattle.jxl_frame_header.specs.Frames.{frame_of, is_saved}
 use Rattle.jxl_front.specs.Fronts.{AreBefore, end_of}
 use Rattle.jxl_front.specs.FrontParts.{IsReadyFrame, frame_at}
 use Rattle.jxl_front.proofs.Fronts.{before_more, covers, image_before, low}

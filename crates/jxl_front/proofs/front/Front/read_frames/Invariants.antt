@@ -1,6 +1,6 @@
 use Rattle.std.proofs.Common.{◌≤◌, length, map}
 use Rattle.std.specs.Prelude.{All}
-use Rattle.jxl_headers.specs.Images.{image_of}
+use Rattle.jxl_image_header.specs.Images.{image_of}
 use Rattle.jxl_front.specs.Fronts.{AreBefore}
 use Rattle.jxl_front.specs.FrontParts.{IsReadyFrame, frame_at}
 use Rattle.jxl_front.proofs.front.Front.read_frames.Given as goal

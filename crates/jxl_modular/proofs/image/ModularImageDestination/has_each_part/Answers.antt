@@ -1,5 +1,5 @@
 use Rattle.std.proofs.Common.{◌↔◌, IsTrue, subst}
-use Rattle.jxlm_cut.specs.PartSets.{HoldsEach}
+use Rattle.jxlm_groups.specs.PartSets.{HoldsEach}
 use Rattle.jxl_modular.specs.Image.{coded_list}
 use Rattle.jxl_modular.proofs.image.ModularImageDestination.has_each_part.Goals as goal
 

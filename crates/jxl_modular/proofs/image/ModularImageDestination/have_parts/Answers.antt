@@ -1,5 +1,5 @@
 use Rattle.std.proofs.Common.{◌≡◌, Bool, true, false}
-use Rattle.jxlm_cut.specs.Counts.{exists}
+use Rattle.jxlm_groups.specs.Counts.{exists}
 use Rattle.jxl_modular.specs.Image.{coded_list}
 use Rattle.jxl_modular.proofs.SectionParts.{each_more, holds_more, not_unlike, of_each, unlike_more}
 use Rattle.jxl_modular.proofs.image.ModularImageDestination.have_parts.Goals as goal

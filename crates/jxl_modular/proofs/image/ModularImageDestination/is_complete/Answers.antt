@@ -1,4 +1,4 @@
-use Rattle.jxlm_cut.proofs.PartChannels.{counts_cells}
+use Rattle.jxlm_groups.proofs.PartChannels.{counts_cells}
 use Rattle.jxl_modular.specs.Image.{coded_list}
 use Rattle.jxl_modular.proofs.image.ModularImageDestination.is_complete.Goals as goal
 

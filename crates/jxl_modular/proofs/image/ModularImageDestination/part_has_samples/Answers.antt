@@ -1,4 +1,4 @@
-use Rattle.jxlm_cut.proofs.PartChannels.{counts_cells}
+use Rattle.jxlm_groups.proofs.PartChannels.{counts_cells}
 use Rattle.jxlm_transform.specs.Lists.{list_of}
 use Rattle.jxl_modular.proofs.image.ModularImageDestination.part_has_samples.Goals as goal
 

@@ -1,7 +1,7 @@
 use Rattle.std.proofs.Common.{◌≡◌, ◌∙◌, ℕ, IsTrue, sym, ap, subst}
-use Rattle.jxlm_cut.specs.Areas.{AreOfPicture, picture_of}
+use Rattle.jxlm_groups.specs.Areas.{AreOfPicture, picture_of}
 use Rattle.jxlm_transform.specs.Lists.{list_of}
-use Rattle.jxlm_cut.specs.Passes.{can_group, passes_of}
+use Rattle.jxlm_groups.specs.Passes.{can_group, passes_of}
 use Rattle.jxl_modular.proofs.PictureAreas.{of_image}
 use Rattle.jxl_modular.proofs.image.ModularImageDestination.parts.Goals as goal
 

@@ -1,5 +1,5 @@
 use Rattle.std.proofs.Common.{rules, false}
-use Rattle.jxl_headers.specs.Images.{image_of}
+use Rattle.jxl_image_header.specs.Images.{image_of}
 use Rattle.jxl_picture.proofs.Channels.{tells_whole}
 use Rattle.jxl_picture.proofs.picture.Picture.is_whole.Goals as goal
 

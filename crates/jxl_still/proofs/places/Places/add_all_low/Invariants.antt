@@ -1,5 +1,5 @@
 use Rattle.jxl_modular.specs.GroupParts.{image_of, passes_in}
-use Rattle.jxlm_sections.specs.CutPicture.{lf_groups}
+use Rattle.jxlm_section_split.specs.CutPicture.{lf_groups}
 use Rattle.jxl_still.specs.Inner.Parts.{with_samples}
 use Rattle.jxl_still.specs.Inner.Listing.{AreAdded}
 use Rattle.jxl_still.proofs.places.Places.add_all_low.Given as goal

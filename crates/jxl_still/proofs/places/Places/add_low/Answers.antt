@@ -1,4 +1,4 @@
-use Rattle.jxlm_cut.specs.declared.part.SectionPart.TheVariants as parts
+use Rattle.jxlm_groups.specs.declared.part.SectionPart.TheVariants as parts
 use Rattle.jxl_still.proofs.Adding.{lacks_one}
 use Rattle.jxl_still.proofs.places.Places.add_low.Goals as goal
 

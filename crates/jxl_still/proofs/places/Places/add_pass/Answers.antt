@@ -1,11 +1,11 @@
 use Rattle.std.proofs.Common.{◌≡◌, ℕ, ◌∷◌, [], ◌<◌, true, false, nat_lt, refl, rules}
-use Rattle.jxlm_cut.specs.declared.part.SectionPart.{SectionPart}
-use Rattle.jxlm_cut.specs.declared.part.Kind.TheVariants as kinds
-use Rattle.jxlm_cut.specs.declared.part.SectionPart.TheVariants as parts
-use Rattle.jxlm_part.specs.Part.{cell_count}
+use Rattle.jxlm_groups.specs.declared.part.SectionPart.{SectionPart}
+use Rattle.jxlm_groups.specs.declared.part.Kind.TheVariants as kinds
+use Rattle.jxlm_groups.specs.declared.part.SectionPart.TheVariants as parts
+use Rattle.jxlm_samples.specs.Part.{cell_count}
 use Rattle.jxl_modular.specs.Groups.{channels_in}
 use Rattle.jxl_modular.specs.GroupParts.{groups_of, image_of, passes_in}
-use Rattle.jxlm_sections.proofs.SectionRows.{has_none, has_some, passed_over, taken}
+use Rattle.jxlm_section_split.proofs.SectionRows.{has_none, has_some, passed_over, taken}
 use Rattle.jxl_still.specs.Inner.Parts.{first_of_pass}
 use Rattle.jxl_still.specs.Inner.Listing.{AddingFails}
 use Rattle.jxl_still.proofs.Adding.{added_then, among_first, fails_among, none_added}

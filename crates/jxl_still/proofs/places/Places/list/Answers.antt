@@ -1,5 +1,5 @@
 use Rattle.std.proofs.Common.{◌≡◌, ◌∷◌, [], false, refl, rules}
-use Rattle.jxlm_cut.specs.declared.part.SectionPart.TheVariants as parts
+use Rattle.jxlm_groups.specs.declared.part.SectionPart.TheVariants as parts
 use Rattle.jxl_modular.specs.GroupParts.{image_of, passes_in}
 use Rattle.jxl_modular.specs.declared.sections.Section.{Section}
 use Rattle.jxl_still.specs.Inner.Listing.{ListingFails}

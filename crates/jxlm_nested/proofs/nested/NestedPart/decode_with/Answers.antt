@@ -1,10 +1,10 @@
 use Rattle.std.proofs.Common.{rules, ◌≡◌, ◌<◌, List, ◌++◌, take, drop, length, sym, ap, ◌∙◌, subst, arith}
 use Rattle.std.proofs.lemmas.Grind.{common_steps}
 use Rattle.jxlm_base.specs.Bits.{bytes_of, position_of}
-use Rattle.jxlm_part.specs.Part.{cell_count}
+use Rattle.jxlm_samples.specs.Part.{cell_count}
 use Rattle.jxlm_transform.specs.Channels.{infos}
 use Rattle.jxlm_transform.specs.declared.channels.PlacedChannel.{PlacedChannel}
-use Rattle.jxlm_part.proofs.PartAnswers.{answers_empty}
+use Rattle.jxlm_samples.proofs.PartAnswers.{answers_empty}
 use Rattle.jxlm_nested.specs.NestedParts.{head_of, regions_in}
 use Rattle.jxlm_nested.specs.Starts.{coded_part}
 use Rattle.jxlm_nested.proofs.PartFacts.{refilled}

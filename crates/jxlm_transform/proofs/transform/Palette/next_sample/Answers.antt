@@ -1,7 +1,7 @@
 use Rattle.std.proofs.Common.{◌≡◌, sym, ◌++◌, ◌∷◌, [], subst, rules, arith, w32, w64}
 use Rattle.std.proofs.lemmas.Int.{to_z-of_z}
-use Rattle.jxlm_tree.specs.Holding.{state_of}
-use Rattle.jxlm_tree.specs.Standing.{HasSameRoom, StandsAt}
+use Rattle.jxlm_predictor.specs.Holding.{state_of}
+use Rattle.jxlm_predictor.specs.Standing.{HasSameRoom, StandsAt}
 use Rattle.jxlm_transform.proofs.transform.Palette.next_sample.Goals as goal
 
 pub returns-clause-value : goal.returns-clause-value

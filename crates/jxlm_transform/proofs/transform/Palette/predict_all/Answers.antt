@@ -1,7 +1,7 @@
 use Rattle.std.proofs.Common.{◌≡◌, ◌+◌, ◌-◌, ◌^◌, ◌≤◌, [], ◌∷◌, length, refl, sym, ◌∙◌, subst, arith}
 use Rattle.jxlm_base.specs.Regions.{grid_of, store_meanings}
 use Rattle.jxlm_base.specs.Outside.{KeepsOutside}
-use Rattle.jxlm_tree.specs.Standing.{StandsAt, setting}
+use Rattle.jxlm_predictor.specs.Standing.{StandsAt, setting}
 use Rattle.jxlm_transform.specs.Palette.{finished_channel}
 use Rattle.jxlm_transform.specs.Inner.PaletteSteps.{ChannelLies, ChannelsDone, index_in, table_in}
 use Rattle.jxlm_transform.proofs.PaletteChannels.{channel_lies, none_done, one_done}

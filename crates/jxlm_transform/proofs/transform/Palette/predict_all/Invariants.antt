@@ -1,5 +1,5 @@
 use Rattle.std.proofs.Common.{◌-◌, length}
-use Rattle.jxlm_tree.specs.Standing.{HasSameRoom}
+use Rattle.jxlm_predictor.specs.Standing.{HasSameRoom}
 use Rattle.jxlm_transform.specs.Inner.PaletteSteps.{ChannelsDone}
 use Rattle.jxlm_transform.proofs.transform.Palette.predict_all.Given as goal
 

@@ -3,8 +3,8 @@ use Rattle.std.specs.Prelude.{if◌then◌else◌}
 use Rattle.std.specs.Int.{int_wrap}
 use Rattle.std.proofs.lemmas.Int.{to_z-of_z, fits_signed_from_abs}
 use Rattle.jxlm_base.specs.Regions.{store_meanings}
-use Rattle.jxlm_tree.specs.Standing.{StandsAt, setting}
-use Rattle.jxlm_tree.specs.Predictions.{prediction}
+use Rattle.jxlm_predictor.specs.Standing.{StandsAt, setting}
+use Rattle.jxlm_predictor.specs.Predictions.{prediction}
 use Rattle.jxlm_transform.specs.Palette.{colour_of, finished_sample, is_delta}
 use Rattle.jxlm_transform.specs.Inner.PaletteSteps.{table_in}
 use Rattle.jxlm_transform.proofs.PaletteSteps.{finished_is, is_ready}

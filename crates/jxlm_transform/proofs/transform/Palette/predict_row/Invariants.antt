@@ -1,7 +1,7 @@
 use Rattle.std.proofs.Common.{◌+◌, ◌*◌, [], ◌∷◌}
 use Rattle.jxlm_base.specs.Regions.{store_meanings}
 use Rattle.jxlm_base.specs.Outside.{KeepsOutside}
-use Rattle.jxlm_tree.specs.Standing.{HasSameRoom}
+use Rattle.jxlm_predictor.specs.Standing.{HasSameRoom}
 use Rattle.jxlm_transform.specs.Inner.PaletteSteps.{FillsOnBy, StandsBefore}
 use Rattle.jxlm_transform.proofs.transform.Palette.predict_row.Given as goal
 

@@ -2,7 +2,7 @@ use Rattle.std.proofs.Common.{◌≡◌, ap, ◌∙◌, ◌++◌, ◌∷◌, [],
 use Rattle.std.specs.Prelude.{if◌then◌else◌}
 use Rattle.std.specs.Int.{int_wrap}
 use Rattle.std.proofs.lemmas.Int.{to_z-of_z}
-use Rattle.jxlm_tree.specs.Standing.{StandsAt}
+use Rattle.jxlm_predictor.specs.Standing.{StandsAt}
 use Rattle.jxlm_transform.specs.Palette.{is_delta}
 use Rattle.jxlm_transform.proofs.transform.Palette.sampled.Goals as goal
 

@@ -1,0 +1,79 @@
+//! Checks rows of tables of JPEG XL files, of decoders of entropy codes and of commands, which come on standard input: each
+//! says what is asked, and what is expected of it. A line that begins with # says what the rows after it are.
+#![tactic(auto)]
+
+mod answers;
+mod command;
+mod damaged;
+mod files;
+mod frames;
+mod images;
+mod names;
+mod pictures;
+mod printing;
+mod streams;
+mod told;
+mod words;
+mod writing;
+
+use check_rows::Row;
+use std::alloc::Global;
+use std::io;
+
+/// What comes of a row of a file, or of a decoder of entropy codes.
+fn seen_of_files(alloc: Global, row: &Row<'_>) -> Option<String> {
+    match row.kind {
+        "file" => files::seen(alloc, row.asked),
+        "cuts" => files::seen_of_cuts(alloc, row.asked),
+        "written" => writing::seen(alloc, row.asked),
+        "info" => told::seen(alloc, row.asked),
+        "image" => images::seen(alloc, row.asked),
+        "frame" => frames::seen(alloc, row.asked),
+        "entropy" => answers::seen(alloc, row.asked, row.expected.starts_with('#')),
+        "entropy_cuts" => damaged::seen_of_cuts(alloc, row.asked),
+        "damaged" => damaged::sum_of_damaged(alloc, row.asked),
+        "decoded" => pictures::seen(alloc, row.asked),
+        "sections" => pictures::seen_of_sections(alloc, row.asked),
+        "beginnings" => pictures::seen_of_beginnings(alloc, row.asked),
+        _ => None,
+    }
+}
+
+/// What comes of a row of a command.
+fn seen_of_commands(alloc: Global, row: &Row<'_>) -> Option<String> {
+    match row.kind {
+        "run" => command::seen(alloc, row.asked),
+        "text" => command::seen_of_text(alloc, row.asked),
+        "broken" => command::seen_of_broken_input(alloc, row.asked),
+        "room" => command::seen_of_full_output(alloc, row.asked, true),
+        "stuck" => command::seen_of_full_output(alloc, row.asked, false),
+        "report" => command::seen_of_report(alloc, row.asked),
+        "number" => words::seen_of_number(alloc, row.asked),
+        "words" => words::seen(alloc, row.asked),
+        "print" => printing::seen(alloc, row.asked),
+        _ => None,
+    }
+}
+
+/// What comes of a row, by its kind; none where the row cannot be read.
+fn seen(alloc: Global, row: &Row<'_>) -> Option<String> {
+    if let Some(seen) = seen_of_files(alloc, row) {
+        return Some(seen);
+    }
+    seen_of_commands(alloc, row)
+}
+
+fn main(rt: HostRuntime) -> io::Result<()> {
+    let mut rows = 0u64;
+    for line in rt.lines(rt.alloc()) {
+        let line = line?;
+        let Some(row) = Row::parse(line.as_str()) else {
+            continue;
+        };
+        if let Some(seen) = row.fault(rt.alloc(), seen(rt.alloc(), &row))? {
+            println!(rt; "wrong: {line}\n  seen: {seen}")?;
+        }
+        rows = rows.saturating_add(1);
+    }
+    println!(rt; "{rows} rows")
+}

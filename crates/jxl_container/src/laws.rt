@@ -1,0 +1,11 @@
+//! Laws of files, each the contract of a function that does nothing.
+
+ghost use Rattle.std.specs.Prelude.{◌≡◌, ℕ, List, Result};
+ghost use Rattle.jxl_container.specs.Files.{HasCodestream};
+ghost use Rattle.jxl_container.specs.declared.error.FileError.{FileError};
+
+/// A file has one codestream, or one reason why it has none: the boxes up to a place are the only ones.
+pub fn each_file_has_one_codestream()
+    ensures { (bytes : List ℕ) (r s : Result (List ℕ) FileError) → HasCodestream bytes r → HasCodestream bytes s
+        → r ≡ s }
+{}

@@ -1,5 +1,0 @@
-use Rattle.jxl_file.proofs.FileLaws.{one_codestream}
-use Rattle.jxl_file.proofs.laws.each_file_has_one_codestream.Goals as goal
-
-pub returns : goal.returns
-returns c = one_codestream

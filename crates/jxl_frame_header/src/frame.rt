@@ -1,0 +1,196 @@
+//! The frame header.
+
+ghost use Rattle.std.specs.Prelude.{◌≡◌, ◌<◌, ◌*◌, ◌==◌, not, [], IfOk, if◌then◌else◌, Some, None};
+ghost use Rattle.std.specs.List.{list_any};
+ghost use Rattle.jxlm_base.specs.Bits.{bytes_of, position_of};
+ghost use Rattle.jxlm_base.specs.Grammar.{repeated};
+ghost use Rattle.jxl_image_header.specs.Fields.{when};
+ghost use Rattle.jxl_image_header.specs.Images.{image_of};
+ghost use Rattle.jxl_image_header.specs.Reading.{Parses};
+ghost use Rattle.jxl_frame_header.specs.Passes.{IsPassCount};
+ghost use Rattle.jxl_frame_header.specs.Codings.{factor};
+ghost use Rattle.jxl_frame_header.specs.Frames.{frame_of, frame_header, has_shifts as the_has_shifts, frame_refusal, is_saved as the_is_saved, frame_size};
+ghost use Rattle.jxl_frame_header.specs.declared.refusal.Refusal.TheVariants as refusals;
+
+use crate::blending::{Blending, BlendingInfo, Ending, read_infos_if};
+use crate::coding::Coding;
+use crate::filter::RestorationFilter;
+use crate::passes::{Passes, factors};
+use crate::place::{Crop, Place, lf_level};
+use crate::refusal::Refusal;
+use jxl_image_header::fields::{extensions_if, name_if, number_if, told_if};
+use jxl_image_header::image::ImageHeader;
+use jxl_image_header::size::Size;
+use jxlm_base::bits::Bitstream;
+use jxlm_base::error::Result;
+use std::alloc::Global;
+
+/// What stands at the end of a frame header.
+#[derive(Clone, Copy)]
+pub struct Closing {
+    /// How many bytes the frame's name has, at most 1071; they are passed.
+    pub name_bytes: u32,
+    pub filter: RestorationFilter,
+    /// A bit for each extension that there is; what they hold is passed.
+    pub extensions: u64,
+}
+
+/// What is told of a frame before its sections.
+#[derive(Drop)]
+pub struct FrameHeader {
+    pub coding: Coding,
+    /// Of each extra channel, the frame's sides by this: 1, 2, 4 or 8, and further by the channel's own shift; none
+    /// where the header says nothing, or low frequencies are those of another frame.
+    pub ec_upsampling: Vec<u32>,
+    /// The side of a group: 128, 256, 512 or 1024.
+    pub group_dim: u32,
+    pub passes: Passes,
+    pub place: Place,
+    pub blending: Blending,
+    pub ending: Ending,
+    pub closing: Closing,
+}
+
+// How much smaller than the picture each extra channel is coded, where that is told.
+fn factors_if(
+    alloc: Global,
+    bits: &mut Bitstream<'_>,
+    there: bool,
+    extra: usize,
+) -> Result<Vec<u32>>
+    ensures gives { Parses (λ v. v.items) result (position_of bits.new)
+        ((when there (repeated extra factor) []).read (bytes_of bits.old) (position_of bits.old)) }
+    ensures bytes { bytes_of bits.new ≡ bytes_of bits.old }
+{
+    if there {
+        factors(alloc, bits, extra)
+    } else {
+        Ok(Vec::new(alloc))
+    }
+}
+
+// Whether an extra channel is coded smaller than the picture.
+fn is_scaled(factors: &[u32]) -> bool
+    ensures { result ≡ list_any (λ f. not (f == 1)) factors.now }
+{
+    factors.iter().any(|factor| *factor != 1)
+}
+
+fn factors_refused(factors: &[u32]) -> Option<Refusal>
+    ensures { result ≡ (if list_any (λ f. not (f == 1)) factors.now then Some refusals.ExtraUpsampling else None) }
+{
+    if is_scaled(factors) {
+        Some(Refusal::ExtraUpsampling)
+    } else {
+        None
+    }
+}
+
+// Whether samples of colours are floats.
+fn has_floats(image: &ImageHeader) -> bool
+    ensures { result ≡ not (image.now.samples.depth.exponent_bits == 0) }
+{
+    image.samples.depth.exponent_bits != 0
+}
+
+// Whether an extra channel has a size of its own.
+fn has_shifts(image: &ImageHeader) -> bool
+    ensures { result ≡ the_has_shifts (image_of image.now) }
+{
+    image.extra.iter().any(|channel| channel.shift != 0)
+}
+
+impl FrameHeader {
+    /// The header of a frame of this image that stands at the reader's position, which is the start of a byte. What is
+    /// not supported is read too, and `refused` names it. The reader is left where the table of contents begins.
+    ///
+    /// # Errors
+    ///
+    /// The first in the order of the bits: `UnexpectedEof` if the input is truncated, and `InvalidEnum` for
+    /// passes that do not fit ([`Passes::parse`]), and for a mode of blending or an alpha channel that there is not.
+    /// `Buffer` if it is out of memory, at extra channels or passes.
+    #[tactic(auto, unfolding(crate::specs::Frames::frame_header))]
+    pub fn parse(
+        alloc: Global,
+        bits: &mut Bitstream<'_>,
+        image: &ImageHeader,
+    ) -> Result<FrameHeader>
+        ensures gives { Parses frame_of result (position_of bits.new)
+            ((frame_header (image_of image.now)).read (bytes_of bits.old) (position_of bits.old)) }
+        ensures dim { IfOk result (λ h. 0 < h.group_dim) }
+        ensures counted { IfOk result (λ h. IsPassCount h.passes.count) }
+        ensures bytes { bytes_of bits.new ≡ bytes_of bits.old }
+    {
+        let xyb = image.shown.xyb;
+        let extra = image.extra.len();
+        let told = told_if(bits, true)?;
+        let coding = Coding::parse(bits, told, xyb)?;
+        let frame_type = coding.frame_type;
+        let modular = coding.encoding.is_modular();
+        let ec_upsampling = factors_if(alloc, bits, told & !coding.flags.use_lf_frame, extra)?;
+        let shift = number_if(bits, modular, 2, 1)?;
+        number_if(bits, told & !modular & xyb, 6, 0)?;
+        let passes = Passes::parse(alloc, bits, told & !frame_type.is_reference())?;
+        let lf_level = lf_level(bits, frame_type.is_lf())?;
+        let crop = Crop::told_if(
+            bits,
+            told & !frame_type.is_lf(),
+            image.size,
+            frame_type.is_shown(),
+        )?;
+        let place = Place { lf_level, crop };
+        let partial = place.is_partial();
+        let shown = told & frame_type.is_shown();
+        let colours = BlendingInfo::parse_if(bits, shown, extra, partial)?;
+        let others = read_infos_if(alloc, bits, shown, extra, partial)?;
+        let replaces = colours.replaces() & !partial;
+        let ending = Ending::parse(bits, shown, image.display.animation, frame_type, replaces)?;
+        let name_bytes = name_if(bits, told)?;
+        let filter = RestorationFilter::parse(bits, told, modular)?;
+        let extensions = extensions_if(bits, told)?;
+        Ok(FrameHeader {
+            coding,
+            ec_upsampling,
+            group_dim: 128 << shift,
+            passes,
+            place,
+            blending: Blending {
+                colours,
+                extra: others,
+            },
+            ending,
+            closing: Closing {
+                name_bytes,
+                filter,
+                extensions,
+            },
+        })
+    }
+
+    /// What the frame of this image has that is not supported: the first in the order of the bits, or none.
+    pub fn refused(&self, image: &ImageHeader) -> Option<Refusal>
+        ensures { result ≡ frame_refusal (image_of image.now) (frame_of self.now) }
+    {
+        self.coding
+            .refused(has_floats(image), has_shifts(image))
+            .or(factors_refused(&self.ec_upsampling))
+            .or(self.place.refused(self.coding.frame_type))
+            .or(self.blending.refused())
+            .or(self.ending.refused(self.coding.frame_type))
+            .or(self.closing.filter.refused())
+    }
+
+    /// Whether the frame is not shown, but saved for those after it.
+    pub fn is_saved(&self) -> bool
+        ensures { result ≡ the_is_saved (frame_of self.now) }
+    {
+        self.coding.frame_type.is_reference()
+    }
+
+    /// The sides of the frame, in a picture of this size.
+    pub fn size(&self, picture: Size) -> Size
+        ensures { result ≡ frame_size picture (frame_of self.now) }
+    {
+        self.place.size(picture)
+    }
+}

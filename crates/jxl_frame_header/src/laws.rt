@@ -1,0 +1,10 @@
+//! Laws of frame headers, each the contract of a function that does nothing.
+
+ghost use Rattle.jxlm_base.specs.Grammar.{IsExact};
+ghost use Rattle.jxl_image_header.specs.Images.{Image};
+ghost use Rattle.jxl_frame_header.specs.Frames.{frame_header};
+
+/// What is read as a frame header of an image stands there, and what stands there is read.
+pub fn frame_headers_are_read_exactly()
+    ensures { (image : Image) → IsExact (frame_header image) }
+{}

@@ -1,6 +1,0 @@
-use Rattle.jxlm_base.specs.Bits.{bytes_of, position_of}
-use Rattle.jxl_headers.proofs.FieldRanges.{at_most}
-use Rattle.jxl_headers.proofs.fields.field.Goals as goal
-
-pub returns-clause-maximum : goal.returns-clause-maximum
-returns-clause-maximum c = at_most _ _ _ _ (bytes_of c.args.bits.now) (position_of c.args.bits.now) _ _ c.read_u32.ensures.gives

@@ -1,6 +1,0 @@
-use Rattle.std.proofs.Common.{◌≡◌, drop}
-use Rattle.jxl_headers.specs.Images.{channels_refusal}
-use Rattle.jxl_headers.proofs.image.channels_refusal.Given as goal
-
-abbrev pub invariant-loop-channel : goal.invariant-loop-channel
-invariant-loop-channel l = channels_refusal (drop l.channel-index l.channels) ≡ channels_refusal l.channels

@@ -1,5 +1,0 @@
-use Rattle.jxl_headers.proofs.HeaderLaws.{exact-long, exact-extensions, exact-name, exact-aligned, exact-depth, exact-channel, exact-colours}
-use Rattle.jxl_headers.proofs.laws.header_fields_are_read_exactly.Goals as goal
-
-pub returns : goal.returns
-returns c = record { long = exact-long; extensions = exact-extensions; name = exact-name; aligned = exact-aligned; depth = exact-depth; channel = exact-channel; colours = exact-colours }

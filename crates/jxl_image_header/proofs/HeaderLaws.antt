@@ -1,0 +1,190 @@
+-- Headers are read exactly: what is read stands there, and what stands there is read.
+use Rattle.std.proofs.Common.{◌≡◌, ℕ, zero, suc, ◌+◌, ◌*◌, ◌/◌, ◌%◌, Bool, true, false, List, [], Ok, Err, Some, None, Result, refl, ap, sym}
+use Rattle.std.specs.Prelude.{◌-◌, nat_lt, nat_le, codes, ◌==◌, ◌&&◌, ◌||◌, not, count_ones, sum}
+use Rattle.jxlm_base.specs.Decoding.{Found}
+use Rattle.jxlm_base.specs.ErrorKind.{ErrorAt, BadEnum}
+use Rattle.jxlm_base.specs.Grammar.{Grammar, IsExact, give, fail, ◌>>=◌}
+use Rattle.jxlm_base.specs.declared.bits.U32Spec.TheVariants.{Const, Offset}
+use Rattle.jxlm_base.proofs.GrammarLaws.{exact-give, exact-fail, exact-number, exact-bind, exact-either, exact-repeated, exact-flag, exact-part, exact-u32}
+use Rattle.jxl_image_header.specs.Fields.{groups, long, when, optional, told_if, enumerated, meant, checked, skipped, extensions, name, here, aligned}
+use Rattle.jxl_image_header.specs.Sizes.{side, size, width_at}
+use Rattle.jxl_image_header.specs.Channels.{fits_float, bit_depth, extra_channel}
+use Rattle.jxl_image_header.specs.Colours.{coordinate, chromaticity, primary_colours, white, basis, transfer, colour_encoding, tone_mapping}
+use Rattle.jxl_image_header.specs.Images.{animation, matrices, image_header}
+
+pub bind : {X Y : Type 0} {field : Grammar X} {next : X → Grammar Y} → IsExact field → ((x : X) → IsExact (next x)) → IsExact (field >>= next)
+bind {field} {next} first rest = exact-bind field next first rest
+
+pub found_same : {X : Type 0} (a b : Found X) → ◌≡◌ {A = Result (Found X) ErrorAt} (Ok a) (Ok b) → a ≡ b
+found_same a b e = cc
+
+pub none_found : {X : Type 0} (e : ErrorAt) (found : Found X) → ◌≡◌ {A = Result (Found X) ErrorAt} (Err e) (Ok found) → ⊥
+none_found e found same = cc
+
+pub exact-when : {X : Type 0} {field : Grammar X} (there : Bool) (usual : X) → IsExact field → IsExact (when there field usual)
+exact-when {field} there usual exact = exact-either there field (give usual) exact (exact-give usual)
+
+pub exact-optional : {X : Type 0} {field : Grammar X} → IsExact field → IsExact (optional field)
+exact-optional exact = bind exact-flag λ there. exact-when there None (bind exact λ v. exact-give (Some v))
+
+pub exact-told_if : (there : Bool) → IsExact (told_if there)
+exact-told_if there = exact-when there false (bind exact-flag λ all_default. exact-give (not all_default))
+
+pub exact-skipped : (n : ℕ) → IsExact (skipped n)
+exact-skipped n = bind (exact-number (8 * n)) λ v. exact-give tt
+
+pub exact-here : IsExact here
+exact-here = record {
+  read_stands = λ bytes p found e. let same = found_same (record { value = p; position = p }) found e in (ap (λ f. f.value) (sym same), ap (λ f. f.position) (sym same));
+  stands_read = λ bytes p y q s. rw (s.0, s.1) refl;
+}
+
+pub exact-meant : (text : List ℕ) (means : Bool) (v : ℕ) → IsExact (meant text means v)
+exact-meant text means v = exact-either means (give v) (fail (BadEnum text v)) (exact-give v) (exact-fail (BadEnum text v))
+
+pub exact-checked : {field : Grammar ℕ} (text : List ℕ) (holds : ℕ → Bool) → IsExact field → IsExact (checked text holds field)
+exact-checked text holds exact = bind exact λ v. exact-meant text (holds v) v
+
+pub exact-aligned : IsExact aligned
+unfolding aligned
+exact-aligned = bind exact-here λ p. exact-checked (codes "padding") (λ v. v == 0) (exact-number ((8 - p % 8) % 8))
+
+exact-groups : (n : ℕ) → IsExact (groups n)
+unfolding groups
+exact-groups zero = bind exact-flag λ more. exact-either more _ _ (exact-number 4) (exact-give 0)
+exact-groups (suc n) = bind exact-flag λ more. exact-either more _ _ (bind (exact-number 8) λ v. bind (exact-groups n) λ rest. exact-give (v + 256 * rest)) (exact-give 0)
+
+pub exact-long : IsExact long
+unfolding long
+exact-long =
+    bind (exact-number 2) λ s. exact-either (s == 0) _ _ (exact-give 0) (exact-either (s == 1) _ _ (exact-part (Offset 1 4))
+    (exact-either (s == 2) _ _ (exact-part (Offset 17 8)) (bind (exact-number 12) λ v. bind (exact-groups 6) λ rest. exact-give (v + 4096 * rest))))
+
+pub exact-extensions : IsExact extensions
+unfolding extensions
+exact-extensions =
+    bind exact-long λ mask. bind (exact-repeated (count_ones mask) long exact-long) λ sizes. bind (exact-number (sum sizes)) λ v. exact-give mask
+
+exact-enumerated : IsExact enumerated
+unfolding enumerated
+exact-enumerated = exact-u32 (Const 0) (Const 1) (Offset 2 4) (Offset 18 6)
+
+-- a number of an enumeration that means something
+exact-told : (text : List ℕ) (means : ℕ → Bool) → IsExact (checked text means enumerated)
+exact-told text means = exact-checked text means exact-enumerated
+
+pub exact-name : IsExact name
+unfolding name
+exact-name = bind (exact-u32 (Const 0) (Offset 0 4) (Offset 16 5) (Offset 48 10)) λ n. bind (exact-skipped n) λ u. exact-give n
+
+exact-side : (preview short : Bool) → IsExact (side preview short)
+unfolding side
+exact-side preview short =
+    exact-either preview _ _
+    (exact-either short _ _ (bind (exact-u32 (Const 16) (Const 32) (Offset 1 5) (Offset 33 9)) λ v. exact-give (8 * v)) (exact-u32 (Offset 1 6) (Offset 65 8) (Offset 321 10) (Offset 1345 12)))
+    (exact-either short _ _ (bind (exact-number 5) λ v. exact-give (8 * (v + 1))) (exact-u32 (Offset 1 9) (Offset 1 13) (Offset 1 18) (Offset 1 30)))
+
+exact-size : (preview : Bool) → IsExact (size preview)
+unfolding size
+exact-size preview =
+    bind exact-flag λ short. bind (exact-side preview short) λ h. bind (exact-number 3) λ ratio.
+    bind (exact-either (ratio == 0) _ _ (exact-side preview short) (exact-give (width_at ratio h))) λ w. exact-give (record { width = w; height = h })
+
+pub exact-depth : IsExact bit_depth
+unfolding bit_depth
+exact-depth =
+    bind exact-flag λ float.
+    bind (exact-either float _ _ (exact-u32 (Const 32) (Const 16) (Const 24) (Offset 1 6))
+    (exact-checked (codes "bits_per_sample") (λ n. nat_lt n 32) (exact-u32 (Const 8) (Const 10) (Const 12) (Offset 1 6)))) λ bits.
+    bind (exact-when float 0 (exact-checked (codes "exponent_bits") (fits_float bits) (exact-part (Offset 1 4)))) λ e.
+    exact-give (record { bits = bits; exponent_bits = e })
+
+pub exact-channel : IsExact extra_channel
+unfolding extra_channel
+exact-channel =
+    bind (exact-told_if true) λ told. bind (exact-when told 0 (exact-told (codes "ExtraChannelType") (λ v. nat_lt v 7 || (v == 15) || (v == 16)))) λ kind.
+    bind (exact-when told (record { bits = 8; exponent_bits = 0 }) exact-depth) λ depth.
+    bind (exact-when told 0 (exact-u32 (Const 0) (Const 3) (Const 4) (Offset 1 3))) λ shift. bind (exact-when told 0 exact-name) λ n.
+    bind (exact-when (told && (kind == 0)) false exact-flag) λ p. bind (exact-when (kind == 2) tt (exact-skipped 8)) λ u.
+    bind (exact-when (kind == 5) 0 (exact-u32 (Const 1) (Offset 0 2) (Offset 3 4) (Offset 19 8))) λ v.
+    exact-give (record { kind = kind; depth = depth; shift = shift; name_bytes = n; premultiplied = p })
+
+exact-coordinate : (there : Bool) → IsExact (coordinate there)
+unfolding coordinate
+exact-coordinate there = exact-when there 0 (exact-u32 (Offset 0 19) (Offset 524288 19) (Offset 1048576 20) (Offset 2097152 21))
+
+exact-chromaticity : (there : Bool) → IsExact (chromaticity there)
+unfolding chromaticity
+exact-chromaticity there = bind (exact-coordinate there) λ x. bind (exact-coordinate there) λ y. exact-give (record { x = x; y = y })
+
+exact-primaries : (there : Bool) → IsExact (primary_colours there)
+unfolding primary_colours
+exact-primaries there =
+    bind (exact-chromaticity there) λ r. bind (exact-chromaticity there) λ g. bind (exact-chromaticity there) λ b. exact-give (record { red = r; green = g; blue = b })
+
+exact-white : (there : Bool) → IsExact (white there)
+unfolding white
+exact-white there =
+    bind (exact-when there 1 (exact-told (codes "WhitePoint") (λ v. (v == 1) || (v == 2) || (v == 10) || (v == 11)))) λ n. bind (exact-chromaticity (n == 2)) λ own.
+    exact-give (record { number = n; own = own })
+
+exact-basis : (there : Bool) → IsExact (basis there)
+unfolding basis
+exact-basis there =
+    bind (exact-when there 1 (exact-told (codes "Primaries") (λ v. (v == 1) || (v == 2) || (v == 9) || (v == 11)))) λ n. bind (exact-primaries (n == 2)) λ own.
+    exact-give (record { number = n; own = own })
+
+exact-transfer : (there : Bool) → IsExact (transfer there)
+unfolding transfer
+exact-transfer there =
+    bind (exact-when there false exact-flag) λ by_gamma.
+    bind (exact-when by_gamma 0 (exact-checked (codes "gamma") (λ v. nat_le v 10000000 && nat_le 10000000 (8192 * v)) (exact-number 24))) λ g.
+    bind (exact-when (not by_gamma) 0 (exact-when there 13 (exact-told (codes "TransferFunction") (λ v. (v == 1) || (v == 8) || (v == 13) || (v == 16) || (v == 17) || (v == 18))))) λ n. exact-give (record { number = n; gamma = g })
+
+pub exact-colours : (there : Bool) → IsExact (colour_encoding there)
+unfolding colour_encoding
+exact-colours there =
+    bind (exact-told_if there) λ told. bind (exact-when told false exact-flag) λ profile.
+    bind (exact-when told 0 (exact-told (codes "ColourSpace") (λ v. nat_lt v 3 || (v == 3) && profile))) λ space.
+    bind (exact-white (told && not profile && not (space == 2))) λ w.
+    bind (exact-basis (told && not profile && not ((space == 1) || (space == 2)))) λ b.
+    bind (exact-transfer (told && not profile && not (space == 2))) λ t.
+    bind (exact-when (told && not profile) 1 (exact-told (codes "RenderingIntent") (λ v. nat_lt v 4))) λ i.
+    exact-give (record { profile = profile; space = space; white = w; basis = b; transfer = t; intent = i })
+
+exact-tone : (there : Bool) → IsExact (tone_mapping there)
+unfolding tone_mapping
+exact-tone there =
+    bind (exact-told_if there) λ told. bind (exact-when told 0x5BF8 (exact-number 16)) λ a. bind (exact-when told 0 (exact-number 16)) λ b.
+    bind (exact-when told false exact-flag) λ c. bind (exact-when told 0 (exact-number 16)) λ d.
+    exact-give (record { intensity_target = a; min_nits = b; relative = c; linear_below = d })
+
+exact-animation : IsExact animation
+unfolding animation
+exact-animation =
+    bind (exact-u32 (Const 100) (Const 1000) (Offset 1 10) (Offset 1 30)) λ a. bind (exact-u32 (Const 1) (Const 1001) (Offset 1 8) (Offset 1 10)) λ b.
+    bind (exact-u32 (Const 0) (Offset 0 3) (Offset 0 16) (Offset 0 32)) λ c. bind exact-flag λ d. exact-give (record { numerator = a; denominator = b; loops = c; timecodes = d })
+
+exact-matrices : (xyb : Bool) → IsExact (matrices xyb)
+unfolding matrices
+exact-matrices xyb =
+    bind (exact-told_if true) λ told. bind (exact-told_if (told && xyb)) λ opsin. bind (exact-when opsin tt (exact-skipped 32)) λ u.
+    bind (exact-when told 0 (exact-number 3)) λ mask. bind (exact-when (mask % 2 == 1) tt (exact-skipped 30)) λ a.
+    bind (exact-when (mask / 2 % 2 == 1) tt (exact-skipped 110)) λ b. exact-when (mask / 4 == 1) tt (exact-skipped 420)
+
+pub exact-image_header : IsExact image_header
+unfolding image_header
+exact-image_header =
+    bind (exact-checked (codes "signature") (λ v. v == 0x0AFF) (exact-number 16)) λ v. bind (exact-size false) λ size. bind (exact-told_if true) λ told.
+    bind (exact-when told false exact-flag) λ more. bind (exact-when more 0 (exact-number 3)) λ o. bind (exact-when more None (exact-optional (exact-size false))) λ i.
+    bind (exact-when more None (exact-optional (exact-size true))) λ p. bind (exact-when more None (exact-optional exact-animation)) λ a.
+    bind (exact-when told (record { bits = 8; exponent_bits = 0 }) exact-depth) λ d. bind (exact-when told true exact-flag) λ n.
+    bind (exact-when told [] (bind (exact-u32 (Const 0) (Const 1) (Offset 2 4) (Offset 1 12)) λ n. exact-repeated n extra_channel exact-channel)) λ extra.
+    bind (exact-when told true exact-flag) λ xyb. bind (exact-colours told) λ c. bind (exact-tone more) λ t. bind (exact-when told 0 exact-extensions) λ e.
+    bind (exact-matrices xyb) λ u. exact-give (record {
+      size = size;
+      display = record { orientation = o + 1; intrinsic = i; preview = p; animation = a };
+      samples = record { depth = d; narrow = n };
+      extra = extra;
+      shown = record { xyb = xyb; colour = c; tone = t; extensions = e };
+    })

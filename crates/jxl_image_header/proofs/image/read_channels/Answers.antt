@@ -1,0 +1,25 @@
+use Rattle.std.proofs.Common.{◌≡◌, ◌++◌, ◌∷◌, [], refl, rules, Some}
+use Rattle.std.proofs.lemmas.Result.{err_from_is_err_and}
+use Rattle.jxlm_base.specs.Bits.{bytes_of, position_of}
+use Rattle.jxlm_base.specs.ErrorKind.{bitstream_kind}
+use Rattle.jxl_image_header.proofs.RepeatedLoop.{goes_on, stops}
+use Rattle.jxl_image_header.proofs.UnlessMemory.{unless_no_memory}
+use Rattle.jxl_image_header.specs.Channels.{extra_channel}
+use Rattle.jxl_image_header.proofs.image.read_channels.Goals as goal
+
+pub returns-in_err-channel-clause-gives : goal.returns-in_err-channel-clause-gives
+returns-in_err-channel-clause-gives c =
+    let p = err_from_is_err_and c.from_residual.result c.from_residual.ensures.1 in
+    let refused = stops extra_channel (bytes_of c.args.bits.now) c.loop.channels.items c.args.count c.loop.counter (position_of c.loop.bits)
+    (record { error = bitstream_kind c.in_err-channel.field-0.0; position = Some (position_of c.parse.new.bits) }) _ c.loop-test.true
+    (rw c.loop.invariant.bytes at c.in_err-channel.ensures.gives) c.loop.invariant.read in
+    rw (p.1, p.2) (unless_no_memory (bitstream_kind c.in_err-channel.field-0.0) _ (record { place = Some (position_of c.parse.new.bits); refuses = refused; stands = refl }))
+
+pub loop-preserved : goal.loop-preserved
+loop-preserved c =
+    let pushed : c.push.new.self.items ≡ c.loop.channels.items ++ c.in_ok-channel.channel ∷ [] = search rules in
+    record {
+      bytes = search rules;
+      read = rw pushed (goes_on extra_channel (bytes_of c.args.bits.now) c.loop.channels.items c.args.count c.loop.counter (position_of c.loop.bits) c.in_ok-channel.channel (position_of c.parse.new.bits) _
+          c.loop-test.true (rw c.loop.invariant.bytes at c.in_ok-channel.ensures.gives) c.loop.invariant.read);
+    }

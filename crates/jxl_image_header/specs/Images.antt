@@ -1,0 +1,87 @@
+-- The image header (ISO/IEC 18181-1, image header: ImageMetadata and what is before and after it).
+use Rattle.std.specs.Prelude.{◌+◌, ◌/◌, ◌%◌, ◌==◌, ◌&&◌, not, nat_lt, List, [], ◌∷◌, Bool, true, false, if◌then◌else◌, Option, Some, None, is_some, codes}
+use Rattle.std.specs.Option.{option_or}
+use Rattle.jxlm_base.specs.Grammar.{Grammar, number, flag, u32, give, repeated, ◌>>=◌}
+use Rattle.jxlm_base.specs.declared.bits.U32Spec.TheVariants.{Const, Offset}
+use Rattle.jxl_image_header.specs.Fields.{checked, extensions, optional, skipped, told_if, when}
+use Rattle.jxl_image_header.specs.Sizes.{size}
+use Rattle.jxl_image_header.specs.Channels.{bit_depth, extra_channel}
+use Rattle.jxl_image_header.specs.Colours.{colour_encoding, tone_mapping}
+use Rattle.jxl_image_header.specs.declared.size.Size.{Size}
+use Rattle.jxl_image_header.specs.declared.channel.ExtraChannel.{ExtraChannel}
+use Rattle.jxl_image_header.specs.declared.image.Animation.{Animation}
+use Rattle.jxl_image_header.specs.declared.image.Display.{Display}
+use Rattle.jxl_image_header.specs.declared.image.Samples.{Samples}
+use Rattle.jxl_image_header.specs.declared.image.Shown.{Shown}
+use Rattle.jxl_image_header.specs.declared.image.ImageHeader.{ImageHeader}
+use Rattle.jxl_image_header.specs.declared.refusal.Refusal.{Refusal}
+use Rattle.jxl_image_header.specs.declared.refusal.Refusal.TheVariants.{Preview, Animation as Animated, FloatDepth, ExtraFloats, ExtraSize, Xyb}
+
+-- an image header, seen without its memory
+pub record Image : Type 0 where
+  pub size : Size
+  pub display : Display
+  pub samples : Samples
+  pub extra : List ExtraChannel
+  pub shown : Shown
+
+abbrev pub image_of : ImageHeader → Image
+image_of h = record { size = h.size; display = h.display; samples = h.samples; extra = h.extra.items; shown = h.shown }
+
+-- how often pictures change a second, as a fraction; how often all are shown, 0 for ever; whether there are time codes
+unfoldable pub animation : Grammar Animation
+animation = do
+  numerator ← u32 (Const 100) (Const 1000) (Offset 1 10) (Offset 1 30)
+  denominator ← u32 (Const 1) (Const 1001) (Offset 1 8) (Offset 1 10)
+  loops ← u32 (Const 0) (Offset 0 3) (Offset 0 16) (Offset 0 32)
+  give (record { numerator = numerator; denominator = denominator; loops = loops; timecodes = (← flag) })
+
+-- what is not looked at: floats of 16 bits, the matrix of XYB of 16, and by a mask weights of upsampling, 15, 55, 210
+unfoldable pub matrices : Bool → Grammar (Unit {0})
+matrices xyb = do
+  told ← told_if true
+  opsin ← told_if (told && xyb)
+  _ ← when opsin (skipped 32) tt
+  mask ← when told (number 3) 0
+  _ ← when (mask % 2 == 1) (skipped 30) tt
+  _ ← when (mask / 2 % 2 == 1) (skipped 110) tt
+  when (mask / 4 == 1) (skipped 420) tt
+
+-- The image header: the first 16 bits of each codestream; its size; how it is shown; how samples are stored; whether
+-- 16 bits are enough for all of decoding; channels beside the colours; what colours mean; which extensions there are.
+unfoldable pub image_header : Grammar Image
+image_header = do
+  _ ← checked (codes "signature") (λ v. v == 0x0AFF) (number 16)
+  sides ← size false
+  told ← told_if true
+  more ← when told flag false
+  turned ← when more (number 3) 0
+  own ← when more (optional (size false)) None
+  preview ← when more (optional (size true)) None
+  animation ← when more (optional animation) None
+  depth ← when told bit_depth (record { bits = 8; exponent_bits = 0 })
+  narrow ← when told flag true
+  extra ← when told (u32 (Const 0) (Const 1) (Offset 2 4) (Offset 1 12) >>= λ n. repeated n extra_channel) []
+  xyb ← when told flag true
+  colour ← colour_encoding told
+  tone ← tone_mapping more
+  extensions ← when told extensions 0
+  _ ← matrices xyb
+  let display : Display = record { orientation = turned + 1; intrinsic = own; preview = preview; animation = animation }
+  let samples : Samples = record { depth = depth; narrow = narrow }
+  let shown : Shown = record { xyb = xyb; colour = colour; tone = tone; extensions = extensions }
+  give (record { size = sides; display = display; samples = samples; extra = extra; shown = shown })
+
+-- what extra channels have that is not supported, by the first that has something
+abbrev pub channels_refusal : List ExtraChannel → Option Refusal
+channels_refusal [] = None
+channels_refusal (c ∷ cs) =
+    if not (c.depth.exponent_bits == 0) then Some ExtraFloats else if nat_lt 3 c.shift then Some ExtraSize else channels_refusal cs
+
+-- what an image has that is not supported, by the first of its fields that says so
+abbrev pub image_refusal : Image → Option Refusal
+image_refusal h =
+    if is_some h.display.preview then Some Preview else
+    if is_some h.display.animation then Some Animated else
+    if not (h.samples.depth.exponent_bits == 0) && not ((h.samples.depth.exponent_bits == 8) && (h.samples.depth.bits == 32)) then Some FloatDepth else
+    option_or (channels_refusal h.extra) (if h.shown.xyb then Some Xyb else None)

@@ -1,0 +1,33 @@
+-- Parts of a U64, of extensions and other bits that are passed, and of an image header, as their functions read them.
+use Rattle.std.specs.Prelude.{ℕ, zero, suc, ◌+◌, ◌*◌, sum, List, Bool}
+use Rattle.jxlm_base.specs.Grammar.{Grammar, number, u32, give, repeated, ◌>>=◌}
+use Rattle.jxlm_base.specs.declared.bits.U32Spec.TheVariants.{Const, Offset}
+use Rattle.jxl_image_header.specs.Channels.{extra_channel}
+use Rattle.jxl_image_header.specs.declared.channel.ExtraChannel.{ExtraChannel}
+use Rattle.jxl_image_header.specs.Fields.{groups, long, skipped, when}
+
+-- the number of n groups and the last one is below this
+abbrev pub group_bound : ℕ → ℕ
+group_bound zero = 16
+group_bound (suc n) = 256 * group_bound n
+
+-- a U64 that has groups: 12 bits, and those
+abbrev pub grouped : Grammar ℕ
+grouped = number 12 >>= λ v. groups 6 >>= λ rest. give (v + 4096 * rest)
+
+-- n bits that are not looked at
+abbrev pub skipped_bits : ℕ → Grammar (Unit {0})
+skipped_bits n = number n >>= λ v. give tt
+
+-- how many bits n extensions have: a U64 for each
+unfoldable pub extension_bits : ℕ → Grammar ℕ
+extension_bits n = repeated n long >>= λ sizes. give (sum sizes)
+
+-- the three lists of weights of upsampling, each there or not
+abbrev pub weights : Bool → Bool → Bool → Grammar (Unit {0})
+weights first second third =
+    when first (skipped 30) tt >>= λ a. when second (skipped 110) tt >>= λ b. when third (skipped 420) tt
+
+-- the channels beside the colours, after their number
+abbrev pub extra_channels : Grammar (List ExtraChannel)
+extra_channels = u32 (Const 0) (Const 1) (Offset 2 4) (Offset 1 12) >>= λ n. repeated n extra_channel

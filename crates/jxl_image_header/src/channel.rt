@@ -1,0 +1,226 @@
+//! Depths of samples, and extra channels.
+
+ghost use Rattle.std.specs.Prelude.{◌≡◌, ◌≤◌, ◌==◌, ◌||◌, nat_lt, false, codes};
+ghost use Rattle.jxlm_base.specs.Bits.{bytes_of, position_of};
+ghost use Rattle.jxlm_base.specs.Grammar.{Reads, either, flag, part, u32};
+ghost use Rattle.jxlm_base.specs.declared.bits.U32Spec.TheVariants.{Const, Offset};
+ghost use Rattle.jxl_image_header.specs.Fields.{checked, enumerated as the_enumerated, skipped, when};
+ghost use Rattle.jxl_image_header.specs.Channels.{bit_depth, extra_channel, fits_float as the_fits_float};
+
+use crate::fields::{Result, enumerated, name, number, skip};
+use jxlm_base::bits::{Bitstream, BitstreamError, U32Spec};
+
+/// How a sample is stored.
+#[derive(Clone, Copy)]
+pub struct BitDepth {
+    /// How many bits it has: of whole numbers from 1 to 31, of floats up to 32.
+    pub bits: u32,
+    /// How many of these are a float's exponent, from 2 to 8; 0 for whole numbers.
+    pub exponent_bits: u32,
+}
+
+/// What is told of a channel beside the colours.
+#[derive(Clone, Copy)]
+pub struct ExtraChannel {
+    /// What it is: 0 alpha, 1 depth, 2 a spot colour, 3 a selection mask, 4 black, 5 a colour filter, 6 heat, 15 not
+    /// known, 16 something that may be left out.
+    pub kind: u32,
+    /// How its samples are stored.
+    pub depth: BitDepth,
+    /// Its sides are those of the picture by 2 to the power of this, rounded up.
+    pub shift: u32,
+    /// How many bytes its name has.
+    pub name_bytes: u32,
+    /// Of alpha, whether colours were multiplied by it.
+    pub premultiplied: bool,
+}
+
+const USUAL_DEPTH: BitDepth = BitDepth {
+    bits: 8,
+    exponent_bits: 0,
+};
+
+const USUAL_CHANNEL: ExtraChannel = ExtraChannel {
+    kind: 0,
+    depth: USUAL_DEPTH,
+    shift: 0,
+    name_bytes: 0,
+    premultiplied: false,
+};
+
+// How many bits a sample has.
+fn sample_bits(bits: &mut Bitstream<'_>, float: bool) -> Result<u32>
+    ensures gives { Reads (λ v. v) result (position_of bits.new)
+        ((either float (u32 (Const 32) (Const 16) (Const 24) (Offset 1 6))
+        (checked (codes "bits_per_sample") (λ n. nat_lt n 32) (u32 (Const 8) (Const 10) (Const 12) (Offset 1 6)))).read
+        (bytes_of bits.old) (position_of bits.old)) }
+    ensures bytes { bytes_of bits.new ≡ bytes_of bits.old }
+{
+    if float {
+        return bits.read_u32(
+            U32Spec::Const(32),
+            U32Spec::Const(16),
+            U32Spec::Const(24),
+            U32Spec::Offset(1, 6),
+        );
+    }
+    let value = bits.read_u32(
+        U32Spec::Const(8),
+        U32Spec::Const(10),
+        U32Spec::Const(12),
+        U32Spec::Offset(1, 6),
+    )?;
+    if value < 32 {
+        Ok(value)
+    } else {
+        let name = "bits_per_sample";
+        Err(BitstreamError::InvalidEnum { name, value })
+    }
+}
+
+fn fits_float(bits: u32, exponent: u32) -> bool
+    requires small { exponent ≤ 16 }
+    ensures { result ≡ the_fits_float bits exponent }
+{
+    2 <= exponent && exponent <= 8 && exponent + 3 <= bits && bits <= exponent + 24
+}
+
+// How many of so many bits are an exponent: none of a whole number.
+fn exponent_bits(bits: &mut Bitstream<'_>, float: bool, all: u32) -> Result<u32>
+    ensures gives { Reads (λ v. v) result (position_of bits.new)
+        ((when float (checked (codes "exponent_bits") (the_fits_float all) (part (Offset 1 4))) 0).read
+        (bytes_of bits.old) (position_of bits.old)) }
+    ensures bytes { bytes_of bits.new ≡ bytes_of bits.old }
+{
+    if !float {
+        return Ok(0);
+    }
+    let value = 1 + number(bits, 4)?;
+    if fits_float(all, value) {
+        Ok(value)
+    } else {
+        let name = "exponent_bits";
+        Err(BitstreamError::InvalidEnum { name, value })
+    }
+}
+
+impl BitDepth {
+    /// How samples are stored, as it stands at the reader's position. `InvalidEnum` for whole numbers of more than 31
+    /// bits, and for floats whose exponent or mantissa has a size that none may have.
+    #[tactic(auto, unfolding(crate::specs::Channels::bit_depth))]
+    pub fn parse(bits: &mut Bitstream<'_>) -> Result<BitDepth>
+        ensures gives { Reads (λ v. v) result (position_of bits.new)
+            (bit_depth.read (bytes_of bits.old) (position_of bits.old)) }
+        ensures bytes { bytes_of bits.new ≡ bytes_of bits.old }
+    {
+        let float = bits.read_bool()?;
+        let all = sample_bits(bits, float)?;
+        let exponent_bits = exponent_bits(bits, float, all)?;
+        Ok(BitDepth {
+            bits: all,
+            exponent_bits,
+        })
+    }
+
+    // How samples are stored, where that is told.
+    pub(crate) fn parse_if(bits: &mut Bitstream<'_>, there: bool) -> Result<BitDepth>
+        ensures gives { Reads (λ v. v) result (position_of bits.new)
+            ((when there bit_depth (record { bits = 8; exponent_bits = 0 })).read
+            (bytes_of bits.old) (position_of bits.old)) }
+        ensures bytes { bytes_of bits.new ≡ bytes_of bits.old }
+    {
+        if there {
+            BitDepth::parse(bits)
+        } else {
+            Ok(USUAL_DEPTH)
+        }
+    }
+}
+
+fn channel_kind(bits: &mut Bitstream<'_>) -> Result<u32>
+    ensures gives { Reads (λ v. v) result (position_of bits.new)
+        ((checked (codes "ExtraChannelType") (λ v. nat_lt v 7 || (v == 15) || (v == 16)) the_enumerated).read
+        (bytes_of bits.old) (position_of bits.old)) }
+    ensures bytes { bytes_of bits.new ≡ bytes_of bits.old }
+{
+    let value = enumerated(bits)?;
+    if value < 7 || value == 15 || value == 16 {
+        Ok(value)
+    } else {
+        let name = "ExtraChannelType";
+        Err(BitstreamError::InvalidEnum { name, value })
+    }
+}
+
+// Of alpha, whether colours were multiplied by it.
+fn premultiplied(bits: &mut Bitstream<'_>, kind: u32) -> Result<bool>
+    ensures gives { Reads (λ v. v) result (position_of bits.new)
+        ((when (kind == 0) flag false).read (bytes_of bits.old) (position_of bits.old)) }
+    ensures bytes { bytes_of bits.new ≡ bytes_of bits.old }
+{
+    if kind == 0 {
+        bits.read_bool()
+    } else {
+        Ok(false)
+    }
+}
+
+// Passes the four numbers of a spot colour.
+fn spot_colour(bits: &mut Bitstream<'_>, kind: u32) -> Result<()>
+    ensures gives { Reads (λ v. v) result (position_of bits.new)
+        ((when (kind == 2) (skipped 8) tt).read (bytes_of bits.old) (position_of bits.old)) }
+    ensures bytes { bytes_of bits.new ≡ bytes_of bits.old }
+{
+    if kind == 2 { skip(bits, 8) } else { Ok(()) }
+}
+
+// The number of a colour filter's channel; 0 of other kinds.
+fn filter_channel(bits: &mut Bitstream<'_>, kind: u32) -> Result<u32>
+    ensures gives { Reads (λ v. v) result (position_of bits.new)
+        ((when (kind == 5) (u32 (Const 1) (Offset 0 2) (Offset 3 4) (Offset 19 8)) 0).read
+        (bytes_of bits.old) (position_of bits.old)) }
+    ensures bytes { bytes_of bits.new ≡ bytes_of bits.old }
+{
+    if kind != 5 {
+        return Ok(0);
+    }
+    bits.read_u32(
+        U32Spec::Const(1),
+        U32Spec::Offset(0, 2),
+        U32Spec::Offset(3, 4),
+        U32Spec::Offset(19, 8),
+    )
+}
+
+impl ExtraChannel {
+    /// The channel that stands at the reader's position; its name and what a kind has of its own are passed.
+    #[tactic(auto, unfolding(crate::specs::Channels::extra_channel))]
+    pub fn parse(bits: &mut Bitstream<'_>) -> Result<ExtraChannel>
+        ensures gives { Reads (λ v. v) result (position_of bits.new)
+            (extra_channel.read (bytes_of bits.old) (position_of bits.old)) }
+        ensures bytes { bytes_of bits.new ≡ bytes_of bits.old }
+    {
+        if bits.read_bool()? {
+            return Ok(USUAL_CHANNEL);
+        }
+        let kind = channel_kind(bits)?;
+        let depth = BitDepth::parse(bits)?;
+        let shift = bits.read_u32(
+            U32Spec::Const(0),
+            U32Spec::Const(3),
+            U32Spec::Const(4),
+            U32Spec::Offset(1, 3),
+        )?;
+        let name_bytes = name(bits)?;
+        let premultiplied = premultiplied(bits, kind)?;
+        spot_colour(bits, kind)?;
+        filter_channel(bits, kind)?;
+        Ok(ExtraChannel {
+            kind,
+            depth,
+            shift,
+            name_bytes,
+            premultiplied,
+        })
+    }
+}

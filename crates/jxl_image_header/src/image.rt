@@ -1,0 +1,340 @@
+//! The image header.
+
+ghost use Rattle.std.specs.Prelude.{◌≡◌, ◌==◌, ◌&&◌, not, if◌then◌else◌, Some, None, [], codes};
+ghost use Rattle.jxlm_base.specs.Bits.{bytes_of, position_of};
+ghost use Rattle.jxlm_base.specs.Grammar.{Reads, number as the_number, repeated};
+ghost use Rattle.jxl_image_header.specs.Channels.{extra_channel};
+ghost use Rattle.jxl_image_header.specs.Fields.{checked, optional, when};
+ghost use Rattle.jxl_image_header.specs.Inner.Groups.{extra_channels as the_extra_channels, weights as the_weights};
+ghost use Rattle.jxl_image_header.specs.Sizes.{size as the_size};
+ghost use Rattle.jxl_image_header.specs.Images.{image_of, animation as the_animation, matrices as the_matrices, image_header, channels_refusal as the_channels_refusal, image_refusal};
+ghost use Rattle.jxl_image_header.specs.declared.refusal.Refusal.TheVariants.{Xyb};
+ghost use Rattle.jxl_image_header.specs.Reading.{Parses};
+
+use crate::channel::{BitDepth, ExtraChannel};
+use crate::colour::{ColourEncoding, ToneMapping};
+use crate::fields::{Result, extensions_if, flag_if, number, number_if, skip_if, told_if};
+use crate::refusal::Refusal;
+use crate::size::{Size, read_size};
+use jxlm_base::bits::{Bitstream, BitstreamError, U32Spec};
+use jxlm_base::error;
+use std::alloc::Global;
+
+/// When the pictures of an animation change.
+#[derive(Clone, Copy)]
+pub struct Animation {
+    /// So many units of time, by the denominator, make a second.
+    pub numerator: u32,
+    pub denominator: u32,
+    /// How often the pictures are shown, 0 for ever.
+    pub loops: u32,
+    /// Whether frames have time codes.
+    pub timecodes: bool,
+}
+
+/// How the image is to be shown.
+#[derive(Clone, Copy)]
+pub struct Display {
+    /// From 1, as it is, to 8: mirrored or turned, as Exif numbers it.
+    pub orientation: u32,
+    /// At which size it is to be shown.
+    pub intrinsic: Option<Size>,
+    /// The size of a smaller picture that comes first.
+    pub preview: Option<Size>,
+    /// When its pictures change.
+    pub animation: Option<Animation>,
+}
+
+/// How the samples of colours are stored.
+#[derive(Clone, Copy)]
+pub struct Samples {
+    pub depth: BitDepth,
+    /// Whether 16 bits are enough for each number while it is decoded.
+    pub narrow: bool,
+}
+
+/// What samples mean.
+#[derive(Clone, Copy)]
+pub struct Shown {
+    /// Whether colours are stored as XYB.
+    pub xyb: bool,
+    pub colour: ColourEncoding,
+    pub tone: ToneMapping,
+    /// A bit for each extension that there is; what they hold is passed.
+    pub extensions: u64,
+}
+
+/// What is told of an image before its frames.
+#[derive(Drop)]
+pub struct ImageHeader {
+    pub size: Size,
+    pub display: Display,
+    pub samples: Samples,
+    /// The channels beside the colours.
+    pub extra: Vec<ExtraChannel>,
+    pub shown: Shown,
+}
+
+fn optional_size(bits: &mut Bitstream<'_>, preview: bool) -> Result<Option<Size>>
+    ensures gives { Reads (λ v. v) result (position_of bits.new)
+        ((optional (the_size preview)).read (bytes_of bits.old) (position_of bits.old)) }
+    ensures bytes { bytes_of bits.new ≡ bytes_of bits.old }
+{
+    if !bits.read_bool()? {
+        return Ok(None);
+    }
+    let size = read_size(bits, preview)?;
+    Ok(Some(size))
+}
+
+fn size_if(bits: &mut Bitstream<'_>, there: bool, preview: bool) -> Result<Option<Size>>
+    ensures gives { Reads (λ v. v) result (position_of bits.new)
+        ((when there (optional (the_size preview)) None).read (bytes_of bits.old) (position_of bits.old)) }
+    ensures bytes { bytes_of bits.new ≡ bytes_of bits.old }
+{
+    if there {
+        optional_size(bits, preview)
+    } else {
+        Ok(None)
+    }
+}
+
+impl Animation {
+    #[tactic(auto, unfolding(crate::specs::Images::animation))]
+    fn parse(bits: &mut Bitstream<'_>) -> Result<Animation>
+        ensures gives { Reads (λ v. v) result (position_of bits.new)
+            (the_animation.read (bytes_of bits.old) (position_of bits.old)) }
+        ensures bytes { bytes_of bits.new ≡ bytes_of bits.old }
+    {
+        let numerator = bits.read_u32(
+            U32Spec::Const(100),
+            U32Spec::Const(1000),
+            U32Spec::Offset(1, 10),
+            U32Spec::Offset(1, 30),
+        )?;
+        let denominator = bits.read_u32(
+            U32Spec::Const(1),
+            U32Spec::Const(1001),
+            U32Spec::Offset(1, 8),
+            U32Spec::Offset(1, 10),
+        )?;
+        let loops = bits.read_u32(
+            U32Spec::Const(0),
+            U32Spec::Offset(0, 3),
+            U32Spec::Offset(0, 16),
+            U32Spec::Offset(0, 32),
+        )?;
+        let timecodes = bits.read_bool()?;
+        Ok(Animation {
+            numerator,
+            denominator,
+            loops,
+            timecodes,
+        })
+    }
+
+    fn optional(bits: &mut Bitstream<'_>) -> Result<Option<Animation>>
+        ensures gives { Reads (λ v. v) result (position_of bits.new)
+            ((optional the_animation).read (bytes_of bits.old) (position_of bits.old)) }
+        ensures bytes { bytes_of bits.new ≡ bytes_of bits.old }
+    {
+        if !bits.read_bool()? {
+            return Ok(None);
+        }
+        let animation = Animation::parse(bits)?;
+        Ok(Some(animation))
+    }
+
+    fn optional_if(bits: &mut Bitstream<'_>, there: bool) -> Result<Option<Animation>>
+        ensures gives { Reads (λ v. v) result (position_of bits.new)
+            ((when there (optional the_animation) None).read (bytes_of bits.old) (position_of bits.old)) }
+        ensures bytes { bytes_of bits.new ≡ bytes_of bits.old }
+    {
+        if there {
+            Animation::optional(bits)
+        } else {
+            Ok(None)
+        }
+    }
+}
+
+// So many extra channels.
+fn read_channels(
+    alloc: Global,
+    bits: &mut Bitstream<'_>,
+    count: u32,
+) -> error::Result<Vec<ExtraChannel>>
+    ensures gives { Parses (λ v. v.items) result (position_of bits.new)
+        ((repeated count extra_channel).read (bytes_of bits.old) (position_of bits.old)) }
+    ensures bytes { bytes_of bits.new ≡ bytes_of bits.old }
+{
+    let mut channels = Vec::new(alloc);
+    for _ in 0..count {
+        let channel = ExtraChannel::parse(bits)?;
+        channels.push(channel)?;
+    }
+    Ok(channels)
+}
+
+fn extra_channels(alloc: Global, bits: &mut Bitstream<'_>) -> error::Result<Vec<ExtraChannel>>
+    ensures gives { Parses (λ v. v.items) result (position_of bits.new)
+        (the_extra_channels.read (bytes_of bits.old) (position_of bits.old)) }
+    ensures bytes { bytes_of bits.new ≡ bytes_of bits.old }
+{
+    let count = bits.read_u32(
+        U32Spec::Const(0),
+        U32Spec::Const(1),
+        U32Spec::Offset(2, 4),
+        U32Spec::Offset(1, 12),
+    )?;
+    read_channels(alloc, bits, count)
+}
+
+fn channels_if(
+    alloc: Global,
+    bits: &mut Bitstream<'_>,
+    there: bool,
+) -> error::Result<Vec<ExtraChannel>>
+    ensures gives { Parses (λ v. v.items) result (position_of bits.new)
+        ((when there the_extra_channels []).read (bytes_of bits.old) (position_of bits.old)) }
+    ensures bytes { bytes_of bits.new ≡ bytes_of bits.old }
+{
+    if there {
+        extra_channels(alloc, bits)
+    } else {
+        Ok(Vec::new(alloc))
+    }
+}
+
+// Passes those weights of upsampling that are there.
+fn weights(bits: &mut Bitstream<'_>, first: bool, second: bool, third: bool) -> Result<()>
+    ensures gives { Reads (λ v. v) result (position_of bits.new)
+        ((the_weights first second third).read (bytes_of bits.old) (position_of bits.old)) }
+    ensures bytes { bytes_of bits.new ≡ bytes_of bits.old }
+{
+    skip_if(bits, first, 30)?;
+    skip_if(bits, second, 110)?;
+    skip_if(bits, third, 420)
+}
+
+// The matrix of XYB, and the weights of upsampling that a mask says are there.
+#[tactic(auto, unfolding(crate::specs::Images::matrices))]
+fn matrices(bits: &mut Bitstream<'_>, xyb: bool) -> Result<()>
+    ensures gives { Reads (λ v. v) result (position_of bits.new)
+        ((the_matrices xyb).read (bytes_of bits.old) (position_of bits.old)) }
+    ensures bytes { bytes_of bits.new ≡ bytes_of bits.old }
+{
+    let told = told_if(bits, true)?;
+    let opsin = told_if(bits, told & xyb)?;
+    skip_if(bits, opsin, 32)?;
+    let mask = number_if(bits, told, 3, 0)?;
+    weights(bits, mask % 2 == 1, mask / 2 % 2 == 1, mask / 4 == 1)
+}
+
+fn signature(bits: &mut Bitstream<'_>) -> Result<u32>
+    ensures gives { Reads (λ v. v) result (position_of bits.new)
+        ((checked (codes "signature") (λ v. v == 0x0AFF) (the_number 16)).read
+        (bytes_of bits.old) (position_of bits.old)) }
+    ensures bytes { bytes_of bits.new ≡ bytes_of bits.old }
+{
+    let value = number(bits, 16)?;
+    if value == 0x0AFF {
+        Ok(value)
+    } else {
+        let name = "signature";
+        Err(BitstreamError::InvalidEnum { name, value })
+    }
+}
+
+// Whether a depth is of floats, and not of 32 bits with 8 of exponent.
+fn is_other_float(depth: BitDepth) -> bool
+    ensures { result ≡ not (depth.exponent_bits == 0) && not ((depth.exponent_bits == 8) && (depth.bits == 32)) }
+{
+    depth.exponent_bits != 0 && !(depth.exponent_bits == 8 && depth.bits == 32)
+}
+
+fn channels_refusal(channels: &[ExtraChannel]) -> Option<Refusal>
+    ensures { result ≡ the_channels_refusal channels.now }
+{
+    for channel in channels {
+        if channel.depth.exponent_bits != 0 {
+            return Some(Refusal::ExtraFloats);
+        }
+        if channel.shift > 3 {
+            return Some(Refusal::ExtraSize);
+        }
+    }
+    None
+}
+
+fn xyb_refusal(xyb: bool) -> Option<Refusal>
+    ensures { result ≡ (if xyb then Some Xyb else None) }
+{
+    if xyb { Some(Refusal::Xyb) } else { None }
+}
+
+impl ImageHeader {
+    /// The header that stands at the reader's position, from its signature on. What is not supported is read too, and
+    /// `refused` names it. The reader is left where the profile begins, if there is one, or the bits up to the next byte.
+    ///
+    /// # Errors
+    ///
+    /// The first in the order of the bits: `UnexpectedEof` if the input is truncated, and `InvalidEnum` for a number
+    /// that has no meaning, which names the field. `Buffer` if it is out of memory, at any extra channel.
+    #[tactic(auto, unfolding(crate::specs::Images::image_header))]
+    pub fn parse(alloc: Global, bits: &mut Bitstream<'_>) -> error::Result<ImageHeader>
+        ensures gives { Parses image_of result (position_of bits.new)
+            (image_header.read (bytes_of bits.old) (position_of bits.old)) }
+        ensures bytes { bytes_of bits.new ≡ bytes_of bits.old }
+    {
+        signature(bits)?;
+        let size = read_size(bits, false)?;
+        let told = told_if(bits, true)?;
+        let more = flag_if(bits, told, false)?;
+        let orientation = number_if(bits, more, 3, 0)?;
+        let intrinsic = size_if(bits, more, false)?;
+        let preview = size_if(bits, more, true)?;
+        let animation = Animation::optional_if(bits, more)?;
+        let depth = BitDepth::parse_if(bits, told)?;
+        let narrow = flag_if(bits, told, true)?;
+        let extra = channels_if(alloc, bits, told)?;
+        let xyb = flag_if(bits, told, true)?;
+        let colour = ColourEncoding::parse_if(bits, told)?;
+        let tone = ToneMapping::parse_if(bits, more)?;
+        let extensions = extensions_if(bits, told)?;
+        matrices(bits, xyb)?;
+        let orientation = orientation + 1;
+        Ok(ImageHeader {
+            size,
+            display: Display {
+                orientation,
+                intrinsic,
+                preview,
+                animation,
+            },
+            samples: Samples { depth, narrow },
+            extra,
+            shown: Shown {
+                xyb,
+                colour,
+                tone,
+                extensions,
+            },
+        })
+    }
+
+    /// What the image has that is not supported: the first in the order of the bits, or none.
+    pub fn refused(&self) -> Option<Refusal>
+        ensures { result ≡ image_refusal (image_of self.now) }
+    {
+        if self.display.preview.is_some() {
+            Some(Refusal::Preview)
+        } else if self.display.animation.is_some() {
+            Some(Refusal::Animation)
+        } else if is_other_float(self.samples.depth) {
+            Some(Refusal::FloatDepth)
+        } else {
+            channels_refusal(&self.extra).or(xyb_refusal(self.shown.xyb))
+        }
+    }
+}

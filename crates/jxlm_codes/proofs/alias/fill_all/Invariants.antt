@@ -1,7 +1,0 @@
-use Rattle.std.proofs.Common.{◌≡◌}
-use Rattle.jxlm_codes.specs.Alias.{filled_by}
-use Rattle.jxlm_codes.specs.Inner.Seen.{filling_seen}
-use Rattle.jxlm_codes.proofs.alias.fill_all.Given as goal
-
-abbrev pub invariant-loop : goal.invariant-loop
-invariant-loop l = filling_seen l.s ≡ filled_by l.bucket_size l.counter (filling_seen l.fn.s)

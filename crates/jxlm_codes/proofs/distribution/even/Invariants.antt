@@ -1,6 +1,0 @@
-use Rattle.std.proofs.Common.{◌≡◌}
-use Rattle.jxlm_codes.specs.Distributions.{even_first}
-use Rattle.jxlm_codes.proofs.distribution.even.Given as goal
-
-abbrev pub invariant-loop-symbol : goal.invariant-loop-symbol
-invariant-loop-symbol l = l.counts.items ≡ even_first l.symbol l.all

@@ -1,4 +1,0 @@
-use Rattle.jxlm_codes.proofs.fields.+least_width.Given as goal
-
-abbrev pub decreases-least_width : goal.decreases-least_width
-decreases-least_width l = l.n

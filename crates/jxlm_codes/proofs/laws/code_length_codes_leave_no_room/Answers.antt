@@ -1,5 +1,0 @@
-use Rattle.jxlm_codes.proofs.AcceptedCodes.{own_code, own_never_refused}
-use Rattle.jxlm_codes.proofs.laws.code_length_codes_leave_no_room.Goals as goal
-
-pub returns : goal.returns
-returns c = record { full = own_code; read = own_never_refused }

@@ -1,6 +1,0 @@
-use Rattle.std.proofs.Common.{◌≡◌, ◌++◌}
-use Rattle.jxlm_cut.specs.Passes.{passes_of}
-use Rattle.jxlm_cut.proofs.pass.passes.Given as goal
-
-abbrev pub invariant-loop-number : goal.invariant-loop-number
-invariant-loop-number l = l.passes.items ++ passes_of l.number-iterator ≡ passes_of l.pass_shifts.entries

@@ -1,0 +1,33 @@
+use Rattle.std.proofs.Common.{rules, map, pos, get_or, arith, refl, sym, ap, ◌∙◌, subst, w32, to_z, of_z, FitsSigned}
+use Rattle.jxlm_base.specs.Numbers.{clamped_gradient}
+use Rattle.std.proofs.lemmas.Int.{to_z-of_z}
+use Rattle.jxlm_encode_tokens.specs.Tokens.{IsSampleToken}
+use Rattle.jxlm_encode_tokens.specs.Inner.Neighbours.{gradient_in, west_in}
+use Rattle.jxlm_encode_tokens.proofs.GradientRows.{above_is, gradient_value, next_north_west, next_west}
+use Rattle.jxlm_encode_tokens.proofs.Lists.{mapped_at, written}
+use Rattle.jxlm_encode_tokens.proofs.leaf.gradient_row.Goals as goal
+
+pub loop-x-preserved : goal.loop-x-preserved
+loop-x-preserved g c =
+    let to_int = g.S.Sealed.to_int in
+    let w = g.S.Sealed.width in
+    let A = map to_int c.args.above.now in
+    let R = map to_int c.args.row.now in
+    let x = c.loop-x.x in
+    let v = c.index-row-x.result in
+    let row_is = mapped_at to_int c.args.row.now x v (pos 0) c.index-row-x.is c.loop-x-test.true in
+    let same = c.loop-x.auto.out in
+    let north = above_is to_int c.args.above.now x c.sample_above-n.result c.loop-x.w (west_in A R x) c.sample_above-n.ensures c.loop-x.invariant.w_is in
+    let gradient = ap to_int c.grad_clamped.ensures ∙ g.met.S.Sealed.to_int_from_int (clamped_gradient (to_int c.sample_above-n.result) (to_int c.loop-x.w) (to_int c.loop-x.nw)) in
+    let fits : FitsSigned w32 c.to_i32.result = search rules in
+    let value = gradient_value A R x (to_int c.sample_above-n.result) (to_int c.loop-x.w) (to_int c.loop-x.nw) c.to_i32.result north c.loop-x.invariant.w_is c.loop-x.invariant.nw_is
+    (c.to_i32.ensures.value ∙ gradient) fits in
+    let here = subst (λ z. IsSampleToken w c.args.leaf z (get_or R x (pos 0)) c.sample_token.result) (to_z-of_z w32 c.to_i32.result fits ∙ value)
+    (subst (λ z. IsSampleToken w c.args.leaf (to_z w32 (of_z w32 c.to_i32.result)) z c.sample_token.result) (sym row_is) c.sample_token.ensures) in
+    record {
+      tokens = written (λ k t. IsSampleToken w c.args.leaf (gradient_in A R k) (get_or R k (pos 0)) t) c.loop-x.out x c.sample_token.result
+          (omega (arith, same, c.requires.long, c.loop-x-test.true)) c.loop-x.invariant.tokens here;
+      w_is = next_west A R x (to_int v) row_is;
+      nw_is = next_north_west A R x (to_int c.sample_above-nw.result) (to_int v)
+          (above_is to_int c.args.above.now x c.sample_above-nw.result v (to_int v) c.sample_above-nw.ensures refl) row_is;
+    }

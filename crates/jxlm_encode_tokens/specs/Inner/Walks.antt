@@ -1,0 +1,70 @@
+-- What the loops over channels, rows and cells keep.
+use Rattle.std.specs.Prelude.{◌≡◌, ◌⊎◌, ℕ, ◌+◌, ◌*◌, ◌<◌, ◌≤◌, ℤ, pos, Bool, List, length, get_or, slice_get}
+use Rattle.std.specs.Int.{Width}
+use Rattle.jxlm_base.specs.Grid.{Grid}
+use Rattle.jxlm_base.specs.Regions.{AllLie, grids_in, region_cell, store_meanings}
+use Rattle.jxlm_tree.specs.FlatTree.{FlatTree, leaf_reached}
+use Rattle.jxlm_tree.specs.Paths.{IsLeafOf}
+use Rattle.jxlm_tree.specs.Tree.{AllLeaves}
+use Rattle.jxlm_tree.specs.declared.flat.Leaf.{Leaf}
+use Rattle.jxlm_predictor.specs.Holding.{surroundings}
+use Rattle.jxlm_predictor.specs.Predictions.{prediction}
+use Rattle.jxlm_predictor.specs.Standing.{Setting}
+use Rattle.jxlm_predictor.specs.declared.predictor.Predictor.TheVariants as predictor
+use Rattle.jxlm_encode_tokens.specs.Inner.Channels.{region_at}
+use Rattle.jxlm_samples.specs.Part.{cells_before, cells_of, place_by}
+use Rattle.jxlm_samples.specs.Reading.{IsCodingOf, part_of, regions_of}
+use Rattle.jxlm_samples.specs.declared.coding.PartCoding.{PartCoding}
+use Rattle.jxlm_encode_tokens.specs.Tokens.{IsSampleToken, IsTokenOfCell, MultipliesByOne}
+
+-- the token of a sample that comes after these of a channel, where a state was set so, the walk is of this tree, and
+-- property 9 is clamped or not
+abbrev pub IsNextToken : Bool → FlatTree → Width → List (Grid ℤ) → Setting → List ℤ → ℤ → ℕ → Type 0
+IsNextToken clamped flat w store s samples sample token =
+    let l : Leaf = leaf_reached flat (place_by clamped (surroundings s store samples)) in
+    IsSampleToken w l (prediction s.weights samples s.width l.predictor) sample token
+
+-- What holds while the tokens of a part are made: its regions lie in the store, and its leaves multiply by 1.
+pub record IsWalked {D X : Type 0} (c : PartCoding D) (store : List (Grid X)) : Type 0 where
+  pub coding : IsCodingOf c
+  pub lie : AllLie (regions_of c) store
+  pub ones : AllLeaves MultipliesByOne c.config.now.tree
+
+-- the same in channel i
+pub record IsInChannel {D X : Type 0} (c : PartCoding D) (store : List (Grid X)) (i : ℕ) : Type 0 where
+  pub walked : IsWalked c store
+  pub channel : i < length (regions_of c)
+
+-- these are the cells of row y of channel i
+pub record HasRow {D X : Type 0} (c : PartCoding D) (store : List (Grid X)) (i y : ℕ) (row : List X) : Type 0 where
+  pub below : y < (region_at (regions_of c) i).height
+  pub long : length row ≡ (region_at (regions_of c) i).width
+  pub cells : (x : ℕ) → x < (region_at (regions_of c) i).width → region_cell store (region_at (regions_of c) i) x y ≡ slice_get row x
+
+module _ {D X : Type 0} (c : PartCoding D) (w : Width) (to_int : X → ℤ) (store : List (Grid X)) where
+  -- the cells of the part
+  abbrev pub all_cells : List ℤ
+  all_cells = cells_of (grids_in (regions_of c) (store_meanings to_int store))
+
+  -- this list begins with the tokens of the first n cells of row y of channel i
+  abbrev pub AreRowTokens : ℕ → ℕ → ℕ → List ℕ → Type 0
+  AreRowTokens i y n out = (x : ℕ) → x < n → IsTokenOfCell w (part_of c) all_cells
+      (cells_before (part_of c).channels i + (y * (region_at (regions_of c) i).width + x)) (get_or out x 0)
+
+  -- these are the tokens of the first k cells
+  abbrev pub AreFirstTokens : ℕ → List ℕ → Type 0
+  AreFirstTokens k tokens = (length tokens ≡ k) × ((n : ℕ) → n < k → IsTokenOfCell w (part_of c) all_cells n (get_or tokens n 0))
+
+-- the cells of row y from one column to before another are two or more columns and rows away from every edge but the
+-- last row
+abbrev pub AreInner : ℕ → ℕ → ℕ → ℕ → Type 0
+AreInner from to y width = from < to → (2 ≤ y) × (2 ≤ from) × (to + 2 ≤ width)
+
+-- the tree has only this leaf, which predicts by 0 or by the clamped gradient
+pub record IsLoneLeaf (t : FlatTree) (l : Leaf) : Type 0 where
+  pub only : IsLeafOf t l
+  pub predictor : (l.predictor ≡ predictor.Zero) ⊎ (l.predictor ≡ predictor.Gradient)
+
+-- this list begins with the tokens of the first n cells of a row, at a leaf and over these predictions
+abbrev pub AreLeafTokens : Width → Leaf → (ℕ → ℤ) → List ℤ → ℕ → List ℕ → Type 0
+AreLeafTokens w leaf predicted row n out = (x : ℕ) → x < n → IsSampleToken w leaf (predicted x) (get_or row x (pos 0)) (get_or out x 0)

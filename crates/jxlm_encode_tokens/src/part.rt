@@ -1,0 +1,258 @@
+//! The tokens of all samples of a part, in the order of its cells.
+
+ghost use Rattle.std.specs.Prelude.{◌≡◌, ◌⊎◌, ◌+◌, ◌*◌, ◌^◌, ◌<◌, ◌≤◌, IfOk, IfSome, OnOk, length};
+ghost use Rattle.jxlm_base.specs.Regions.{grids_in, store_meanings};
+ghost use Rattle.jxlm_tree.specs.Tree.{AllLeaves};
+ghost use Rattle.jxlm_encode_tokens.specs.Inner.Channels.{HasRoom, IsAfterChannel, StandsAfter, region_at};
+ghost use Rattle.jxlm_transform.specs.Channels.{infos, regions};
+ghost use Rattle.jxlm_samples.specs.Part.{cells_before, cells_of};
+ghost use Rattle.jxlm_samples.specs.Placed.{PartLies, part_placed};
+ghost use Rattle.jxlm_predictor.specs.SelfCorrecting.{IsHeader};
+ghost use Rattle.jxlm_samples.specs.Reading.{sampled_width as the_sampled_width};
+ghost use Rattle.jxlm_samples.specs.Reading.{HasFlats, IsRoomyFor, part_of, regions_of, row_width, tree_of};
+ghost use Rattle.jxlm_encode_tokens.specs.Tokens.{AreTokensOf, MultipliesByOne};
+ghost use Rattle.jxlm_encode_tokens.specs.Inner.Walks.{AreFirstTokens, AreRowTokens, IsInChannel, IsLoneLeaf, IsWalked};
+
+use crate::leaf::{gradient_row, zero_row};
+use crate::rows::walked_row;
+use crate::start::start_channel;
+use jxlm_base::decoder::Decoder;
+use jxlm_base::error::Result;
+use jxlm_base::grid::{AlignedGrid, OutOfMemory};
+use jxlm_base::region::region_row;
+use jxlm_base::sample::Sample;
+use jxlm_tree::flat::{FlatMaTree, Leaf, Steps};
+use jxlm_samples::channels::{max_width, sampled_width};
+use jxlm_samples::coding::{ChannelTree, PartCoding, PartState, flat_trees, roomy_state};
+use jxlm_samples::part::PlacedPart;
+use jxlm_transform::channels::PlacedChannel;
+use jxlm_predictor::predictor::{Predictor, PredictorState};
+use std::alloc::Global;
+
+/// The only leaf of a tree, where rows need no state of the predictors: it predicts by 0 or by the clamped gradient.
+fn lone_leaf(flat: &FlatMaTree) -> Option<Leaf>
+    ensures { IfSome result (IsLoneLeaf flat.now) }
+{
+    let leaf = flat.only_leaf()?;
+    if leaf.predictor == Predictor::Zero || leaf.predictor == Predictor::Gradient {
+        Some(leaf)
+    } else {
+        None
+    }
+}
+
+/// The tokens of row `y` of channel `i` at its only leaf.
+fn leaf_row<S: Sample, D: Decoder>(
+    store: &[AlignedGrid<S>],
+    coding: &PartCoding<'_, D>,
+    leaf: Leaf,
+    out: &mut [u32],
+    i: usize,
+    y: usize,
+)
+    requires here { IsInChannel coding.now store.now i }
+    requires leaf { IsLoneLeaf (tree_of coding.now i) leaf }
+    requires below { y < (region_at (regions_of coding.now) i).height }
+    requires columns { 0 < (region_at (regions_of coding.now) i).width }
+    requires long { length out.old ≡ (region_at (regions_of coding.now) i).width }
+    ensures { AreRowTokens coding.now S.width S.to_int store.now i y
+        (region_at (regions_of coding.now) i).width out.new }
+{
+    let region = coding.region(i);
+    let row = region_row(store, region, y);
+    match leaf.predictor {
+        Predictor::Zero => zero_row(leaf, row, out),
+        _ if y == 0 => gradient_row::<S, true>(leaf, &[], row, out),
+        _ => gradient_row::<S, false>(leaf, region_row(store, region, y - 1), row, out),
+    }
+}
+
+/// Adds the tokens of the rows of channel `i` at its only leaf; `out` is room for a row.
+fn push_leaf_rows<S: Sample, D: Decoder>(
+    tokens: &mut Vec<u32>,
+    store: &[AlignedGrid<S>],
+    coding: &PartCoding<'_, D>,
+    leaf: Leaf,
+    out: &mut [u32],
+    i: usize,
+) -> std::result::Result<(), OutOfMemory>
+    requires here { IsInChannel coding.now store.now i }
+    requires leaf { IsLoneLeaf (tree_of coding.now i) leaf }
+    requires columns { 0 < (region_at (regions_of coding.now) i).width }
+    requires long { length out.old ≡ (region_at (regions_of coding.now) i).width }
+    requires before { AreFirstTokens coding.now S.width S.to_int store.now
+        (cells_before (part_of coding.now).channels i) tokens.old.items }
+    ensures { OnOk result (AreFirstTokens coding.now S.width S.to_int store.now
+        (cells_before (part_of coding.now).channels (i + 1)) tokens.new.items) }
+{
+    for y in 0..coding.region(i).height {
+        leaf_row(store, coding, leaf, out, i, y);
+        tokens.extend_from_slice(out)?;
+    }
+    Ok(())
+}
+
+/// Adds the tokens of the rows of channel `i`, cell by cell; the state must be at its first cell. `out` is room for a
+/// row.
+fn push_walked_rows<S: Sample, D: Decoder>(
+    tokens: &mut Vec<u32>,
+    state: &mut PredictorState<S>,
+    steps: &mut Steps,
+    store: &[AlignedGrid<S>],
+    coding: &PartCoding<'_, D>,
+    out: &mut [u32],
+    i: usize,
+) -> std::result::Result<(), OutOfMemory>
+    requires here { IsInChannel coding.now store.now i }
+    requires columns { 0 < (region_at (regions_of coding.now) i).width }
+    requires long { length out.old ≡ (region_at (regions_of coding.now) i).width }
+    requires roomy { HasRoom coding.now state.old }
+    requires stands { StandsAfter coding.now S.to_int store.now i 0 state.old }
+    requires before { AreFirstTokens coding.now S.width S.to_int store.now
+        (cells_before (part_of coding.now).channels i) tokens.old.items }
+    ensures tokens { OnOk result (AreFirstTokens coding.now S.width S.to_int store.now
+        (cells_before (part_of coding.now).channels (i + 1)) tokens.new.items) }
+    ensures roomy { OnOk result (HasRoom coding.now state.new) }
+    ensures last { OnOk result (IsAfterChannel coding.now (i + 1) state.new) }
+{
+    for y in 0..coding.region(i).height {
+        walked_row(state, steps, store, coding, out, i, y);
+        tokens.extend_from_slice(out)?;
+    }
+    Ok(())
+}
+
+/// Adds the tokens of channel `i`; one without columns or rows has none. `scratch` has room for a row.
+fn push_channel<S: Sample, D: Decoder>(
+    tokens: &mut Vec<u32>,
+    state: &mut PredictorState<S>,
+    steps: &mut Steps,
+    store: &[AlignedGrid<S>],
+    coding: &PartCoding<'_, D>,
+    scratch: &mut [u32],
+    i: usize,
+) -> std::result::Result<(), OutOfMemory>
+    requires walked { IsWalked coding.now store.now }
+    requires channel { i < length (regions_of coding.now) }
+    requires roomy { HasRoom coding.now state.old }
+    requires room { row_width coding.now ≤ length scratch.old }
+    requires last { IsAfterChannel coding.now i state.old }
+    requires before { AreFirstTokens coding.now S.width S.to_int store.now
+        (cells_before (part_of coding.now).channels i) tokens.old.items }
+    ensures tokens { OnOk result (AreFirstTokens coding.now S.width S.to_int store.now
+        (cells_before (part_of coding.now).channels (i + 1)) tokens.new.items) }
+    ensures roomy { OnOk result (HasRoom coding.now state.new) }
+    ensures last { OnOk result (IsAfterChannel coding.now (i + 1) state.new) }
+{
+    let region = coding.region(i);
+    if region.width == 0 || region.height == 0 {
+        return Ok(());
+    }
+    start_channel(state, coding, i);
+    let out = &mut scratch[..region.width];
+    match lone_leaf(&coding.flats[i].flat) {
+        Some(leaf) => push_leaf_rows(tokens, store, coding, leaf, out, i),
+        None => push_walked_rows(tokens, state, steps, store, coding, out, i),
+    }
+}
+
+/// Adds the tokens of all channels, in order. `scratch` has room for a row of each that has cells.
+fn push_channels<S: Sample, D: Decoder>(
+    tokens: &mut Vec<u32>,
+    state: &mut PredictorState<S>,
+    store: &[AlignedGrid<S>],
+    coding: &PartCoding<'_, D>,
+    scratch: &mut [u32],
+) -> std::result::Result<(), OutOfMemory>
+    requires walked { IsWalked coding.now store.now }
+    requires roomy { HasRoom coding.now state.old }
+    requires room { row_width coding.now ≤ length scratch.old }
+    requires before { AreFirstTokens coding.now S.width S.to_int store.now 0 tokens.old.items }
+    ensures { OnOk result (AreFirstTokens coding.now S.width S.to_int store.now
+        (cells_before (part_of coding.now).channels (length (regions_of coding.now))) tokens.new.items) }
+{
+    let mut steps = Steps::new();
+    for i in 0..coding.channels.len() {
+        push_channel(tokens, state, &mut steps, store, coding, scratch, i)?;
+    }
+    Ok(())
+}
+
+/// How many cells the channels have, or the greatest number where they have more.
+fn count_cells(channels: &[PlacedChannel]) -> usize {
+    let mut count: usize = 0;
+    for channel in channels {
+        let region = channel.region;
+        count = count.saturating_add(region.width.saturating_mul(region.height));
+    }
+    count
+}
+
+/// What is made ready before the first token.
+#[derive(Drop)]
+struct Made<S> {
+    /// The tree as each channel walks it.
+    flats: Vec<ChannelTree>,
+    /// The state of the predictors, with room for each channel that has samples.
+    state: PartState<S>,
+}
+
+/// Makes it ready. Out of memory is the only error.
+fn make_ready<S: Sample, D: Decoder>(alloc: Global, part: &PlacedPart<'_, D>) -> Result<Made<S>>
+    requires widest { the_sampled_width (infos part.now.channels.now) ≤ 2 ^ 30 }
+    requires weights { IsHeader part.now.weights }
+    requires few { length part.now.channels.now ≤ 65536 }
+    ensures flats { IfOk result (λ m. HasFlats part.now.config.now.tree part.now.stream_index
+        (length part.now.channels.now) m.flats.items) }
+    ensures room { IfOk result (λ m. IsRoomyFor (the_sampled_width (infos part.now.channels.now))
+        (the_sampled_width (infos part.now.channels.now)) part.now.weights m.flats.items m.state) }
+{
+    let flats = flat_trees(
+        alloc,
+        part.config,
+        part.stream_index,
+        part.channels.len() as u32,
+    )?;
+    let widest = sampled_width(part.channels);
+    let state = roomy_state(alloc, &flats, widest, widest, &part.weights)?;
+    Ok(Made { flats, state })
+}
+
+/// The tokens of all samples of a part, in the order of its cells (ISO/IEC 18181-1, Modular: decoding of samples): of
+/// each the only one whose signed number is one of the samples' width. All multipliers of the tree are 1.
+///
+/// # Errors
+///
+/// Out of memory. Four bytes are taken for each sample, before the first token is made.
+pub fn sample_tokens<S: Sample, D: Decoder>(
+    alloc: Global,
+    part: &PlacedPart<'_, D>,
+    store: &[AlignedGrid<S>],
+) -> std::result::Result<Vec<u32>, OutOfMemory>
+    requires lies { PartLies part.now store.now }
+    requires multipliers { AllLeaves MultipliesByOne part.now.config.now.tree }
+    ensures { IfOk result (λ v. AreTokensOf S.width (part_placed part.now)
+        (cells_of (grids_in (regions part.now.channels.now) (store_meanings S.to_int store.now))) v.items) }
+{
+    let Ok(Made { flats, mut state }) = make_ready(alloc, part) else {
+        return Err(OutOfMemory);
+    };
+    let coding = PartCoding {
+        channels: part.channels,
+        config: part.config,
+        flats: &flats,
+        weights: part.weights,
+        stream_index: part.stream_index,
+        widest: max_width(part.channels),
+    };
+    let mut scratch = vec![in alloc; 0u32; sampled_width(part.channels) as usize]?;
+    let mut tokens = Vec::with_capacity(alloc, count_cells(part.channels))?;
+    push_channels(
+        &mut tokens,
+        &mut state.predictor,
+        store,
+        &coding,
+        &mut scratch,
+    )?;
+    Ok(tokens)
+}

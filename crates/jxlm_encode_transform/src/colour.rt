@@ -1,0 +1,94 @@
+//! Colours of three regions coded in place (ISO/IEC 18181-1, Modular: reversible colour transforms).
+
+ghost use Rattle.std.specs.Prelude.{◌≡◌, ℕ, ◌*◌, ◌<◌, ◌≤◌, length, get_or};
+ghost use Rattle.std.specs.List.{All};
+ghost use Rattle.jxlm_base.specs.Grid.{IsFull};
+ghost use Rattle.jxlm_base.specs.Outside.{KeepsOutside};
+ghost use Rattle.jxlm_transform.specs.Layout.{no_region};
+ghost use Rattle.jxlm_chain.specs.Steps.{CanUndo};
+ghost use Rattle.jxlm_chain.specs.Undo.{UndoRct, Undoes};
+ghost use Rattle.jxlm_encode_transform.specs.Inner.Coded.{AreThree, CodedUntil, CodesRow};
+
+use jxlm_base::grid::{AlignedGrid, Region};
+use jxlm_base::region::{region_row, region_set_row};
+use jxlm_base::sample::Sample;
+use jxlm_forward::colours::code_rows;
+
+/// Codes row `y` of each of three regions. The rows lent are written over.
+fn code_row<S: Sample>(
+    kind: u32,
+    store: &mut [AlignedGrid<S>],
+    first: Region,
+    second: Region,
+    third: Region,
+    y: usize,
+    a: &mut [S],
+    b: &mut [S],
+    c: &mut [S],
+)
+    requires three { AreThree first second third store.old }
+    requires in_rows { y < first.height }
+    requires first_length { length a.old ≡ first.width }
+    requires second_length { length b.old ≡ first.width }
+    requires third_length { length c.old ≡ first.width }
+    ensures first_length { length a.new ≡ first.width }
+    ensures second_length { length b.new ≡ first.width }
+    ensures third_length { length c.new ≡ first.width }
+    ensures coded { CodesRow first second third S.to_int S.width kind y store.old store.new }
+{
+    code_rows(
+        kind,
+        region_row(store, first, y),
+        region_row(store, second, y),
+        region_row(store, third, y),
+        a,
+        b,
+        c,
+    );
+    region_set_row(store, first, y, a);
+    region_set_row(store, second, y, b);
+    region_set_row(store, third, y, c);
+}
+
+/// Codes three regions, row by row. The rows lent are written over.
+fn code_regions<S: Sample>(
+    kind: u32,
+    store: &mut [AlignedGrid<S>],
+    first: Region,
+    second: Region,
+    third: Region,
+    a: &mut [S],
+    b: &mut [S],
+    c: &mut [S],
+)
+    requires three { AreThree first second third store.old }
+    requires first_length { length a.old ≡ first.width }
+    requires second_length { length b.old ≡ first.width }
+    requires third_length { length c.old ≡ first.width }
+    ensures { CodedUntil first second third S.to_int S.width kind first.height store.old store.new }
+{
+    for y in 0..first.height {
+        code_row(kind, store, first, second, third, y, a, b, c);
+    }
+}
+
+/// Codes the colours of three regions, with `scratch`, which has room for three rows. No other cell changes.
+pub(crate) fn code<S: Sample>(
+    kind: u32,
+    store: &mut [AlignedGrid<S>],
+    regions: [Region; 3],
+    scratch: &mut [S],
+)
+    requires can { CanUndo store.old (UndoRct kind regions) }
+    requires full { All IsFull store.old }
+    requires room { (get_or regions 0 no_region).width * 3 ≤ length scratch.old }
+    ensures undone { (depth : ℕ) → Undoes S.to_int S.width depth (UndoRct kind regions) store.new store.old }
+    ensures keeps { KeepsOutside regions store.old store.new }
+{
+    let [first, second, third] = regions;
+    let width = first.width;
+    let (a, rest) = scratch.split_at_mut(width);
+    let (b, rest) = rest.split_at_mut(width);
+    let c = &mut rest[..width];
+    code_regions(kind, store, first, second, third, a, b, c);
+}

@@ -1,0 +1,50 @@
+-- Trees as an encoder is given them: nodes and their tokens (ISO/IEC 18181-1, Modular: meta-adaptive trees).
+use Rattle.std.specs.Prelude.{ℕ, suc, ◌+◌, ◌*◌, ◌^◌, ℤ, pos, negsuc, List, [], ◌∷◌, Bool, true, nat_lt, ◌-◌}
+use Rattle.std.specs.List.{flat_map}
+use Rattle.jxlm_tree.specs.Tree.{Node, leaf_node, decision_node}
+use Rattle.jxlm_tree.specs.declared.flat.Leaf.{Leaf}
+use Rattle.jxlm_predictor.specs.declared.predictor.Predictor.{Predictor}
+use Rattle.jxlm_predictor.specs.declared.predictor.Predictor.TheVariants as p
+use Rattle.jxlm_encode_write.specs.declared.tree.EncodeNode.{EncodeNode}
+use Rattle.jxlm_encode_write.specs.declared.tree.EncodeNode.TheVariants as given
+
+-- the token of a signed number: 2k for k, and 2k + 1 for -k - 1
+abbrev pub packed : ℤ → ℕ
+packed (pos k) = 2 * k
+packed (negsuc k) = 2 * k + 1
+
+-- the number of a predictor
+abbrev pub number_of : Predictor → ℕ
+number_of p.Zero = 0
+number_of p.West = 1
+number_of p.North = 2
+number_of p.AvgWestAndNorth = 3
+number_of p.Select = 4
+number_of p.Gradient = 5
+number_of p.SelfCorrecting = 6
+number_of p.NorthEast = 7
+number_of p.NorthWest = 8
+number_of p.WestWest = 9
+number_of p.AvgWestAndNorthWest = 10
+number_of p.AvgNorthAndNorthWest = 11
+number_of p.AvgNorthAndNorthEast = 12
+number_of p.AvgAll = 13
+
+-- the node that is meant: a leaf has the only cluster, and the multiplier 1
+abbrev pub node_of : EncodeNode → Node Leaf
+node_of (given.Decision property value) = decision_node property value
+node_of (given.Leaf predictor offset) = leaf_node (record { cluster = 0; predictor = predictor; offset = offset; multiplier = 1 })
+
+-- the tokens of a node
+abbrev pub node_tokens : EncodeNode → List ℕ
+node_tokens (given.Decision property value) = suc property ∷ packed value ∷ []
+node_tokens (given.Leaf predictor offset) = 0 ∷ number_of predictor ∷ packed offset ∷ 0 ∷ 0 ∷ []
+
+-- the tokens of nodes, one after another
+abbrev pub tree_tokens : List EncodeNode → List ℕ
+tree_tokens nodes = flat_map node_tokens nodes
+
+-- the token of the node's property is a number of 32 bits
+abbrev pub has_token : EncodeNode → Bool
+has_token (given.Decision property value) = nat_lt property (2 ^ 32 - 1)
+has_token (given.Leaf predictor offset) = true

@@ -1,9 +1,0 @@
-use Rattle.std.proofs.Common.{◌≡◌, ◌∙◌, sym, rules}
-use Rattle.jxlm_ma.specs.SumTrees.{takes_sums_at}
-use Rattle.jxlm_ma.proofs.SumTrees.{goes_by_sum}
-use Rattle.jxlm_ma.proofs.flat.FlatMaTree.takes_sums.Goals as goal
-
-pub returns-clause-goes : goal.returns-clause-goes
-returns-clause-goes c = λ yes.
-    let value : c.takes_sums.result ≡ takes_sums_at c.args.self.now.channel c.args.self.now.stream_idx c.args.self.now.tree = search rules in
-    goes_by_sum c.args.self.now (sym value ∙ yes)

@@ -1,5 +1,0 @@
-use Rattle.jxlm_part.specs.Reading.{HasFlats}
-use Rattle.jxlm_part.proofs.coding.flat_trees.Given as goal
-
-abbrev pub invariant-loop-channel : goal.invariant-loop-channel
-invariant-loop-channel g l = HasFlats l.config.tree l.stream_index l.channel l.flats.items

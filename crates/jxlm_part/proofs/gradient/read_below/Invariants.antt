@@ -1,9 +1,0 @@
-use Rattle.std.proofs.Common.{◌≡◌, length}
-use Rattle.jxlm_part.proofs.GradientCells.{ReadsBelow}
-use Rattle.jxlm_part.proofs.gradient.read_below.Given as goal
-
-abbrev pub invariant-loop-x : goal.invariant-loop-x
-invariant-loop-x g l = record {
-  len : length l.row ≡ length l.fn.row;
-  below : ReadsBelow g.D.Decoder.meaning g.S.Sealed.width g.S.Sealed.to_int l.clamped l.leaves l.widest l.above l.fn.source l.row l.x l.w l.nw (record l.source { bits = l.reader });
-}

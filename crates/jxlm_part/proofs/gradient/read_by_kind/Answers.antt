@@ -1,4 +1,0 @@
-use Rattle.jxlm_part.proofs.gradient.read_by_kind.Goals as goal
-
-pub returns-in-One : goal.returns-in-One
-returns-in-One g c = rw c.in-One.is c.read_one_gradient.ensures

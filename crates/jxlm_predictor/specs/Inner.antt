@@ -1,0 +1,4 @@
+pub mod CorrectingSteps
+pub mod ListedWeights
+pub mod OwnProperties
+pub mod StateSteps

@@ -1,0 +1,76 @@
+-- The properties of a cell (ISO/IEC 18181-1, Modular: properties).
+use Rattle.std.specs.Prelude.{ℕ, zero, suc, ◌-◌, ◌/◌, ◌%◌, ◌==◌, nat_lt, if◌then◌else◌, ℤ, pos, ◌+ℤ◌, ◌-ℤ◌, List, [], ◌∷◌, slice_get, slice_index_or, Option, Some, None}
+use Rattle.std.specs.Int.{w32, int_wrap}
+use Rattle.std.specs.Option.{option_map_or}
+use Rattle.jxlm_base.specs.Grid.{Grid}
+use Rattle.jxlm_base.specs.Numbers.{absolute, clamped_gradient}
+use Rattle.jxlm_predictor.specs.Neighbours.{neighbours, at, west, north, north_west, column, row}
+use Rattle.jxlm_predictor.specs.SelfCorrecting.{maximum_error}
+use Rattle.jxlm_predictor.specs.declared.predictor.WpHeader.{WpHeader}
+
+-- What the properties of a cell look at: the weights, if there are any; the width; the samples before the cell, in row
+-- order; the earlier channels of this size, whole, the nearest first.
+pub record Surroundings : Type 0 where
+  pub weights : Option WpHeader
+  pub width : ℕ
+  pub samples : List ℤ
+  pub earlier : List (Grid ℤ)
+
+-- property 9 at (x, y)
+abbrev pub gradient_at : List ℤ → ℕ → ℕ → ℕ → ℤ
+gradient_at samples width x y = int_wrap w32 (west samples width x y -ℤ north_west samples width x y +ℤ north samples width x y)
+
+-- property 8 at (x, y): west less property 9 of the sample before in the row; west at the row's start
+abbrev pub west_change : List ℤ → ℕ → ℕ → ℕ → ℤ
+west_change samples width zero y = west samples width zero y
+west_change samples width (suc x) y = west samples width (suc x) y -ℤ gradient_at samples width x y
+
+-- property 15: the maximum error, or 0 without weights
+abbrev pub error_property : Option WpHeader → List ℤ → ℕ → ℤ
+error_property weights samples width = option_map_or (λ h. maximum_error h samples width) weights (pos 0)
+
+-- properties 2 to 15, at the cell after the samples, before they are reduced
+abbrev pub own_properties : Surroundings → List ℤ
+own_properties s =
+    let a = neighbours s.samples s.width in
+    let x = column s.samples s.width in
+    let y = row s.samples s.width in
+    pos y ∷ pos x ∷ absolute a.n ∷ absolute a.w ∷ a.n ∷ a.w
+    ∷ west_change s.samples s.width x y ∷ gradient_at s.samples s.width x y
+    ∷ (a.w -ℤ a.nw) ∷ (a.nw -ℤ a.n) ∷ (a.n -ℤ a.ne) ∷ (a.n -ℤ a.nn) ∷ (a.w -ℤ a.ww)
+    ∷ error_property s.weights s.samples s.width ∷ []
+
+-- what an earlier channel leads to expect: 0 at the start, above in column 0, left in row 0, else the clamped gradient
+abbrev pub expected : List ℤ → ℕ → ℕ → ℕ → ℤ
+expected cells width zero zero = pos 0
+expected cells width zero (suc y) = at cells width 0 y
+expected cells width (suc x) zero = at cells width x 0
+expected cells width (suc x) (suc y) = clamped_gradient (at cells width (suc x) y) (at cells width x (suc y)) (at cells width x y)
+
+-- the four properties of an earlier channel at (x, y), before they are reduced
+abbrev pub earlier_properties : Grid ℤ → ℕ → ℕ → List ℤ
+earlier_properties g x y =
+    let c = at g.cells g.width x y in
+    let d = c -ℤ expected g.cells g.width x y in
+    absolute c ∷ c ∷ absolute d ∷ d ∷ []
+
+-- property 16 + n before it is reduced; where there is no such earlier channel it is 0
+abbrev pub earlier_property : Surroundings → ℕ → ℤ
+earlier_property s n = of_channel (slice_get s.earlier (n / 4)) where
+  of_channel : Option (Grid ℤ) → ℤ
+  of_channel None = pos 0
+  of_channel (Some g) = slice_index_or (earlier_properties g (column s.samples s.width) (row s.samples s.width)) (n % 4) (pos 0)
+
+-- property k at the cell after the samples, reduced to 32 bits; properties 0 and 1 are not of the cell, and are 0 here
+abbrev pub place_property : Surroundings → ℕ → ℤ
+place_property s k =
+    if nat_lt k 2 then pos 0
+    else if nat_lt k 16 then int_wrap w32 (slice_index_or (own_properties s) (k - 2) (pos 0))
+    else int_wrap w32 (earlier_property s (k - 16))
+
+-- property k as a walk sees it: 0 and 1 are the channel's index in its part and the stream index, as 32-bit numbers
+abbrev pub property : ℕ → ℕ → Surroundings → ℕ → ℤ
+property channel stream s k =
+    if k == 0 then int_wrap w32 (pos channel)
+    else if k == 1 then int_wrap w32 (pos stream)
+    else place_property s k

@@ -1,5 +1,0 @@
-use Rattle.jxlm_redo.specs.Inner.Coded.{CodedUntil}
-use Rattle.jxlm_redo.proofs.colour.code_regions.Given as goal
-
-abbrev pub invariant-loop-y : goal.invariant-loop-y
-invariant-loop-y g l = CodedUntil l.first l.second l.third g.S.Sealed.to_int g.S.Sealed.width l.kind l.y l.fn.store l.store

@@ -1,5 +1,0 @@
-use Rattle.jxlm_roundtrip.proofs.TwoPictures.{one_picture}
-use Rattle.jxlm_roundtrip.proofs.laws.pictures_are_one.Goals as goal
-
-pub returns : goal.returns
-returns g c = one_picture g.D.Decoder.meaning

@@ -1,0 +1,52 @@
+-- Rows that are filled with one sample.
+use Rattle.std.proofs.Common.{◌≡◌, ℕ, zero, suc, ◌+◌, ◌<◌, ◌≤◌, List, [], ◌∷◌, ◌++◌, Contains, length, take, map, Some, refl, sym, ap, ◌∙◌, subst, arith, ℤ, pos}
+use Rattle.std.specs.Prelude.{replicate, slice_get, slice_set}
+use Rattle.std.specs.Int.{Width}
+use Rattle.std.proofs.lemmas.List.{get_or-replicate, length-map, length-replicate, map-set, replicate_more, take_more_set}
+use Rattle.std.proofs.lemmas.Option.{slice_get-get_or}
+use Rattle.jxlm_base.specs.Bits.{bytes_of, position_of}
+use Rattle.jxlm_base.specs.Decoding.{IsLawful, Meaning}
+use Rattle.jxlm_tree.specs.declared.flat.Leaf.{Leaf}
+use Rattle.jxlm_samples.specs.Coded.{sample_of}
+use Rattle.jxlm_samples.specs.Inner.Paths.{zero_rule}
+use Rattle.jxlm_samples.specs.Inner.Rows.{ReadsCells}
+use Rattle.jxlm_samples.specs.declared.source.Source.{Source}
+use Rattle.jxlm_samples.specs.Rule.{Rule, CodedPrefix}
+
+get_filled : (n k : ℕ) (v : ℤ) → k < n → slice_get (replicate n v) k ≡ Some v
+get_filled n k v inside = slice_get-get_or (replicate n v) k v (omega (arith, inside, length-replicate n v)) ∙ ap Some (get_or-replicate n k v v inside)
+
+-- one cell more is filled
+pub fill_more : {X : Type 0} (to_int : X → ℤ) (row : List X) (x : ℕ) (v : X) (z : ℤ) → x < length row → take x (map to_int row) ≡ replicate x z → to_int v ≡ z →
+    take (x + 1) (map to_int (slice_set row x v)) ≡ replicate (x + 1) z
+fill_more to_int row x v z inside filled is =
+    let R = map to_int row in
+    let in_row : x < length R = let m = length-map row to_int in omega (arith, m, inside) in
+    let here : take (x + 1) (slice_set R x (to_int v)) ≡ replicate x z ++ to_int v ∷ [] = take_more_set R x (to_int v) in_row ∙ ap (λ r. r ++ to_int v ∷ []) filled in
+    ap (take (x + 1)) (map-set to_int row x v) ∙ here ∙ ap (λ y. replicate x z ++ y ∷ []) is ∙ replicate_more x z
+
+-- Where a cluster has one token, reading a row at a leaf that predicts by 0 fills the row with one sample.
+module _ {D : Type 0} (d : Meaning D) (lawful : IsLawful d) (w : Width) (l : Leaf) (widest : ℕ) (at : Source D) (token : ℕ) (known : Contains (d.cluster_map at.decoder) l.cluster)
+    (single : d.single_token at.decoder l.cluster ≡ Some token) where
+  abbrev fixed : Rule D
+  fixed = zero_rule d w (bytes_of at.bits) widest l
+
+  abbrev cells : ℕ → List ℤ
+  cells n = replicate n (sample_of w l (pos 0) token)
+
+  fixed_cells : (n k : ℕ) → k ≤ n → CodedPrefix fixed (cells n) at.decoder (position_of at.bits) k at.decoder (position_of at.bits)
+  fixed_cells n zero le = (refl, refl)
+  fixed_cells n (suc k) le = (
+    at.decoder,
+    position_of at.bits,
+    token,
+    fixed_cells n k (omega arith),
+    lawful.single_read at.decoder (bytes_of at.bits) (position_of at.bits) l.cluster widest token known single,
+    get_filled n k (sample_of w l (pos 0) token) (omega arith),
+  )
+
+  pub fills_row : (n : ℕ) (R : List ℤ) → R ≡ cells n → ReadsCells d 0 fixed R (length R) at at
+  fills_row n R is =
+      let long : length (cells n) ≡ n = length-replicate n (sample_of w l (pos 0) token) in
+      let all : ReadsCells d 0 fixed (cells n) (length (cells n)) at at = record { reads = fixed_cells n (length (cells n)) (omega (arith, long)); clusters = refl; bytes = refl; work = omega arith; more = omega arith } in
+      subst (λ r. ReadsCells d 0 fixed r (length r) at at) (sym is) all

@@ -1,0 +1,7 @@
+use Rattle.std.proofs.Common.{◌≡◌, drop, max}
+use Rattle.jxlm_transform.specs.Channels.{infos}
+use Rattle.jxlm_samples.specs.Part.{max_width}
+use Rattle.jxlm_samples.proofs.channels.max_width.Given as goal
+
+abbrev pub invariant-loop-channel : goal.invariant-loop-channel
+invariant-loop-channel l = max l.widest (max_width (infos (drop l.channel-index l.channels))) ≡ max_width (infos l.channels)

@@ -1,0 +1,22 @@
+use Rattle.std.proofs.Common.{◌∙◌}
+use Rattle.jxlm_samples.specs.declared.rows.Line.{Line}
+use Rattle.jxlm_samples.proofs.Decoding.{error_inside, row_below}
+use Rattle.jxlm_samples.proofs.RowsOn.{row_written}
+use Rattle.jxlm_samples.proofs.decode.decode_row.Goals as goal
+
+pub write_read-requires-clause-inside : goal.write_read-requires-clause-inside
+write_read-requires-clause-inside g c =
+    let l : Line g.row.S.Denot g.row.D.Denot = record { coding = c.args.coding; store = record { ref_ptr = c.args.store.ref_ptr; now = c.args.store.now }; path = c.args.path; i = c.args.i; y = c.args.y; clamped = c.args.clamped } in
+    error_inside l g.D.Decoder.meaning g.S.Sealed.width g.S.Sealed.to_int c.read_row-read.new.row (c.read_row-read.auto.row ∙ c.requires.long) _ _ c.read_row-read.result c.read_row-read.ensures.gives
+
+pub returns : goal.returns
+returns g c =
+    let l : Line g.row.S.Denot g.row.D.Denot = record { coding = c.args.coding; store = record { ref_ptr = c.args.store.ref_ptr; now = c.args.store.now }; path = c.args.path; i = c.args.i; y = c.args.y; clamped = c.args.clamped } in
+    let long = c.read_row-read.auto.row ∙ c.requires.long in
+    let read = c.read_row-read.ensures in
+    record {
+      gives = row_written l g.D.Decoder.meaning g.S.Sealed.width g.S.Sealed.to_int c.requires.at.here c.requires.below c.write_read.new.store c.args.walk.now.source c.read_row-read.new.row c.read_row-read.new.walk.source
+          c.read_row-read.result c.write_read.result long (rw c.region.ensures at c.write_read.ensures) read.gives;
+      at = row_below l g.D.Decoder.meaning g.S.Sealed.width g.S.Sealed.to_int c.read_row-read.new.row long c.write_read.new.store c.args.walk.now c.read_row-read.new.walk c.requires.at c.requires.below
+          c.read_row-read.result c.write_read.result (rw c.region.ensures at c.write_read.ensures) read.gives read.state;
+    }

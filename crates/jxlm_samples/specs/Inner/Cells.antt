@@ -1,0 +1,94 @@
+-- How one cell of a part is read.
+use Rattle.std.specs.Prelude.{◌≡◌, ◌≢◌, ℕ, ◌+◌, ◌≤◌, ℤ, Bool, List, Result, Ok, Err}
+use Rattle.std.specs.Int.{Width}
+use Rattle.jxlm_base.specs.Bits.{bytes_of, position_of}
+use Rattle.jxlm_base.specs.Decoding.{Meaning, Taken}
+use Rattle.jxlm_base.specs.Grid.{Grid}
+use Rattle.jxlm_base.specs.Regions.{store_meanings}
+use Rattle.jxlm_base.specs.declared.decoder.DecoderError.{DecoderError}
+use Rattle.jxlm_base.specs.declared.decoder.DecoderError.TheVariants.{OutOfMemory}
+use Rattle.jxlm_tree.specs.FlatTree.{FlatTree, HasMultiplier, leaf_reached}
+use Rattle.jxlm_tree.specs.Tree.{StandsAtLeaf}
+use Rattle.jxlm_predictor.specs.Holding.{state_of, store_of, surroundings}
+use Rattle.jxlm_predictor.specs.Predictions.{prediction}
+use Rattle.jxlm_predictor.specs.Standing.{Setting, StandsAt}
+use Rattle.jxlm_tree.specs.declared.flat.Leaf.{Leaf}
+use Rattle.jxlm_predictor.specs.declared.properties.Properties.{Properties}
+use Rattle.jxlm_samples.specs.Coded.{sample_of}
+use Rattle.jxlm_samples.specs.Part.{place_by}
+use Rattle.jxlm_samples.specs.declared.source.Source.{Source}
+
+-- a sample was read at this leaf, over this prediction, from this reading; it left state t and position q
+pub record ReadsNext {S X : Type 0} (w : Width) (from_int : ℤ → X) (l : Leaf) (predicted : ℤ) (sample : X)
+    (t : S) (q : ℕ) (reading : Result (Taken ℕ S) DecoderError) : Type 0 where
+  pub token : ℕ
+  pub read : reading ≡ Ok (record { value = token; state = t; position = q })
+  pub sample_is : sample ≡ from_int (sample_of w l predicted token)
+
+-- the leaf to which a flat tree leads where a state was set so, after these samples, and property 9 is clamped or not
+abbrev pub leaf_at : Bool → FlatTree → Setting → List (Grid ℤ) → List ℤ → Leaf
+leaf_at clamped flat s store samples = leaf_reached flat (place_by clamped (surroundings s store samples))
+
+-- the leaf to which the tree leads at a cell with these properties, wherever the state is at that cell
+abbrev pub IsReached : {X : Type 0} → Bool → FlatTree → (X → ℤ) → Properties X → Leaf → Type 0
+IsReached clamped flat to_int properties l = (s : Setting) (samples : List ℤ) → StandsAt (state_of properties) s samples →
+    l ≡ leaf_at clamped flat s (store_meanings to_int (store_of properties)) samples
+
+-- the leaf to which the tree leads where each property is this number, found in at most so many steps
+pub record IsFoundBy (flat : FlatTree) (number : ℤ) (before after most : ℕ) (l : Leaf) : Type 0 where
+  pub leaf : l ≡ leaf_reached flat (λ k. number)
+  pub stands : StandsAtLeaf flat.tree l
+  pub multiplier : HasMultiplier l
+  pub cost : after ≤ before + most
+  pub more : before ≤ after
+
+-- it is that leaf, found in at most so many steps
+pub record IsFound {X : Type 0} (clamped : Bool) (flat : FlatTree) (to_int : X → ℤ) (properties : Properties X)
+    (before after most : ℕ) (l : Leaf) : Type 0 where
+  pub leaf : IsReached clamped flat to_int properties l
+  pub stands : StandsAtLeaf flat.tree l
+  pub multiplier : HasMultiplier l
+  pub cost : after ≤ before + most
+  pub more : before ≤ after
+
+-- the prediction there
+abbrev pub predicted_at : Bool → FlatTree → Setting → List (Grid ℤ) → List ℤ → ℤ
+predicted_at clamped flat s store samples =
+    prediction s.weights samples s.width (leaf_at clamped flat s store samples).predictor
+
+-- What the read of a sample at a cell with these properties returns, in whatever setting and after whatever samples the
+-- state is at that cell.
+module _ {D X : Type 0} (d : Meaning D) (to_int : X → ℤ) (clamped : Bool) (flat : FlatTree) (widest : ℕ) (properties : Properties X)
+    (old new : Source D) where
+  -- the numbers of the store that the properties look at
+  abbrev pub numbers : List (Grid ℤ)
+  numbers = store_meanings to_int (store_of properties)
+
+  -- the read of its token
+  abbrev pub reading : Setting → List ℤ → Result (Taken ℕ D) DecoderError
+  reading s samples =
+      d.read old.decoder (bytes_of old.bits) (position_of old.bits) (leaf_at clamped flat s numbers samples).cluster widest
+
+  -- this sample
+  pub record ReadsSample (w : Width) (from_int : ℤ → X) (cost : ℕ) (sample : X) : Type 0 where
+    pub reads : (s : Setting) (samples : List ℤ) → StandsAt (state_of properties) s samples →
+        ReadsNext w from_int (leaf_at clamped flat s numbers samples) (predicted_at clamped flat s numbers samples) sample
+        new.decoder (position_of new.bits) (reading s samples)
+    pub clusters : d.cluster_map new.decoder ≡ d.cluster_map old.decoder
+    pub bytes : bytes_of new.bits ≡ bytes_of old.bits
+    pub work : new.steps ≤ old.steps + cost
+    pub more : old.steps ≤ new.steps
+
+  -- this error
+  pub record FailsSample (cost : ℕ) (e : DecoderError) : Type 0 where
+    pub error : (s : Setting) (samples : List ℤ) → StandsAt (state_of properties) s samples → reading s samples ≡ Err e
+    pub place_is : position_of new.bits ≡ position_of old.bits
+    pub memory : e ≢ OutOfMemory
+    pub bytes : bytes_of new.bits ≡ bytes_of old.bits
+    pub work : new.steps ≤ old.steps + cost
+    pub more : old.steps ≤ new.steps
+
+  -- what was returned
+  abbrev pub SampleGives : Width → (ℤ → X) → ℕ → Result X DecoderError → Type 0
+  SampleGives w from_int cost (Ok sample) = ReadsSample w from_int cost sample
+  SampleGives w from_int cost (Err e) = FailsSample cost e

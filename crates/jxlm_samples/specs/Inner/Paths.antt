@@ -1,0 +1,143 @@
+-- How the rows of a channel are read, and the cells of a row.
+use Rattle.std.specs.Prelude.{◌≡◌, ℕ, zero, suc, ◌+◌, ◌≤◌, ℤ, pos, ◌+ℤ◌, ◌-ℤ◌, FitsSigned, List, [], length, map, get_or, Bool, true, false, Contains}
+use Rattle.std.specs.Int.{Width, w32, int_wrap}
+use Rattle.jxlm_base.specs.Decoding.{Meaning}
+use Rattle.jxlm_base.specs.Grid.{Grid, row as grid_row}
+use Rattle.jxlm_base.specs.Numbers.{clamped_gradient}
+use Rattle.jxlm_tree.specs.ClusterTables.{IsTableOf, table_leaf}
+use Rattle.jxlm_tree.specs.FlatTree.{FlatTree}
+use Rattle.jxlm_tree.specs.Paths.{Gives, IsLeafOf, IsOnGradient, IsPlainGradient, steps_on}
+use Rattle.jxlm_tree.specs.Steps.{most_steps}
+use Rattle.jxlm_tree.specs.Tree.{Shape, depth}
+use Rattle.jxlm_tree.specs.declared.flat.Leaf.{Leaf}
+use Rattle.jxlm_tree.specs.declared.paths.Path.{Path}
+use Rattle.jxlm_tree.specs.declared.paths.Path.TheVariants as path
+use Rattle.jxlm_predictor.specs.Sums.{clamped}
+use Rattle.jxlm_predictor.specs.declared.predictor.Predictor.TheVariants as predictor
+use Rattle.jxlm_samples.specs.Coded.{sample_of}
+use Rattle.jxlm_samples.specs.Rule.{Rule}
+use Rattle.jxlm_samples.specs.declared.gradient.Leaves.{Leaves}
+use Rattle.jxlm_samples.specs.declared.gradient.Leaves.TheVariants.{One, Table}
+
+-- what a path says of its leaves, under whatever decoder
+abbrev pub Allows : Path → Type 0
+Allows (path.Constant l) = l.predictor ≡ predictor.Zero
+Allows (path.Zero l) = l.predictor ≡ predictor.Zero
+Allows (path.Gradient l) = IsPlainGradient l
+Allows (path.Runs l) = IsPlainGradient l
+Allows (path.Clusters c) = Unit {0}
+Allows (path.GradientClusters c) = IsOnGradient c.now
+Allows path.Tree = Unit {0}
+
+-- the path's rows are read cell by cell, in a state of the predictors
+abbrev pub is_walked : Path → Bool
+is_walked (path.Constant l) = false
+is_walked (path.Zero l) = false
+is_walked (path.Gradient l) = false
+is_walked (path.Runs l) = false
+is_walked (path.Clusters c) = true
+is_walked (path.GradientClusters c) = false
+is_walked path.Tree = true
+
+-- a path that gives what the tree's walks give, in no more steps, and needs no state of the predictors
+pub record IsLonePath (t : FlatTree) (p : Path) : Type 0 where
+  pub gives : Gives t p
+  pub allows : Allows p
+  pub steps : steps_on p t.tree ≤ most_steps t.tree
+  pub alone : is_walked p ≡ false
+
+-- the steps of a cell that is read so: by a table, or by the walk of the tree
+abbrev pub steps_walked : Path → Shape Leaf → ℕ
+steps_walked (path.Constant l) t = depth t + 1
+steps_walked (path.Zero l) t = depth t + 1
+steps_walked (path.Gradient l) t = depth t + 1
+steps_walked (path.Runs l) t = depth t + 1
+steps_walked (path.Clusters c) t = 1
+steps_walked (path.GradientClusters c) t = depth t + 1
+steps_walked path.Tree t = depth t + 1
+
+-- the leaf where property 9 is x
+abbrev pub leaf_by : Leaves → ℤ → Leaf
+leaf_by (One l) x = l
+leaf_by (Table c) x = table_leaf c.now x
+
+-- the steps to it
+abbrev pub steps_by : Leaves → ℕ
+steps_by (One l) = 0
+steps_by (Table c) = 1
+
+-- they are those of a table
+abbrev pub are_of_table : Leaves → Bool
+are_of_table (One l) = false
+are_of_table (Table c) = true
+
+-- a leaf that adds nothing but the prediction
+pub record IsPlain (l : Leaf) : Type 0 where
+  pub offset : l.offset ≡ pos 0
+  pub multiplier : l.multiplier ≡ 1
+
+-- each leaf predicts by the clamped gradient alone, from one of these clusters
+pub record AreGradients (clusters : List ℕ) (leaves : Leaves) : Type 0 where
+  pub plain : (x : ℤ) → IsPlainGradient (leaf_by leaves x)
+  pub known : (x : ℤ) → FitsSigned w32 x → Contains clusters (leaf_by leaves x).cluster
+
+-- the tree's walks lead to these leaves, which predict so
+abbrev pub AreLeavesOf : FlatTree → Leaves → Type 0
+AreLeavesOf t (One l) = IsLeafOf t l × IsPlainGradient l
+AreLeavesOf t (Table c) = IsTableOf t c.now × IsOnGradient c.now
+
+-- a sum as property 9 has it, clamped or reduced to 32 bits
+abbrev pub sum_by : Bool → ℤ → ℤ
+sum_by true z = clamped z
+sum_by false z = int_wrap w32 z
+
+-- The neighbours in column x of a row, from the row above (none above the first row) and the cells of the row before
+-- it (ISO/IEC 18181-1, Modular: neighbouring samples).
+module _ (above row : List ℤ) where
+  -- left; in column 0 above; at the start 0
+  abbrev pub west_in : ℕ → ℤ
+  west_in zero = get_or above 0 (pos 0)
+  west_in (suc x) = get_or row x (pos 0)
+
+  -- above; in the first row as west
+  abbrev pub north_in : ℕ → ℤ
+  north_in x = get_or above x (west_in x)
+
+  -- above left; in the first row and in column 0 as west
+  abbrev pub north_west_in : ℕ → ℤ
+  north_west_in zero = west_in zero
+  north_west_in (suc x) = get_or above x (west_in (suc x))
+
+  -- the clamped gradient of these three, reduced to 32 bits
+  abbrev pub gradient_in : ℕ → ℤ
+  gradient_in x = int_wrap w32 (clamped_gradient (north_in x) (west_in x) (north_west_in x))
+
+  -- property 9: west less north west plus north, clamped or reduced to 32 bits
+  abbrev pub property_9_in : Bool → ℕ → ℤ
+  property_9_in clamped x = sum_by clamped (west_in x -ℤ north_west_in x +ℤ north_in x)
+
+-- two samples are those to the left of column x of a row, and above that one
+pub record AreLeft {X : Type 0} (to_int : X → ℤ) (above row : List X) (x : ℕ) (w nw : X) : Type 0 where
+  pub west : to_int w ≡ west_in (map to_int above) (map to_int row) x
+  pub north_west : to_int nw ≡ north_west_in (map to_int above) (map to_int row) x
+
+-- the row above row y of a grid; none above the first
+abbrev pub row_above : Grid ℤ → ℕ → List ℤ
+row_above g zero = []
+row_above g (suc y) = grid_row g y
+
+-- cells that are each read at a leaf, over a prediction, by the cells of the row before
+abbrev pub leaf_rule : {S : Type 0} → Meaning S → Width → List ℕ → ℕ → (List ℤ → Leaf) → (List ℤ → ℤ) → Rule S
+leaf_rule d w bytes widest leaf predicted = record {
+  read = λ row s p. d.read s bytes p (leaf row).cluster widest;
+  value = λ row token. sample_of w (leaf row) (predicted row) token;
+}
+
+-- at one leaf, over 0
+abbrev pub zero_rule : {S : Type 0} → Meaning S → Width → List ℕ → ℕ → Leaf → Rule S
+zero_rule d w bytes widest l = leaf_rule d w bytes widest (λ row. l) (λ row. pos 0)
+
+-- over the clamped gradient, at the leaf where property 9 is as it is there
+abbrev pub gradient_rule : {S : Type 0} → Meaning S → Width → Bool → List ℕ → ℕ → Leaves → List ℤ → Rule S
+gradient_rule d w clamped bytes widest leaves above =
+    leaf_rule d w bytes widest (λ row. leaf_by leaves (property_9_in above row clamped (length row))) (λ row. gradient_in above row (length row))

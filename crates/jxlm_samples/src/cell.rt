@@ -1,0 +1,247 @@
+//! Rows that are read cell by cell, each cell at the leaf to which its properties lead.
+
+ghost use Rattle.std.specs.Prelude.{◌≡◌, pos, ◌+ℤ◌, ◌*ℤ◌, ◌+◌, ◌^◌, ◌<◌, ◌≤◌, true, false, length, None, OnOk};
+ghost use Rattle.std.specs.Int.{int_wrap};
+ghost use Rattle.jxlm_base.specs.Numbers.{unpack};
+ghost use Rattle.jxlm_tree.specs.FlatTree.{ClustersStandIn};
+ghost use Rattle.jxlm_tree.specs.Paths.{Gives};
+ghost use Rattle.jxlm_tree.specs.SumTrees.{GoesBySum};
+ghost use Rattle.jxlm_tree.specs.Tree.{depth};
+ghost use Rattle.jxlm_predictor.specs.Holding.{IsCurrent};
+ghost use Rattle.jxlm_predictor.specs.Standing.{used_weights};
+ghost use Rattle.jxlm_samples.specs.Inner.Cells.{IsFound, IsFoundBy, SampleGives};
+ghost use Rattle.jxlm_samples.specs.Inner.Paths.{is_walked, steps_walked};
+ghost use Rattle.jxlm_samples.specs.Inner.Rows.{AreAway, CellGives, CellsGive, IsAtCell, IsAway, IsLine, IsWalked, RowGives, region_on};
+
+use crate::number::Number;
+use crate::rows::{Line, RowError};
+use crate::source::{Source, Walk};
+use jxlm_base::decoder::{Decoder, DecoderError};
+use jxlm_base::sample::{Sample, Sealed};
+use jxlm_tree::flat::{FlatMaTree, Leaf, Steps};
+use jxlm_tree::paths::Path;
+use jxlm_predictor::earlier::{EarlierRow, EarlierRows};
+use jxlm_predictor::predictor::Properties;
+
+/// The sample of a token: times the multiplier, plus the offset and the prediction.
+#[inline(always)]
+pub(crate) fn sample_from<S: Sample>(token: u32, leaf: Leaf, predicted: i32) -> S
+    requires { leaf.multiplier < 2 ^ 31 }
+    ensures { result ≡ S.from_int (int_wrap S.width (unpack token *ℤ pos leaf.multiplier +ℤ leaf.offset +ℤ predicted)) }
+{
+    S::unpack_signed_u32(token)
+        .wrapping_muladd_i32(leaf.multiplier as i32, leaf.offset)
+        .add(S::from_i32(predicted))
+}
+
+/// The leaf to which these properties lead by the walk of this tree; where it has one leaf, nothing is walked.
+#[inline(always)]
+fn walked_leaf<S: Sample>(
+    flat: &FlatMaTree,
+    properties: &Properties<'_, S>,
+    steps: &mut Steps,
+) -> Leaf
+    requires { IsCurrent properties.now }
+    ensures { IsFound false flat.now S.to_int properties.now steps.old steps.new (depth flat.now.tree + 1) result }
+{
+    match flat.only_leaf() {
+        Some(leaf) => leaf,
+        None => {
+            let own = properties.own();
+            *flat.leaf(&properties.listed(&own), steps)
+        }
+    }
+}
+
+/// The leaf to which this tree leads where each property is this number: by the path's table, where it has one.
+#[inline(never)]
+fn leaf_by_number(flat: &FlatMaTree, path: Path<'_>, number: i32, steps: &mut Steps) -> Leaf
+    requires { Gives flat.now path }
+    ensures { IsFoundBy flat.now number steps.old steps.new (steps_walked path.entry flat.now.tree) result }
+{
+    let place = Number { value: number };
+    match path {
+        Path::Clusters(table) => table.leaf_by(&place, steps),
+        _ => *flat.leaf(&place, steps),
+    }
+}
+
+/// The leaf to which these properties lead in this tree: by the path's table, where it has one. With `clamped` the tree
+/// asks for property 9 alone, which is clamped.
+#[inline(always)]
+fn leaf_of<S: Sample>(
+    flat: &FlatMaTree,
+    path: Path<'_>,
+    clamped: bool,
+    properties: &Properties<'_, S>,
+    steps: &mut Steps,
+) -> Leaf
+    requires current { IsCurrent properties.now }
+    requires gives { Gives flat.now path }
+    requires sums { clamped ≡ true → GoesBySum flat.now }
+    ensures { IsFound clamped flat.now S.to_int properties.now steps.old steps.new
+        (steps_walked path.entry flat.now.tree) result }
+{
+    if clamped {
+        return leaf_by_number(flat, path, properties.clamped_sum(), steps);
+    }
+    match path {
+        Path::Clusters(table) => table.leaf_by(properties, steps),
+        _ => walked_leaf(flat, properties, steps),
+    }
+}
+
+/// Reads the sample of the cell of these properties: at the leaf to which the tree leads, over that leaf's prediction.
+#[inline(always)]
+fn next_sample<S: Sample, D: Decoder>(
+    source: &mut Source<'_, D>,
+    properties: &Properties<'_, S>,
+    flat: &FlatMaTree,
+    path: Path<'_>,
+    clamped: bool,
+    widest: u32,
+) -> Result<S, DecoderError>
+    requires gives { Gives flat.now path }
+    requires sums { clamped ≡ true → GoesBySum flat.now }
+    requires current { IsCurrent properties.now }
+    requires clusters { ClustersStandIn (D.meaning.cluster_map source.old.decoder) flat.now.tree }
+    ensures { SampleGives D.meaning S.to_int clamped flat.now widest properties.now
+        source.old source.new S.width S.from_int (steps_walked path.entry flat.now.tree) result }
+{
+    let leaf = leaf_of(flat, path, clamped, properties, &mut source.steps);
+    let token = source
+        .decoder
+        .read_varint_with_multiplier_clustered(&mut source.bits, leaf.cluster, widest)?;
+    let predicted = leaf.predictor.predict(properties);
+    Ok(sample_from(token, leaf, predicted))
+}
+
+/// Reads the cell in column `x` into `row`; `rows` are those of the nearest earlier channels. The walk must be at this
+/// cell, and is at the next one afterwards. Without `EDGE` the cell is two or more columns and rows away from every edge
+/// but the last row; without `WEIGHTED` no weights are used in the channel.
+#[inline(always)]
+fn decode_cell_by<'s, S: Sample, D: Decoder, const EDGE: bool, const WEIGHTED: bool>(
+    walk: &mut Walk<'_, S, D>,
+    line: &Line<'_, 's, S, D>,
+    rows: &'s [EarlierRow<'s, S>],
+    row: &mut [S],
+    x: usize,
+) -> Result<(), DecoderError>
+    requires line { IsWalked line.now rows.now }
+    requires column { x < (region_on line.now).width }
+    requires inner { EDGE ≡ false → IsAway x line.now.y (region_on line.now).width }
+    requires without { WEIGHTED ≡ false → used_weights walk.old.state ≡ None }
+    requires at { IsAtCell line.now D.meaning S.to_int S.width x row.old walk.old }
+    ensures { CellGives line.now D.meaning S.to_int S.width x row.old row.new walk.old walk.new result }
+{
+    let properties = walk
+        .state
+        .properties_in_row::<EDGE, WEIGHTED>(line.store, rows);
+    let flat = &line.coding.flats[line.i].flat;
+    let sample = next_sample(
+        &mut walk.source,
+        &properties,
+        flat,
+        line.path,
+        line.clamped,
+        line.coding.widest,
+    )?;
+    properties.record_in_row::<EDGE>(sample.to_i32());
+    row[x] = sample;
+    Ok(())
+}
+
+/// Reads the cell in column `x` into `row`; `rows` are those of the nearest earlier channels. The walk must be at this
+/// cell, and is at the next one afterwards. Without `EDGE` the cell is two or more columns and rows away from every edge
+/// but the last row.
+#[inline(always)]
+fn decode_cell<'s, S: Sample, D: Decoder, const EDGE: bool>(
+    walk: &mut Walk<'_, S, D>,
+    line: &Line<'_, 's, S, D>,
+    rows: &'s [EarlierRow<'s, S>],
+    row: &mut [S],
+    x: usize,
+) -> Result<(), DecoderError>
+    requires line { IsWalked line.now rows.now }
+    requires column { x < (region_on line.now).width }
+    requires inner { EDGE ≡ false → IsAway x line.now.y (region_on line.now).width }
+    requires at { IsAtCell line.now D.meaning S.to_int S.width x row.old walk.old }
+    ensures { CellGives line.now D.meaning S.to_int S.width x row.old row.new walk.old walk.new result }
+{
+    if walk.state.is_weighted() {
+        decode_cell_by::<S, D, EDGE, true>(walk, line, rows, row, x)
+    } else {
+        decode_cell_by::<S, D, EDGE, false>(walk, line, rows, row, x)
+    }
+}
+
+/// Where the columns of row `y` begin and end whose cells are two or more columns and rows away from every edge but the
+/// last row; where there are none, both are the row's end.
+fn inner_columns(width: usize, y: usize) -> (usize, usize)
+    ensures order { result.0 ≤ result.1 }
+    ensures in_row { result.1 ≤ width }
+    ensures inner { AreAway result.0 result.1 y width }
+{
+    if y < 2 || width < 4 {
+        (width, width)
+    } else {
+        (2, width - 2)
+    }
+}
+
+/// Reads the cells from column `from` to before column `to` into `row`; the walk must be at the first of them, and is
+/// after the last one then. Without `EDGE` they are two or more columns and rows away from every edge but the last row.
+///
+/// # Errors
+///
+/// That of the read of one cell; the cells before are in the row then.
+fn read_cells<'s, S: Sample, D: Decoder, const EDGE: bool>(
+    walk: &mut Walk<'_, S, D>,
+    line: &Line<'_, 's, S, D>,
+    rows: &'s [EarlierRow<'s, S>],
+    row: &mut [S],
+    from: usize,
+    to: usize,
+) -> Result<(), RowError>
+    requires line { IsWalked line.now rows.now }
+    requires order { from ≤ to }
+    requires in_row { to ≤ (region_on line.now).width }
+    requires inner { EDGE ≡ false → AreAway from to line.now.y (region_on line.now).width }
+    requires at { IsAtCell line.now D.meaning S.to_int S.width from row.old walk.old }
+    ensures { CellsGive line.now D.meaning S.to_int S.width from to row.old row.new walk.old walk.new result }
+{
+    let here = Line { ..*line };
+    for x in from..to {
+        match decode_cell::<S, D, EDGE>(walk, &here, rows, row, x) {
+            Ok(()) => (),
+            Err(error) => return Err(RowError { column: x, error }),
+        }
+    }
+    Ok(())
+}
+
+/// Reads the row cell by cell; the walk must be at its first cell, and is after its last one then.
+///
+/// # Errors
+///
+/// That of the read of one cell; the cells before are in the row then.
+pub(crate) fn read_by_cells<S: Sample, D: Decoder>(
+    walk: &mut Walk<'_, S, D>,
+    line: &Line<'_, '_, S, D>,
+    row: &mut [S],
+) -> Result<(), RowError>
+    requires line { IsLine line.now }
+    requires walked { is_walked line.now.path ≡ true }
+    requires at { IsAtCell line.now D.meaning S.to_int S.width 0 row.old walk.old }
+    ensures gives { RowGives line.now D.meaning S.to_int S.width row.new walk.old.source walk.new.source result }
+    ensures at { OnOk result (IsAtCell line.now D.meaning S.to_int S.width (length row.new) row.new walk.new) }
+{
+    let width = row.len();
+    let asked = line.coding.flats[line.i].asked;
+    let earlier = EarlierRows::of(&walk.state, line.store, asked);
+    let rows = earlier.rows();
+    let (from, to) = inner_columns(width, line.y);
+    read_cells::<S, D, true>(walk, line, rows, row, 0, from)?;
+    read_cells::<S, D, false>(walk, line, rows, row, from, to)?;
+    read_cells::<S, D, true>(walk, line, rows, row, to, width)
+}

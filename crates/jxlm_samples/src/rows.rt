@@ -1,0 +1,74 @@
+//! Rows of a channel: what one only looks at, what its read returns, and how it is written.
+
+ghost use Rattle.std.specs.Prelude.{◌≡◌, ◌<◌, length, IfErr};
+ghost use Rattle.jxlm_base.specs.Regions.{Lies};
+ghost use Rattle.jxlm_samples.specs.Inner.Rows.{SetsRead};
+
+use crate::coding::PartCoding;
+use jxlm_base::decoder::{Decoder, DecoderError};
+use jxlm_base::grid::{AlignedGrid, Region};
+use jxlm_base::region::region_set_row;
+use jxlm_tree::paths::Path;
+
+/// How many tokens of a row of one leaf are read at a time.
+pub(crate) const STRETCH: usize = 64;
+
+/// What the cells of a row only look at.
+#[derive(Drop)]
+pub(crate) struct Line<'a, 's, S, D: Decoder> {
+    /// What the part is decoded with.
+    pub(crate) coding: &'a PartCoding<'a, D>,
+    /// The grids of the part.
+    pub(crate) store: &'s [AlignedGrid<S>],
+    /// How the rows of the channel are read.
+    pub(crate) path: Path<'a>,
+    /// The channel.
+    pub(crate) i: usize,
+    /// The row.
+    pub(crate) y: usize,
+    /// Whether property 9 is clamped.
+    pub(crate) clamped: bool,
+}
+
+/// Where the read of a row ended before its end, and why.
+#[derive(Clone, Copy)]
+pub(crate) struct RowError {
+    /// The column of the cell whose read returned the error.
+    pub(crate) column: usize,
+    /// The error of that read.
+    pub(crate) error: DecoderError,
+}
+
+/// Writes a row that was read into row `y` of a region: all of it, or the cells before the one whose read returned an
+/// error; and returns what the read returned.
+pub(crate) fn write_read<S: Copy>(
+    store: &mut [AlignedGrid<S>],
+    region: Region,
+    y: usize,
+    row: &[S],
+    read: Result<(), RowError>,
+) -> Result<(), DecoderError>
+    requires lies { Lies region store.old }
+    requires in_rows { y < region.height }
+    requires long { length row.now ≡ region.width }
+    requires inside { IfErr read (λ r. r.column < length row.now) }
+    ensures { SetsRead region y row.now read store.old store.new result }
+{
+    match read {
+        Ok(()) => {
+            region_set_row(store, region, y, row);
+            Ok(())
+        }
+        Err(ended) => {
+            let first = Region {
+                buffer: region.buffer,
+                x: region.x,
+                y: region.y,
+                width: ended.column,
+                height: region.height,
+            };
+            region_set_row(store, first, y, &row[..ended.column]);
+            Err(ended.error)
+        }
+    }
+}

@@ -1,6 +1,0 @@
-use Rattle.std.proofs.Common.{take}
-use Rattle.jxlm_text.specs.Inner.Cuts.{Lacks}
-use Rattle.jxlm_text.proofs.cut.cut.Given as goal
-
-abbrev pub invariant-loop-i : goal.invariant-loop-i
-invariant-loop-i l = Lacks l.byte (take l.i l.text)

@@ -1,6 +1,0 @@
-use Rattle.std.proofs.Common.{◌≡◌, take}
-use Rattle.std.specs.Str.Parse.{AllDigits, digits_value}
-use Rattle.jxlm_text.proofs.words.natural.Given as goal
-
-abbrev pub invariant-loop-digit : goal.invariant-loop-digit
-invariant-loop-digit l = record { digits : AllDigits 10 (take l.digit-index l.word); value : l.value ≡ digits_value 10 (take l.digit-index l.word) }

@@ -1,5 +1,0 @@
-use Rattle.jxlm_tokens.proofs.OneList.{one_list_each}
-use Rattle.jxlm_tokens.proofs.laws.each_part_has_one_list.Goals as goal
-
-pub returns : goal.returns
-returns c = one_list_each

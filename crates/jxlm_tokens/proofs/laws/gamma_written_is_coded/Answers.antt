@@ -1,5 +1,0 @@
-use Rattle.jxlm_tokens.proofs.WrittenCoded.{gamma_written_coded}
-use Rattle.jxlm_tokens.proofs.laws.gamma_written_is_coded.Goals as goal
-
-pub returns : goal.returns
-returns c = gamma_written_coded

@@ -1,5 +1,0 @@
-use Rattle.jxlm_tokens.proofs.WrittenCoded.{written_coded}
-use Rattle.jxlm_tokens.proofs.laws.written_is_coded.Goals as goal
-
-pub returns : goal.returns
-returns c = written_coded

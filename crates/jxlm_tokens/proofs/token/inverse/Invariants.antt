@@ -1,5 +1,0 @@
-use Rattle.jxlm_tokens.proofs.Inverse.{Undoes}
-use Rattle.jxlm_tokens.proofs.token.inverse.Given as goal
-
-abbrev pub invariant-loop-k : goal.invariant-loop-k
-invariant-loop-k l = Undoes l.odd l.k l.by

@@ -1,0 +1,68 @@
+-- A walk of a tree that asks for property 9 alone goes by it.
+use Rattle.std.proofs.Common.{◌≡◌, ℕ, ℤ, pos, Bool, true, false, ◌==◌, ◌&&◌, ◌+◌, ◌*◌, nat_lt, int_lt, if◌then◌else◌, refl, sym, ap, ◌∙◌, arith}
+use Rattle.std.specs.Int.{w32, int_wrap}
+use Rattle.std.proofs.lemmas.Bool.{eqb-true, ltb-true}
+use Rattle.std.proofs.lemmas.Bool.Decides.{nat_tests}
+use Rattle.jxlm_tree.specs.FlatTree.{FlatTree, asked, leaf_reached}
+use Rattle.jxlm_tree.specs.SumTrees.{GoesBySum, is_near, takes_sums, takes_sums_at}
+use Rattle.jxlm_tree.specs.Tree.{Shape, leaf, decision, walk}
+use Rattle.jxlm_tree.specs.declared.flat.Leaf.{Leaf}
+
+-- both of two are true
+first_of : (p q : Bool) → (p && q) ≡ true → p ≡ true
+first_of true q h = refl
+first_of false q h = h
+
+pub second_of : (p q : Bool) → (p && q) ≡ true → q ≡ true
+second_of true q h = h
+second_of false true h = refl
+second_of false false h = h
+
+-- a side that is taken alike leads to one leaf
+one_side : (b p q : Bool) (A A' B B' : Leaf) → (if b then p else q) ≡ true → (p ≡ true → A ≡ A') → (q ≡ true → B ≡ B') → (if b then A else B) ≡ (if b then A' else B')
+one_side true p q A A' B B' h l r = l h
+one_side false p q A A' B B' h l r = r h
+
+both_sides : (b : Bool) (A A' B B' : Leaf) → A ≡ A' → B ≡ B' → (if b then A else B) ≡ (if b then A' else B')
+both_sides true A A' B B' l r = l
+both_sides false A A' B B' l r = r
+
+module _ (c s : ℤ) (f g : ℕ → ℤ) (f0 : f 0 ≡ c) (g0 : g 0 ≡ c) (f1 : f 1 ≡ s) (g1 : g 1 ≡ s) (nine : f 9 ≡ g 9) where
+  -- what a decision on the channel or the stream compares
+  abbrev known : ℕ → ℤ
+  known k = if k == 0 then c else s
+
+  of_known : (h : ℕ → ℤ) → h 0 ≡ c → h 1 ≡ s → (k : ℕ) → nat_lt k 2 ≡ true → h k ≡ known k
+  of_known h h0 h1 k less = either (k == 0) refl where
+    either : (b : Bool) → (k == 0) ≡ b → h k ≡ known k
+    either true is = rw is (ap h (eqb-true k 0 is) ∙ h0)
+    either false is = let one : k ≡ 1 = grind (arith, nat_tests) in rw is (ap h one ∙ h1)
+
+  one_step : (k : ℕ) (v : ℤ) (p q : Bool) (A A' B B' : Leaf) →
+      (if nat_lt k 2 then (if int_lt v (known k) then p else q) else k == 9 && (is_near v && (p && q))) ≡ true → (p ≡ true → A ≡ A') → (q ≡ true → B ≡ B') →
+      (if int_lt v (f k) then A else B) ≡ (if int_lt v (g k) then A' else B')
+  one_step k v p q A A' B B' h l r = either (nat_lt k 2) refl where
+    either : (b : Bool) → nat_lt k 2 ≡ b → (if int_lt v (f k) then A else B) ≡ (if int_lt v (g k) then A' else B')
+    either true is =
+        let here = rw is at h in
+        let fk = of_known f f0 f1 k is in
+        let gk = of_known g g0 g1 k is in
+        rw (fk, gk) (one_side (int_lt v (known k)) p q A A' B B' here l r)
+    either false is =
+        let here : (k == 9 && (is_near v && (p && q))) ≡ true = rw is at h in
+        let at_nine : k ≡ 9 = eqb-true k 9 (first_of _ _ here) in
+        let sides = second_of (is_near v) (p && q) (second_of (k == 9) (is_near v && (p && q)) here) in
+        let same : f k ≡ g k = ap f at_nine ∙ nine ∙ sym (ap g at_nine) in
+        rw same (both_sides (int_lt v (g k)) A A' B B' (l (first_of p q sides)) (r (second_of p q sides)))
+
+  same_walk : (t : Shape Leaf) → takes_sums c s t ≡ true → walk t f ≡ walk t g
+  same_walk (leaf l) h = refl
+  same_walk (decision k v left right) h =
+      one_step k v (takes_sums c s left) (takes_sums c s right) (walk left f) (walk left g) (walk right f) (walk right g) h (same_walk left) (same_walk right)
+
+-- so goes a flat tree
+pub goes_by_sum : (t : FlatTree) → takes_sums_at t.channel t.stream_idx t.tree ≡ true → GoesBySum t
+goes_by_sum t h f g nine =
+    let within : nat_lt 9 (16 + 4 * t.prev_channels) ≡ true = grind (arith, nat_tests) in
+    let asked_nine : asked t f 9 ≡ asked t g 9 = rw within nine in
+    same_walk (int_wrap w32 (pos t.channel)) (int_wrap w32 (pos t.stream_idx)) (asked t f) (asked t g) refl refl refl refl asked_nine t.tree h

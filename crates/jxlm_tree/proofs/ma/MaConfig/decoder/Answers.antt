@@ -1,0 +1,12 @@
+use Rattle.std.specs.Prelude.{Contains}
+use Rattle.jxlm_tree.specs.TreeReading.{IsLeafOf}
+use Rattle.jxlm_tree.specs.Inner.TreeShape.{shape_of}
+use Rattle.jxlm_tree.specs.declared.flat.Leaf.{Leaf}
+use Rattle.jxlm_tree.proofs.FlatTrees.{each_leaf}
+use Rattle.jxlm_tree.proofs.ma.MaConfig.decoder.Goals as goal
+
+pub returns-clause-clusters : goal.returns-clause-clusters
+returns-clause-clusters g c =
+    let clusters = g.D.Decoder.meaning.cluster_map c.self.inside.decoder in
+    rw (← c.self.view_is)
+    (each_leaf {P = IsLeafOf clusters} {Q = λ (l : Leaf). Contains clusters l.cluster} (λ (l : Leaf) (h : IsLeafOf clusters l). h.cluster) (shape_of c.self.inside.tree.value.root) c.self.invariant.leaves)

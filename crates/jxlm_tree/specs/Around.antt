@@ -1,6 +1,0 @@
--- The neighbours as the code keeps them.
-use Rattle.jxlm_tree.specs.Neighbours.{Neighbours}
-use Rattle.jxlm_tree.specs.declared.around.Around.{Around}
-
-abbrev pub seen : Around → Neighbours
-seen a = record { w = a.w; n = a.n; nw = a.nw; ne = a.ne; nee = a.nee; nn = a.nn; ww = a.ww }

@@ -1,0 +1,237 @@
+//! Meta-adaptive trees: how a tree is read, and what it is kept with.
+
+ghost use Rattle.std.specs.Prelude.{◌≡◌, ◌≢◌, ◌≤◌, ◌^◌, length, map, IfOk, IfErr};
+ghost use Rattle.jxlm_base.specs.Bits.{bytes_of, position_of};
+ghost use Rattle.jxlm_base.specs.ErrorKind.{NoMemory, kind_of};
+ghost use Rattle.jxlm_tree.specs.Inner.DraftReading.{DecoderGives, ListsTrees, node_of};
+ghost use Rattle.jxlm_tree.specs.FlatTree.{ClustersStandIn, flat_tree};
+ghost use Rattle.jxlm_tree.specs.Inner.Compiled.{IsCompiledFor};
+ghost use Rattle.jxlm_tree.specs.Tree.{AllLeaves, Shape, levels, node_count, depth};
+ghost use Rattle.jxlm_tree.specs.TreeReading.{IsLeafOf, IsOutOfMemory, MemoryGives, TreeGives, leaf_count, listing_at};
+ghost use Rattle.jxlm_tree.specs.TreeStands.{EachListingIsOfATree, OneTreeStands, TreesAreReadExactly};
+ghost use Rattle.jxlm_tree.specs.declared.flat.Leaf.{Leaf};
+
+use crate::build::build;
+use crate::flat::{CompiledTree, FlatMaTree};
+use crate::nodes::{DraftNode, read_tree};
+use crate::tree::MaTree;
+use jxlm_base::bits::Bitstream;
+use jxlm_base::decoder::Decoder;
+use jxlm_base::error::Result;
+use jxlm_base::grid::OutOfMemory;
+use std::alloc::Global;
+use std::marker::Model;
+use std::rc::Rc;
+
+/// How large a tree may be.
+#[derive(Clone, Copy)]
+pub struct MaConfigParams {
+    /// A tree may have one node more than this; at most 2^26.
+    pub node_limit: usize,
+    /// The maximum depth that a tree may have; at most 2048.
+    pub depth_limit: usize,
+}
+
+/// A meta-adaptive tree, and the entropy decoder of its leaves' clusters.
+///
+/// Contracts see it as the tree and the decoder.
+#[derive(Drop)]
+pub struct MaConfig<D: Decoder> {
+    tree: Rc<MaTree>,
+    // Its nodes, where they are the same for every channel and stream.
+    anywhere: Option<Rc<CompiledTree>>,
+    decoder: D,
+    num_tree_nodes: usize,
+}
+
+impl<D: Decoder> Model for MaConfig<D> {
+    ghost use Rattle.std.specs.Rc.{rc_value};
+    ghost use Rattle.jxlm_tree.specs.Tree.{Config, config_of};
+    ghost use Rattle.jxlm_tree.specs.TreeCode.{coded_config};
+    ghost use Rattle.jxlm_tree.specs.Inner.Kept.{IsKept};
+    ghost use Rattle.jxlm_tree.specs.Inner.TreeShape.{shape_of};
+    ghost use Rattle.jxlm_tree.specs.contracts.flat.Leaf as leaves;
+
+    ghost Value = { Config D };
+
+    ghost coded = { coded_config leaves.the_row.coded D.code };
+
+    ghost view = { λ c. config_of (shape_of c.tree.value.root) c.decoder };
+
+    ghost invariant = { λ c. IsKept (D.meaning.cluster_map c.decoder) c.tree.value rc_value c.anywhere
+        c.num_tree_nodes };
+}
+
+impl<D: Decoder> MaConfig<D> {
+    /// Reads the tree at the reader's position, and the decoder of its leaves after it (ISO/IEC 18181-1, Modular:
+    /// decoding of meta-adaptive trees).
+    ///
+    /// # Errors
+    ///
+    /// That of the first check that fails. `Decoder`: a decoder's own error. `InvalidMaTree`: the tree would have no
+    /// end, more than 2^26 nodes, or a multiplier of 2^31 and more. `InvalidEnum`: a number that no predictor has.
+    /// `ProfileConformance`: more than `node_limit + 1` nodes or, once the decoder of the leaves is read, a depth
+    /// above `depth_limit`. The reader is then after the last token that was read; after an error of a decoder's
+    /// `parse` its position is that decoder's own matter.
+    ///
+    /// Out of memory is `Buffer` where the tree itself or its compiled nodes need it, which is only after the decoder
+    /// of its nodes was read, and `Decoder(OutOfMemory)` where a decoder does. No tree deeper than the limit is ever
+    /// held.
+    #[tactic(auto, unfolding(crate::specs::TreeReading::listing_at))]
+    pub fn parse(alloc: Global, bits: &mut Bitstream<'_>, params: MaConfigParams) -> Result<Self>
+        requires nodes { params.node_limit ≤ 2 ^ 26 }
+        requires depth { params.depth_limit ≤ 2048 }
+        ensures gives { TreeGives D.meaning (bytes_of bits.old) params.node_limit params.depth_limit
+            (position_of bits.old) result (position_of bits.new) }
+        ensures memory { MemoryGives D.meaning (bytes_of bits.old) (position_of bits.old) result }
+        ensures bytes { bytes_of bits.new ≡ bytes_of bits.old }
+    {
+        let mut first: D = parse_decoder(alloc, bits, 6)?;
+        let nodes = read_tree(alloc, &mut first, bits, params.node_limit)?;
+        let num_tree_nodes = nodes.len();
+        let decoder: D = parse_decoder(alloc, bits, count_leaves(&nodes))?;
+        let tree = build(alloc, nodes, decoder.cluster_map(), params.depth_limit)?;
+        let anywhere = CompiledTree::anywhere(alloc, &tree)?;
+        let tree = Rc::new(alloc, tree)?;
+        Ok(MaConfig {
+            tree,
+            anywhere,
+            decoder,
+            num_tree_nodes,
+        })
+    }
+
+    /// The same tree, shared, with a decoder of its own in the same state.
+    ///
+    /// # Errors
+    ///
+    /// Out of memory alone: `Decoder(OutOfMemory)` from the decoder, or `Buffer`.
+    pub fn try_clone(&self, alloc: Global) -> Result<Self>
+        ensures ok { IfOk result (λ c. c ≡ self.now) }
+        ensures err { IfErr result (λ e. IsOutOfMemory (kind_of e)) }
+    {
+        let decoder = self.decoder.try_clone(alloc)?;
+        let tree = self.tree.clone()?;
+        let anywhere = match &self.anywhere {
+            Some(shared) => Some(shared.clone()?),
+            None => None,
+        };
+        Ok(MaConfig {
+            tree,
+            anywhere,
+            decoder,
+            num_tree_nodes: self.num_tree_nodes,
+        })
+    }
+
+    /// The tree as the samples of one channel walk it: `channel` is its index in its part, `stream_idx` the index of
+    /// the stream, and `prev_channels` the number of earlier channels that it may ask for.
+    ///
+    /// The tree is shared. So are its compiled nodes where it asks for neither channel nor stream, and no earlier
+    /// channel that it names is missing.
+    ///
+    /// # Errors
+    ///
+    /// `Buffer` if it is out of memory, and no other.
+    pub fn make_flat_tree(
+        &self,
+        alloc: Global,
+        channel: u32,
+        stream_idx: u32,
+        prev_channels: u32,
+    ) -> Result<FlatMaTree>
+        ensures tree { IfOk result (λ t. t ≡ flat_tree self.now.tree channel stream_idx prev_channels) }
+        ensures leaves { IfOk result (λ t. AllLeaves (IsLeafOf (D.meaning.cluster_map self.now.decoder)) t.tree) }
+        ensures clusters { IfOk result (λ t. ClustersStandIn (D.meaning.cluster_map self.now.decoder) t.tree) }
+        ensures err { IfErr result (λ e. kind_of e ≡ NoMemory) }
+    {
+        let tree = self.tree.clone()?;
+        let compiled = self.compiled_for(alloc, channel, stream_idx, prev_channels)?;
+        Ok(FlatMaTree {
+            tree,
+            compiled,
+            channel,
+            stream_idx,
+            prev_channels,
+        })
+    }
+
+    // The nodes for the samples of a channel: those that are shared, where they serve it.
+    fn compiled_for(
+        &self,
+        alloc: Global,
+        channel: u32,
+        stream_idx: u32,
+        prev_channels: u32,
+    ) -> Result<Rc<CompiledTree>>
+        ensures compiled { IfOk result (λ c. IsCompiledFor self.now.tree channel stream_idx prev_channels c.value) }
+        ensures err { IfErr result (λ e. kind_of e ≡ NoMemory) }
+    {
+        if let Some(shared) = &self.anywhere {
+            if self.tree.prev_channels_named <= prev_channels {
+                return Ok(shared.clone()?);
+            }
+        }
+        let compiled = CompiledTree::new(alloc, &self.tree, channel, stream_idx, prev_channels)?;
+        Ok(Rc::new(alloc, compiled)?)
+    }
+
+    /// The decoder of the leaves' clusters.
+    pub fn decoder(&self) -> &D
+        ensures decoder { result.now ≡ self.now.decoder }
+        ensures clusters { ClustersStandIn (D.meaning.cluster_map result.now) self.now.tree }
+    {
+        &self.decoder
+    }
+
+    /// How many nodes the tree has, leaves and decisions together: at most 2^26.
+    pub fn num_tree_nodes(&self) -> usize
+        ensures nodes { result ≡ node_count self.now.tree }
+        ensures most { result ≤ 2 ^ 26 }
+    {
+        self.num_tree_nodes
+    }
+
+    /// The maximum number of decisions from the root to a leaf: at most 2048.
+    pub fn tree_depth(&self) -> usize
+        ensures depth { result ≡ depth self.now.tree }
+        ensures most { result ≤ 2048 }
+    {
+        self.tree.depth
+    }
+}
+
+fn parse_decoder<D: Decoder>(alloc: Global, bits: &mut Bitstream<'_>, contexts: u32) -> Result<D>
+    ensures gives { DecoderGives D.meaning contexts result bits.old bits.new }
+    ensures contexts { IfOk result (λ d. length (D.meaning.cluster_map d) ≡ contexts) }
+    ensures memory { IfErr result (λ e. kind_of e ≢ NoMemory) }
+    ensures bytes { bytes_of bits.new ≡ bytes_of bits.old }
+{
+    Ok(D::parse(alloc, bits, contexts)?)
+}
+
+// There is one leaf more than there are decisions.
+fn count_leaves(nodes: &[DraftNode]) -> u32
+    requires listing { ListsTrees 1 (map node_of nodes.now) }
+    requires count { length nodes.now ≤ 2 ^ 26 }
+    ensures { result ≡ leaf_count (map node_of nodes.now) }
+{
+    nodes.len() as u32 / 2 + 1
+}
+
+/// What is read as the nodes of a tree is the listing of a tree.
+pub fn each_listing_is_of_a_tree<D: Decoder>()
+    ensures { EachListingIsOfATree D.meaning }
+{}
+
+/// No two trees have one listing.
+pub fn no_two_trees_share_a_listing()
+    ensures { (t u : Shape Leaf) → levels t ≡ levels u → t ≡ u }
+{}
+
+/// A tree that is read stands in the bits token after token, a tree that stands there is read, and no two trees stand
+/// at one bit position.
+pub fn each_tree_is_read_exactly<D: Decoder>()
+    ensures exactly { TreesAreReadExactly D.meaning }
+    ensures one { OneTreeStands D.meaning }
+{}
