@@ -2,8 +2,8 @@
 
 use crate::names::name;
 use check_rows::{bytes, number, numbers, text_sum, word};
-use jxlm_base::bits::Bitstream;
-use jxlm_base::decoder::{Decoder, DecoderError};
+use jxlm_bits::bits::Bitstream;
+use jxlm_bits::decoder::{Decoder, DecoderError};
 use jxl_coding::decoder::EntropyDecoder;
 use std::alloc::Global;
 

@@ -12,8 +12,8 @@
 
 use crate::streams::{BrokenReader, SmallWriter};
 use check_rows::{number, repeated, word};
-use jxlm_base::decoder::DecoderError;
-use jxlm_base::error::Error;
+use jxlm_bits::decoder::DecoderError;
+use jxlm_bits::error::Error;
 use jxlm_base::grid::OutOfMemory;
 use jxlm_encode::encode::EncodeError;
 use jxlmod_commands::refusal::Refusal;

@@ -1,7 +1,7 @@
 //! Frame headers and tables of contents, field by field.
 
 ghost use Rattle.std.specs.Prelude.{◌≡◌, ◌*◌, ◌^◌, ◌<◌, IfOk, length};
-ghost use Rattle.jxlm_base.specs.Bits.{bytes_of};
+ghost use Rattle.jxlm_bits.specs.Bits.{bytes_of};
 
 use crate::images::tell_error;
 use jxl_frame_header::blending::{Blending, BlendingInfo, Ending};
@@ -15,8 +15,8 @@ use jxl_toc::layout::Layout;
 use jxl_toc::profile::skip_profile;
 use jxl_toc::toc::Toc;
 use check_rows::bytes;
-use jxlm_base::bits::Bitstream;
-use jxlm_base::error::{Error, Result};
+use jxlm_bits::bits::Bitstream;
+use jxlm_bits::error::{Error, Result};
 use jxl_coding::decoder::EntropyDecoder;
 use std::alloc::Global;
 

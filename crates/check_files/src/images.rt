@@ -4,8 +4,8 @@ use jxl_image_header::channel::{BitDepth, ExtraChannel};
 use jxl_image_header::colour::ColourEncoding;
 use jxl_image_header::image::{Display, ImageHeader};
 use check_rows::bytes;
-use jxlm_base::bits::{Bitstream, BitstreamError};
-use jxlm_base::error::Error;
+use jxlm_bits::bits::{Bitstream, BitstreamError};
+use jxlm_bits::error::Error;
 use std::alloc::Global;
 
 /// Adds a depth, with its exponent's bits after a letter where it has one.

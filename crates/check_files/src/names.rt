@@ -1,6 +1,6 @@
 //! Errors by name.
 
-use jxlm_base::decoder::DecoderError;
+use jxlm_bits::decoder::DecoderError;
 use jxl_coding_codes::refusal::Refusal;
 use std::alloc::{AllocError, Global};
 

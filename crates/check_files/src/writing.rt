@@ -6,7 +6,7 @@ use jxl_image_header::size::Size;
 use jxl_picture::format::Format;
 use jxl_picture::picture::{Picture, colours};
 use check_rows::{bytes, signed, word};
-use jxlm_base::bits::Bitstream;
+use jxlm_bits::bits::Bitstream;
 use jxlm_base::grid::AlignedGrid;
 use std::alloc::Global;
 

@@ -1,9 +1,9 @@
 -- The clusters of contexts (ISO/IEC 18181-1, entropy decoding: distribution clustering).
 use Rattle.std.specs.Prelude.{ℕ, zero, suc, ◌+◌, List, [], ◌∷◌, ◌++◌, length, max, Bool, true, ◌&&◌, if◌then◌else◌, nat_lt, ◌==◌, insert, remove, Result, Ok, Err, slice_index}
 use Rattle.std.specs.List.{list_any}
-use Rattle.jxlm_base.specs.Decoding.{Found}
-use Rattle.jxlm_base.specs.ErrorKind.{◌>>=◌}
-use Rattle.jxlm_base.specs.declared.decoder.DecoderError.{DecoderError}
+use Rattle.jxlm_bits.specs.Decoding.{Found}
+use Rattle.jxlm_bits.specs.ErrorKind.{◌>>=◌}
+use Rattle.jxlm_bits.specs.declared.decoder.DecoderError.{DecoderError}
 use Rattle.jxl_coding_codes.specs.Refusals.{refused}
 use Rattle.jxl_coding_codes.specs.declared.refusal.Refusal.TheVariants.{ClusterTooLarge, ClusterUnused}
 use Rattle.jxl_coding_codes.specs.Fields.{number_at}

@@ -1,8 +1,8 @@
 -- An entropy decoder in the input: the grammar of its codes (ISO/IEC 18181-1, entropy decoding: decoder initialisation).
 use Rattle.std.specs.Prelude.{ℕ, ◌+◌, ◌-◌, ◌/◌, ◌^◌, List, [], ◌∷◌, ◌++◌, length, take, replicate, Bool, true, false, if◌then◌else◌, nat_lt, nat_le, ◌==◌, Option, Some, None, Result, Ok, Err, slice_index, slice_index_or}
-use Rattle.jxlm_base.specs.Decoding.{Found}
-use Rattle.jxlm_base.specs.ErrorKind.{◌>>=◌}
-use Rattle.jxlm_base.specs.declared.decoder.DecoderError.{DecoderError}
+use Rattle.jxlm_bits.specs.Decoding.{Found}
+use Rattle.jxlm_bits.specs.ErrorKind.{◌>>=◌}
+use Rattle.jxlm_bits.specs.declared.decoder.DecoderError.{DecoderError}
 use Rattle.jxl_coding_codes.specs.Refusals.{refused}
 use Rattle.jxl_coding_codes.specs.declared.refusal.Refusal.TheVariants.{DistributionAlphabet, MapCopies, PrefixAlphabet}
 use Rattle.jxl_coding_codes.specs.Fields.{number_at, var_len_at}

@@ -1,8 +1,8 @@
 -- The symbols of a cluster: codewords of a prefix code, or slots of a distribution (ISO/IEC 18181-1, entropy decoding:
 -- symbol decoding).
 use Rattle.std.specs.Prelude.{ℕ, ◌%◌, List, replicate, Option, Some, None, Result, Ok, slice_index_or}
-use Rattle.jxlm_base.specs.ErrorKind.{◌>>=◌}
-use Rattle.jxlm_base.specs.declared.decoder.DecoderError.{DecoderError}
+use Rattle.jxlm_bits.specs.ErrorKind.{◌>>=◌}
+use Rattle.jxlm_bits.specs.declared.decoder.DecoderError.{DecoderError}
 use Rattle.jxl_coding_codes.specs.PrefixCodes.{codeword_at}
 use Rattle.jxl_coding_codes.specs.Ans.{Symbol, slot_of, after_slot, refilled_at}
 use Rattle.jxl_coding_codes.specs.declared.ans.Bucket.{Bucket}

@@ -1,8 +1,8 @@
 -- The tokens of an entropy decoder (ISO/IEC 18181-1, entropy decoding).
 use Rattle.std.specs.Prelude.{ℕ, ◌+◌, ◌-◌, ◌*◌, ◌^◌, List, length, min, false, if◌then◌else◌, nat_lt, ◌==◌, Option, Some, None, Result, Ok, Err}
-use Rattle.jxlm_base.specs.Decoding.{Found, Taken, Meaning}
-use Rattle.jxlm_base.specs.ErrorKind.{◌>>=◌}
-use Rattle.jxlm_base.specs.declared.decoder.DecoderError.{DecoderError}
+use Rattle.jxlm_bits.specs.Decoding.{Found, Taken, Meaning}
+use Rattle.jxlm_bits.specs.ErrorKind.{◌>>=◌}
+use Rattle.jxlm_bits.specs.declared.decoder.DecoderError.{DecoderError}
 use Rattle.jxl_coding_codes.specs.Refusals.{refused}
 use Rattle.jxl_coding_codes.specs.declared.refusal.Refusal.TheVariants.{CopyTooLong, EndState, StateTooSmall}
 use Rattle.jxl_coding_codes.specs.Fields.{number_at}

@@ -1,9 +1,9 @@
 //! The clusters of contexts.
 
 ghost use Rattle.std.specs.Prelude.{◌≡◌, slice_index, insert, remove, ◌+◌, ◌-◌, ◌<◌, ◌≤◌, ◌^◌, [], length, IfOk, IfErr, OnOk, IsSome, Ok, Err, Bool};
-ghost use Rattle.jxlm_base.specs.Bits.{bytes_of, position_of};
-ghost use Rattle.jxlm_base.specs.Decoding.{Gives};
-ghost use Rattle.jxlm_base.specs.declared.decoder.DecoderError.{DecoderError};
+ghost use Rattle.jxlm_bits.specs.Bits.{bytes_of, position_of};
+ghost use Rattle.jxlm_bits.specs.Decoding.{Gives};
+ghost use Rattle.jxlm_bits.specs.declared.decoder.DecoderError.{DecoderError};
 ghost use Rattle.jxl_coding_codes.specs.Fields.{number_at};
 ghost use Rattle.jxl_coding_codes.specs.Reading.{steps, pushed};
 ghost use Rattle.jxl_coding.specs.Clusters.{greatest as the_greatest, are_used as all_used, count_of as the_count, numbers as first_numbers, moved as the_moved, cluster_step, in_list, stream_clusters_at, coded_clusters_at, plain_clusters_at};
@@ -16,8 +16,8 @@ ghost use Rattle.jxl_coding_codes.specs.Reading.{StepGives};
 use crate::state::State;
 use crate::tables::Tables;
 use crate::tokens::{begin, finalize, read_token};
-use jxlm_base::bits::Bitstream;
-use jxlm_base::decoder::DecoderError;
+use jxlm_bits::bits::Bitstream;
+use jxlm_bits::decoder::DecoderError;
 use jxl_coding_codes::fields::number;
 use jxl_coding_codes::refusal::Refusal;
 use std::alloc::Global;

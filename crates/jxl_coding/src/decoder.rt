@@ -1,9 +1,9 @@
 //! The entropy decoder.
 
 ghost use Rattle.std.specs.Prelude.{◌≡◌, ℕ, None, Contains, IfOk, IfErr};
-ghost use Rattle.jxlm_base.specs.Bits.{bytes_of, position_of};
-ghost use Rattle.jxlm_base.specs.Decoding.{RunGives};
-ghost use Rattle.jxlm_base.specs.declared.decoder.DecoderError.{DecoderError};
+ghost use Rattle.jxlm_bits.specs.Bits.{bytes_of, position_of};
+ghost use Rattle.jxlm_bits.specs.Decoding.{RunGives};
+ghost use Rattle.jxlm_bits.specs.declared.decoder.DecoderError.{DecoderError};
 ghost use Rattle.jxl_coding.specs.Tokens.{entropy};
 ghost use Rattle.jxl_coding.specs.Parse.{decoder_at};
 
@@ -11,8 +11,8 @@ use crate::parse::decoder_codes;
 use crate::state::State;
 use crate::tables::Tables;
 use crate::tokens::{begin, copy_state, finalize, only_token, read_token, read_tokens};
-use jxlm_base::bits::Bitstream;
-use jxlm_base::decoder::{Decoder, DecoderError, RleToken, TokensError};
+use jxlm_bits::bits::Bitstream;
+use jxlm_bits::decoder::{Decoder, DecoderError, RleToken, TokensError};
 use std::alloc::Global;
 use std::marker::Model;
 use std::rc::Rc;

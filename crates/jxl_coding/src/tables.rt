@@ -2,7 +2,7 @@
 
 ghost use Rattle.std.specs.Prelude.{◌≡◌, ◌<◌, ◌≤◌, ◌^◌, length, All, IfOk, IfErr};
 ghost use Rattle.std.specs.Option.{option_to_list};
-ghost use Rattle.jxlm_base.specs.Bits.{bytes_of, position_of};
+ghost use Rattle.jxlm_bits.specs.Bits.{bytes_of, position_of};
 ghost use Rattle.jxl_coding_codes.specs.IntegerConfigs.{IsConfig};
 ghost use Rattle.jxl_coding_codes.specs.PrefixCodes.{codeword_at};
 ghost use Rattle.jxl_coding_codes.specs.Reading.{Exactly};
@@ -10,8 +10,8 @@ ghost use Rattle.jxl_coding.specs.Symbols.{cluster_code as the_cluster_code, sym
 ghost use Rattle.jxl_coding.specs.Inner.Lookups.{AreLookups};
 
 use crate::codes::{ClusterCode, Coder, Lz77};
-use jxlm_base::bits::Bitstream;
-use jxlm_base::decoder::DecoderError;
+use jxlm_bits::bits::Bitstream;
+use jxlm_bits::decoder::DecoderError;
 use jxl_coding_codes::ans::{Bucket, refilled, slot_of};
 use jxl_coding_codes::codeword::codeword;
 use jxl_coding_codes::config::IntegerConfig;

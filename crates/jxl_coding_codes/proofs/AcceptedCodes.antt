@@ -8,9 +8,9 @@ use Rattle.std.proofs.lemmas.List.{length-append, length-replicate, length-set, 
 use Rattle.std.proofs.lemmas.List.Elements.{All-cons, All-set, All-get_or}
 use Rattle.std.proofs.lemmas.List.Sums.{sum_by-set, sum_by-cons, sum_by_more, sum-map}
 use Rattle.std.proofs.lemmas.List.Folds.{list_any_at, sum_by-replicate}
-use Rattle.jxlm_base.proofs.BitsLemmas.{bits_at-bound}
-use Rattle.jxlm_base.specs.Decoding.{Found}
-use Rattle.jxlm_base.specs.declared.decoder.DecoderError.{DecoderError}
+use Rattle.jxlm_bits.proofs.BitsLemmas.{bits_at-bound}
+use Rattle.jxlm_bits.specs.Decoding.{Found}
+use Rattle.jxlm_bits.specs.declared.decoder.DecoderError.{DecoderError}
 use Rattle.jxl_coding_codes.specs.Refusals.{refused}
 use Rattle.jxl_coding_codes.specs.declared.refusal.Refusal.TheVariants.{NoCodeword}
 use Rattle.jxl_coding_codes.specs.Fields.{number_at, width_of}

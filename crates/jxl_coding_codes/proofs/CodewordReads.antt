@@ -8,9 +8,9 @@ use Rattle.std.proofs.lemmas.List.Sums.{sum_by_more, sum-map}
 use Rattle.std.specs.List.{sum_by}
 use Rattle.std.proofs.lemmas.Nat.{mul-le, pow-add, pow_below, shl-shr}
 use Rattle.std.proofs.Math.Nat.{pow-suc, mul_comm, suc-mul, pow-le-pow_right, lt_of_lt_of_le, div-eq_of_lt, one-mul}
-use Rattle.jxlm_base.specs.Bits.{bit_at, bits_at}
-use Rattle.jxlm_base.specs.Decoding.{Found}
-use Rattle.jxlm_base.specs.declared.decoder.DecoderError.{DecoderError}
+use Rattle.jxlm_bits.specs.Bits.{bit_at, bits_at}
+use Rattle.jxlm_bits.specs.Decoding.{Found}
+use Rattle.jxlm_bits.specs.declared.decoder.DecoderError.{DecoderError}
 use Rattle.jxl_coding_codes.specs.Fields.{number_at}
 use Rattle.jxl_coding_codes.specs.PrefixCodes.{of_length, all_of_length, of_lengths, prefix_of, codeword_at, next_symbol_at, share}
 use Rattle.jxl_coding_codes.specs.Codewords.{codewords_of, first_codeword, HasCodeword, leading_bits_at, StandsAt, IsFull}

@@ -8,9 +8,9 @@ use Rattle.std.proofs.lemmas.List.{length-set, length-replicate, length-append, 
 use Rattle.std.proofs.lemmas.Result.{IfOk-weaker}
 use Rattle.std.proofs.lemmas.List.Sums.{sum_by-set, sum_by_push, get_or-le-sum_by}
 use Rattle.std.proofs.lemmas.List.Folds.{sum_by-replicate}
-use Rattle.jxlm_base.specs.Decoding.{Found, Gives}
-use Rattle.jxlm_base.specs.declared.decoder.DecoderError.{DecoderError}
-use Rattle.jxlm_base.proofs.BitsLemmas.{bits_at-bound}
+use Rattle.jxlm_bits.specs.Decoding.{Found, Gives}
+use Rattle.jxlm_bits.specs.declared.decoder.DecoderError.{DecoderError}
+use Rattle.jxlm_bits.proofs.BitsLemmas.{bits_at-bound}
 use Rattle.jxl_coding_codes.specs.Fields.{number_at, var_len_at}
 use Rattle.jxl_coding_codes.specs.Reading.{steps}
 use Rattle.jxl_coding_codes.specs.Distributions.{whole, one_symbol, two_symbols, few_at, even_at, even_first, Widths, no_widths, one_width, same_widths, widths_step, signalled_at, next_count_at, count_at, counts_step, with_rest, precision_at, are_widths, many_at, distribution_at}

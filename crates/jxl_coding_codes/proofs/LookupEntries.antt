@@ -5,11 +5,11 @@ use Rattle.std.proofs.Math.Nat.{add-mul-mod_self_right, mod-eq_of_lt}
 use Rattle.std.proofs.lemmas.Bool.{cases_lt}
 use Rattle.std.proofs.lemmas.Bool.Decides.{nat_tests}
 use Rattle.std.proofs.lemmas.List.{length-append, get_or_append_left, get_or-append-add}
-use Rattle.jxlm_base.specs.Bits.{bit_at, bits_at}
-use Rattle.jxlm_base.specs.Decoding.{Found}
-use Rattle.jxlm_base.specs.declared.decoder.DecoderError.{DecoderError}
-use Rattle.jxlm_base.specs.declared.decoder.DecoderError.TheVariants.{UnexpectedEof}
-use Rattle.jxlm_base.proofs.BitsLemmas.{bits_at-bound, bits_at-digit, bits_at-join, bits_at-byte}
+use Rattle.jxlm_bits.specs.Bits.{bit_at, bits_at}
+use Rattle.jxlm_bits.specs.Decoding.{Found}
+use Rattle.jxlm_bits.specs.declared.decoder.DecoderError.{DecoderError}
+use Rattle.jxlm_bits.specs.declared.decoder.DecoderError.TheVariants.{UnexpectedEof}
+use Rattle.jxlm_bits.proofs.BitsLemmas.{bits_at-bound, bits_at-digit, bits_at-join, bits_at-byte}
 use Rattle.jxl_coding_codes.specs.Fields.{number_at}
 use Rattle.jxl_coding_codes.specs.PrefixCodes.{codeword_at}
 use Rattle.jxl_coding_codes.specs.Lookups.{untold, Tells, AllTell}

@@ -1,9 +1,9 @@
 -- Readings one after another, as a loop does them.
 use Rattle.std.proofs.Common.{◌≡◌, ℕ, suc, ◌-◌, ◌+◌, ◌≤◌, ◌<◌, List, Result, Ok, Err, refl, sym, ◌∙◌, arith}
-use Rattle.jxlm_base.specs.Decoding.{Found, Fails}
-use Rattle.jxlm_base.specs.ErrorKind.{◌>>=◌}
-use Rattle.jxlm_base.specs.declared.decoder.DecoderError.{DecoderError}
-use Rattle.jxlm_base.specs.declared.decoder.DecoderError.TheVariants.{UnexpectedEof, Invalid, OutOfMemory}
+use Rattle.jxlm_bits.specs.Decoding.{Found, Fails}
+use Rattle.jxlm_bits.specs.ErrorKind.{◌>>=◌}
+use Rattle.jxlm_bits.specs.declared.decoder.DecoderError.{DecoderError}
+use Rattle.jxlm_bits.specs.declared.decoder.DecoderError.TheVariants.{UnexpectedEof, Invalid, OutOfMemory}
 use Rattle.jxl_coding_codes.specs.Reading.{steps}
 
 module _ {X : Type 0} (step : X → List ℕ → ℕ → Result (Found X) DecoderError) (bytes : List ℕ) (count i p : ℕ) (x : X) (total : Result (Found X) DecoderError) where

@@ -1,8 +1,8 @@
 -- Symbols by a state of asymmetric numeral systems: what the 4096 slots of a distribution stand for, and the state
 -- after a symbol (ISO/IEC 18181-1, entropy decoding: ANS symbol decoding, alias mapping).
 use Rattle.std.specs.Prelude.{◌≡◌, ℕ, ◌+◌, ◌-◌, ◌*◌, ◌/◌, ◌%◌, ◌^◌, List, if◌then◌else◌, nat_lt, Result, Ok, Err, slice_index_or}
-use Rattle.jxlm_base.specs.ErrorKind.{◌>>=◌}
-use Rattle.jxlm_base.specs.declared.decoder.DecoderError.{DecoderError}
+use Rattle.jxlm_bits.specs.ErrorKind.{◌>>=◌}
+use Rattle.jxlm_bits.specs.declared.decoder.DecoderError.{DecoderError}
 use Rattle.jxl_coding_codes.specs.Fields.{number_at}
 use Rattle.jxl_coding_codes.specs.declared.ans.Bucket.{Bucket}
 use Rattle.jxl_coding_codes.specs.declared.ans.Slot as declared

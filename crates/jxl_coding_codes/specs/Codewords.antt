@@ -1,7 +1,7 @@
 -- Codewords of prefix codes as bits, without the walk that reads them (ISO/IEC 18181-1, entropy decoding: prefix codes;
 -- RFC 7932, section 3.2: use of prefix codes).
 use Rattle.std.specs.Prelude.{◌≡◌, ℕ, zero, suc, ◌+◌, ◌*◌, ◌^◌, ◌<◌, ◌≤◌, ◌⊎◌, List, length, sum, map, slice_index}
-use Rattle.jxlm_base.specs.Bits.{bit_at}
+use Rattle.jxlm_bits.specs.Bits.{bit_at}
 use Rattle.jxl_coding_codes.specs.PrefixCodes.{Prefix, of_length, all_of_length, prefix_of, single_code, share}
 
 -- how many codewords have a length; 0 is none

@@ -1,8 +1,8 @@
 -- Distributions of symbols: how often of 4096 times each comes (ISO/IEC 18181-1, entropy decoding: ANS distributions).
 use Rattle.std.specs.Prelude.{ℕ, zero, suc, ◌+◌, ◌-◌, ◌*◌, ◌/◌, ◌%◌, ◌^◌, List, [], ◌∷◌, ◌++◌, length, replicate, sum, min, max, Bool, true, false, ◌&&◌, if◌then◌else◌, nat_lt, nat_le, ◌==◌, Result, Ok, Err, slice_set, slice_index, slice_index_or}
-use Rattle.jxlm_base.specs.Decoding.{Found}
-use Rattle.jxlm_base.specs.ErrorKind.{◌>>=◌}
-use Rattle.jxlm_base.specs.declared.decoder.DecoderError.{DecoderError}
+use Rattle.jxlm_bits.specs.Decoding.{Found}
+use Rattle.jxlm_bits.specs.ErrorKind.{◌>>=◌}
+use Rattle.jxlm_bits.specs.declared.decoder.DecoderError.{DecoderError}
 use Rattle.jxl_coding_codes.specs.Refusals.{refused}
 use Rattle.jxl_coding_codes.specs.declared.refusal.Refusal.TheVariants.{CountPrecision, CountWidths, CountsOverfull, SymbolsEqual}
 use Rattle.jxl_coding_codes.specs.Fields.{number_at, var_len_at}

@@ -1,10 +1,10 @@
 -- Numbers in the input, with a decoder's errors (ISO/IEC 18181-1, notation of fields).
 use Rattle.std.specs.Prelude.{ℕ, zero, suc, ◌+◌, ◌*◌, ◌^◌, List, length, Bool, if◌then◌else◌, nat_lt, ◌==◌, Result, Ok, Err}
-use Rattle.jxlm_base.specs.Bits.{bits_at}
-use Rattle.jxlm_base.specs.Decoding.{Found}
-use Rattle.jxlm_base.specs.ErrorKind.{◌>>=◌}
-use Rattle.jxlm_base.specs.declared.decoder.DecoderError.{DecoderError}
-use Rattle.jxlm_base.specs.declared.decoder.DecoderError.TheVariants.{UnexpectedEof}
+use Rattle.jxlm_bits.specs.Bits.{bits_at}
+use Rattle.jxlm_bits.specs.Decoding.{Found}
+use Rattle.jxlm_bits.specs.ErrorKind.{◌>>=◌}
+use Rattle.jxlm_bits.specs.declared.decoder.DecoderError.{DecoderError}
+use Rattle.jxlm_bits.specs.declared.decoder.DecoderError.TheVariants.{UnexpectedEof}
 
 -- the number of n bits at position p
 unfoldable pub number_at : List ℕ → ℕ → ℕ → Result (Found ℕ) DecoderError

@@ -1,8 +1,8 @@
 -- Hybrid integers: how the symbols of a cluster become tokens (ISO/IEC 18181-1, entropy decoding: hybrid integers).
 use Rattle.std.specs.Prelude.{ℕ, ◌+◌, ◌-◌, ◌*◌, ◌/◌, ◌%◌, ◌^◌, ◌≤◌, List, if◌then◌else◌, nat_lt, ◌==◌, Result, Ok, Err}
-use Rattle.jxlm_base.specs.Decoding.{Found}
-use Rattle.jxlm_base.specs.ErrorKind.{◌>>=◌}
-use Rattle.jxlm_base.specs.declared.decoder.DecoderError.{DecoderError}
+use Rattle.jxlm_bits.specs.Decoding.{Found}
+use Rattle.jxlm_bits.specs.ErrorKind.{◌>>=◌}
+use Rattle.jxlm_bits.specs.declared.decoder.DecoderError.{DecoderError}
 use Rattle.jxl_coding_codes.specs.Refusals.{refused}
 use Rattle.jxl_coding_codes.specs.declared.refusal.Refusal.TheVariants.{TokenBits}
 use Rattle.jxl_coding_codes.specs.Fields.{number_at, bit_width_of}

@@ -1,6 +1,6 @@
 -- Tables of codewords: what an entry tells of the bits that come next.
 use Rattle.std.specs.Prelude.{◌≡◌, ℕ, ◌+◌, ◌*◌, ◌%◌, ◌^◌, ◌<◌, ◌≤◌, List, length, Ok, slice_index_or}
-use Rattle.jxlm_base.specs.Bits.{bits_at}
+use Rattle.jxlm_bits.specs.Bits.{bits_at}
 use Rattle.jxl_coding_codes.specs.PrefixCodes.{codeword_at}
 use Rattle.jxl_coding_codes.specs.declared.lookup.Entry.{Entry}
 use Rattle.jxl_coding_codes.specs.declared.lookup.Lookup.{Lookup}

@@ -1,9 +1,9 @@
 -- Prefix codes, as they stand in the input (ISO/IEC 18181-1, entropy decoding: prefix codes; RFC 7932, section 3).
 use Rattle.std.specs.Prelude.{ℕ, zero, suc, ◌+◌, ◌-◌, ◌*◌, ◌/◌, ◌%◌, ◌^◌, List, [], ◌∷◌, ◌++◌, length, replicate, Bool, ◌||◌, if◌then◌else◌, nat_lt, nat_le, ◌==◌, Result, Ok, Err, slice_index, slice_index_or, slice_set, slice_range}
 use Rattle.std.specs.List.{list_any}
-use Rattle.jxlm_base.specs.Decoding.{Found}
-use Rattle.jxlm_base.specs.ErrorKind.{◌>>=◌}
-use Rattle.jxlm_base.specs.declared.decoder.DecoderError.{DecoderError}
+use Rattle.jxlm_bits.specs.Decoding.{Found}
+use Rattle.jxlm_bits.specs.ErrorKind.{◌>>=◌}
+use Rattle.jxlm_bits.specs.declared.decoder.DecoderError.{DecoderError}
 use Rattle.jxl_coding_codes.specs.Refusals.{refused}
 use Rattle.jxl_coding_codes.specs.declared.refusal.Refusal.TheVariants.{CodewordsOverfull, CodewordsUnderfull, LengthsOverrun, NoCodeword, SymbolOutside, SymbolTwice}
 use Rattle.jxl_coding_codes.specs.Fields.{number_at, width_of}

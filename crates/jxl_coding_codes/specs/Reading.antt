@@ -1,8 +1,8 @@
 -- Readings one after another.
 use Rattle.std.specs.Prelude.{◌≡◌, ℕ, zero, suc, List, [], ◌∷◌, ◌++◌, Result, Ok, Err}
-use Rattle.jxlm_base.specs.Decoding.{Found, Fails}
-use Rattle.jxlm_base.specs.ErrorKind.{◌>>=◌}
-use Rattle.jxlm_base.specs.declared.decoder.DecoderError.{DecoderError}
+use Rattle.jxlm_bits.specs.Decoding.{Found, Fails}
+use Rattle.jxlm_bits.specs.ErrorKind.{◌>>=◌}
+use Rattle.jxlm_bits.specs.declared.decoder.DecoderError.{DecoderError}
 
 -- n readings, each from what the one before found; the first error ends them
 unfoldable pub steps : {X : Type 0} → (X → List ℕ → ℕ → Result (Found X) DecoderError) → ℕ → X → List ℕ → ℕ → Result (Found X) DecoderError

@@ -1,7 +1,7 @@
 -- Why codes and tokens are refused, by name. The standard asks of a stream that none of these come; the numbers are own.
 use Rattle.std.specs.Prelude.{ℕ}
-use Rattle.jxlm_base.specs.declared.decoder.DecoderError.{DecoderError}
-use Rattle.jxlm_base.specs.declared.decoder.DecoderError.TheVariants.{Invalid}
+use Rattle.jxlm_bits.specs.declared.decoder.DecoderError.{DecoderError}
+use Rattle.jxlm_bits.specs.declared.decoder.DecoderError.TheVariants.{Invalid}
 use Rattle.jxl_coding_codes.specs.declared.refusal.Refusal.{Refusal}
 use Rattle.jxl_coding_codes.specs.declared.refusal.Refusal.TheVariants.{TokenBits, PrefixAlphabet, SymbolOutside, SymbolTwice, CodewordsOverfull, CodewordsUnderfull, LengthsOverrun, NoCodeword, SymbolsEqual, CountPrecision, CountWidths, CountsOverfull, DistributionAlphabet, ClusterUnused, ClusterTooLarge, MapCopies, CopyTooLong, StateTooSmall, EndState}
 

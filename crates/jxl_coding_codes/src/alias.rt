@@ -2,13 +2,13 @@
 
 ghost use Rattle.std.specs.Prelude.{◌≡◌, ◌+◌, ◌-◌, ◌*◌, ◌/◌, ◌<◌, ◌≤◌, ◌^◌, length, IfOk, IfErr, OnOk, Option, slice_index};
 ghost use Rattle.std.specs.List.{All};
-ghost use Rattle.jxlm_base.specs.declared.decoder.DecoderError.{DecoderError};
+ghost use Rattle.jxlm_bits.specs.declared.decoder.DecoderError.{DecoderError};
 ghost use Rattle.jxl_coding_codes.specs.Alias.{only_from, only_buckets as the_only_buckets, sorted, with_bucket, kept_by, filled_buckets, last_of, without_last, unfilled as not_filled, filled_one as one_filled, filled_by as all_filled, buckets_of};
 ghost use Rattle.jxl_coding_codes.specs.Inner.Seen.{filling_seen};
 
 use crate::ans::Bucket;
 use crate::filling::Filling;
-use jxlm_base::decoder::DecoderError;
+use jxlm_bits::decoder::DecoderError;
 use std::alloc::Global;
 
 /// How many slots there are.

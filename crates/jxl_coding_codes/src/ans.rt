@@ -1,13 +1,13 @@
 //! Slots of a distribution: what each of the 4096 numbers stands for.
 
 ghost use Rattle.std.specs.Prelude.{◌≡◌, ◌<◌, ◌≤◌, ◌+◌, ◌*◌, ◌/◌, ◌%◌, ◌^◌};
-ghost use Rattle.jxlm_base.specs.Bits.{bytes_of, position_of};
+ghost use Rattle.jxlm_bits.specs.Bits.{bytes_of, position_of};
 ghost use Rattle.jxl_coding_codes.specs.Ans.{slot_of as the_slot, bucket_of as the_bucket, refilled_at, after_slot};
 ghost use Rattle.jxl_coding_codes.specs.Ans.{RefillGives, slot_seen};
 
 use crate::fields::{number, power};
-use jxlm_base::bits::Bitstream;
-use jxlm_base::decoder::DecoderError;
+use jxlm_bits::bits::Bitstream;
+use jxlm_bits::decoder::DecoderError;
 
 /// As many slots as there are for each bucket: the first of them are the bucket's own symbol's, the others belong to
 /// another symbol.

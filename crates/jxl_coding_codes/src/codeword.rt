@@ -1,14 +1,14 @@
 //! Codewords of prefix codes.
 
 ghost use Rattle.std.specs.Prelude.{◌≡◌, ◌<◌, ◌*◌};
-ghost use Rattle.jxlm_base.specs.Bits.{bytes_of, position_of};
+ghost use Rattle.jxlm_bits.specs.Bits.{bytes_of, position_of};
 ghost use Rattle.jxl_coding_codes.specs.PrefixCodes.{codeword_at};
 ghost use Rattle.jxl_coding_codes.specs.Reading.{Exactly};
 
 use crate::fields::number;
 use crate::refusal::Refusal;
-use jxlm_base::bits::Bitstream;
-use jxlm_base::decoder::DecoderError;
+use jxlm_bits::bits::Bitstream;
+use jxlm_bits::decoder::DecoderError;
 
 /// The symbol of the codeword at the reader's position, where so many codewords have the lengths from 1 on, and their
 /// symbols begin at `start`.

@@ -1,14 +1,14 @@
 //! Hybrid integers: a symbol gives the number, or how long it is and its outermost bits.
 
 ghost use Rattle.std.specs.Prelude.{◌≡◌, ◌<◌, ◌≤◌, IfOk};
-ghost use Rattle.jxlm_base.specs.Bits.{bytes_of, position_of};
-ghost use Rattle.jxlm_base.specs.Decoding.{Gives};
+ghost use Rattle.jxlm_bits.specs.Bits.{bytes_of, position_of};
+ghost use Rattle.jxlm_bits.specs.Decoding.{Gives};
 ghost use Rattle.jxl_coding_codes.specs.IntegerConfigs.{IsConfig, config_at, token_at};
 
 use crate::fields::{bit_width, number, power};
 use crate::refusal::Refusal;
-use jxlm_base::bits::Bitstream;
-use jxlm_base::decoder::DecoderError;
+use jxlm_bits::bits::Bitstream;
+use jxlm_bits::decoder::DecoderError;
 
 /// How the symbols of a cluster become numbers.
 #[derive(Clone, Copy)]

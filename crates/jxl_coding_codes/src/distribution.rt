@@ -2,9 +2,9 @@
 
 ghost use Rattle.std.specs.Prelude.{◌≡◌, min, Ok, Err, slice_index, slice_index_or, ◌+◌, ◌-◌, ◌*◌, ◌<◌, ◌≤◌, ◌^◌, [], sum, IfOk, IfErr, OnOk};
 ghost use Rattle.std.specs.List.{All};
-ghost use Rattle.jxlm_base.specs.Bits.{bytes_of, position_of};
-ghost use Rattle.jxlm_base.specs.Decoding.{Gives};
-ghost use Rattle.jxlm_base.specs.declared.decoder.DecoderError.{DecoderError};
+ghost use Rattle.jxlm_bits.specs.Bits.{bytes_of, position_of};
+ghost use Rattle.jxlm_bits.specs.Decoding.{Gives};
+ghost use Rattle.jxlm_bits.specs.declared.decoder.DecoderError.{DecoderError};
 ghost use Rattle.jxl_coding_codes.specs.Reading.{steps};
 ghost use Rattle.jxl_coding_codes.specs.Distributions.{one_symbol as only_one, two_symbols as only_two, few_at, even_at, even_first, signalled_at, no_widths, one_width as with_one, same_widths as with_same, widths_step, signalled_bits as bits_signalled, count_at, next_count_at, counts_step, with_rest as rest_to, ones_at, precision_at, are_widths, many_at, distribution_at};
 ghost use Rattle.jxl_coding_codes.specs.Reading.{Exactly, StepGives};
@@ -13,8 +13,8 @@ ghost use Rattle.jxl_coding_codes.specs.Inner.Seen.{widths_seen};
 use crate::fields::{number, power, var_len};
 use crate::refusal::Refusal;
 use crate::widths::Widths;
-use jxlm_base::bits::Bitstream;
-use jxlm_base::decoder::DecoderError;
+use jxlm_bits::bits::Bitstream;
+use jxlm_bits::decoder::DecoderError;
 use std::alloc::Global;
 
 /// The sum of each distribution.

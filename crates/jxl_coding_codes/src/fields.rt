@@ -1,13 +1,13 @@
 //! Fields of the input, with a decoder's errors.
 
 ghost use Rattle.std.specs.Prelude.{◌≡◌, ◌<◌, ◌≤◌, ◌+◌, ◌^◌, IfOk, IfErr};
-ghost use Rattle.jxlm_base.specs.Bits.{bytes_of, position_of};
-ghost use Rattle.jxlm_base.specs.declared.decoder.DecoderError.{DecoderError};
-ghost use Rattle.jxlm_base.specs.Decoding.{Gives};
+ghost use Rattle.jxlm_bits.specs.Bits.{bytes_of, position_of};
+ghost use Rattle.jxlm_bits.specs.declared.decoder.DecoderError.{DecoderError};
+ghost use Rattle.jxlm_bits.specs.Decoding.{Gives};
 ghost use Rattle.jxl_coding_codes.specs.Fields.{number_at, var_len_at, width_at, bit_width_of, width_from, width_of};
 
-use jxlm_base::bits::Bitstream;
-use jxlm_base::decoder::DecoderError;
+use jxlm_bits::bits::Bitstream;
+use jxlm_bits::decoder::DecoderError;
 
 /// The next number of `n` bits.
 #[tactic(auto, unfolding(crate::specs::Fields::number_at))]

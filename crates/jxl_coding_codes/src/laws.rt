@@ -1,7 +1,7 @@
 //! Laws of the definitions that contracts cite: each is the contract of a function that does nothing.
 
 ghost use Rattle.std.specs.Prelude.{◌≡◌, ℕ, ◌+◌, ◌*◌, ◌/◌, ◌%◌, ◌-◌, ◌^◌, ◌<◌, ◌≤◌, ◌≢◌, ◌⊎◌, if◌then◌else◌, List, length, sum, slice_index, Ok, Err};
-ghost use Rattle.jxlm_base.specs.Decoding.{Found};
+ghost use Rattle.jxlm_bits.specs.Decoding.{Found};
 ghost use Rattle.jxl_coding_codes.specs.IntegerConfigs.{IsConfig};
 ghost use Rattle.jxl_coding_codes.specs.Spellings.{Spells};
 ghost use Rattle.jxl_coding_codes.specs.declared.config.IntegerConfig.{IntegerConfig};

@@ -5,8 +5,8 @@ ghost use Rattle.std.specs.List.{All};
 
 use crate::codeword::codeword;
 use crate::fields::{number, power};
-use jxlm_base::bits::Bitstream;
-use jxlm_base::decoder::DecoderError;
+use jxlm_bits::bits::Bitstream;
+use jxlm_bits::decoder::DecoderError;
 use std::alloc::Global;
 
 /// What the next bits tell: the symbol of a codeword, and how many bits that has; 0 bits where they tell none.
@@ -28,8 +28,8 @@ pub struct Lookup {
 
 impl Lookup {
     ghost use Rattle.std.specs.Prelude.{◌≡◌, ℕ, List, ◌+◌, ◌*◌, ◌<◌, ◌^◌, length, Ok, IfOk, IfErr, OnOk, IfSome, IfNone};
-    ghost use Rattle.jxlm_base.specs.Bits.{bytes_of, position_of, bits_at};
-    ghost use Rattle.jxlm_base.specs.declared.decoder.DecoderError.{DecoderError};
+    ghost use Rattle.jxlm_bits.specs.Bits.{bytes_of, position_of, bits_at};
+    ghost use Rattle.jxlm_bits.specs.declared.decoder.DecoderError.{DecoderError};
     ghost use Rattle.jxl_coding_codes.specs.PrefixCodes.{codeword_at};
     ghost use Rattle.jxl_coding_codes.specs.Reading.{Exactly};
     ghost use Rattle.jxl_coding_codes.specs.Lookups.{Tells, AllTell, IsLookupOf};

@@ -1,9 +1,9 @@
 //! Prefix codes, as they stand in the input.
 
 ghost use Rattle.std.specs.Prelude.{◌≡◌, [], ◌+◌, ◌-◌, ◌<◌, ◌≤◌, ◌^◌, length, IfOk, IfErr, OnOk, All};
-ghost use Rattle.jxlm_base.specs.Bits.{bytes_of, position_of};
-ghost use Rattle.jxlm_base.specs.Decoding.{Gives};
-ghost use Rattle.jxlm_base.specs.declared.decoder.DecoderError.{DecoderError};
+ghost use Rattle.jxlm_bits.specs.Bits.{bytes_of, position_of};
+ghost use Rattle.jxlm_bits.specs.Decoding.{Gives};
+ghost use Rattle.jxlm_bits.specs.declared.decoder.DecoderError.{DecoderError};
 ghost use Rattle.jxl_coding_codes.specs.PrefixCodes.{long_code_at, symbols_step, set_first, lengths_of_few, few_code as code_of_few, deep_at, few_code_at, prefix_at};
 ghost use Rattle.jxl_coding_codes.specs.Reading.{steps};
 ghost use Rattle.jxl_coding_codes.specs.Reading.{Exactly, StepGives};
@@ -12,8 +12,8 @@ ghost use Rattle.jxl_coding_codes.specs.PrefixCodes.{code_seen};
 use crate::fields::{number, width};
 use crate::lengths::{PrefixCode, all_lengths, length_code_lengths};
 use crate::refusal::Refusal;
-use jxlm_base::bits::Bitstream;
-use jxlm_base::decoder::DecoderError;
+use jxlm_bits::bits::Bitstream;
+use jxlm_bits::decoder::DecoderError;
 use std::alloc::Global;
 
 /// The order in which the lengths of the lengths' own code are signalled.

@@ -3,7 +3,7 @@
 ghost use Rattle.std.specs.Prelude.{◌≡◌};
 ghost use Rattle.jxl_coding_codes.specs.Refusals.{number_of, refused};
 
-use jxlm_base::decoder::DecoderError;
+use jxlm_bits::decoder::DecoderError;
 
 /// Why codes or tokens are refused. As a decoder's error each is `Invalid` of its number.
 #[derive(Clone, Copy, Debug, PartialEq, Eq, thiserror::Error)]

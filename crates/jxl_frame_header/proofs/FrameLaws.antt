@@ -2,10 +2,10 @@
 use Rattle.std.proofs.Common.{ℕ, zero, suc, ◌∷◌, ◌-◌, ◌*◌, ◌^◌, Bool, true, false, [], length, Some, None, Option}
 use Rattle.std.specs.Prelude.{nat_lt, nat_le, codes, ◌==◌, ◌&&◌, ◌||◌, not, is_some, if◌then◌else◌}
 use Rattle.std.specs.Option.{option_map_or}
-use Rattle.jxlm_base.specs.Grammar.{Grammar, IsExact}
-use Rattle.jxlm_base.specs.Numbers.{unpack}
-use Rattle.jxlm_base.specs.declared.bits.U32Spec.TheVariants.{Const, Offset}
-use Rattle.jxlm_base.proofs.GrammarLaws.{exact-give, exact-number, exact-repeated, exact-flag, exact-u32}
+use Rattle.jxlm_bits.specs.Grammar.{Grammar, IsExact}
+use Rattle.jxlm_bits.specs.Numbers.{unpack}
+use Rattle.jxlm_bits.specs.declared.bits.U32Spec.TheVariants.{Const, Offset}
+use Rattle.jxlm_bits.proofs.GrammarLaws.{exact-give, exact-number, exact-repeated, exact-flag, exact-u32}
 use Rattle.jxl_image_header.proofs.HeaderLaws.{bind, exact-checked, exact-extensions, exact-long, exact-name, exact-optional, exact-skipped, exact-told_if, exact-when}
 use Rattle.jxl_image_header.specs.Images.{Image}
 use Rattle.jxl_image_header.specs.declared.size.Size.{Size}

@@ -1,8 +1,8 @@
 -- Reading fields one after another, each by the one before it, as a loop does.
 use Rattle.std.proofs.Common.{◌≡◌, ℕ, suc, ◌-◌, ◌+◌, ◌<◌, List, [], ◌∷◌, ◌++◌, Option, Some, Result, Ok, Err, sym, ◌∙◌, append_assoc, ap, refl, arith}
-use Rattle.jxlm_base.specs.Decoding.{Found}
-use Rattle.jxlm_base.specs.ErrorKind.{ErrorAt, ◌>>=◌}
-use Rattle.jxlm_base.specs.Grammar.{Grammar}
+use Rattle.jxlm_bits.specs.Decoding.{Found}
+use Rattle.jxlm_bits.specs.ErrorKind.{ErrorAt, ◌>>=◌}
+use Rattle.jxlm_bits.specs.Grammar.{Grammar}
 use Rattle.jxl_image_header.proofs.RepeatedLoop.{with_front}
 use Rattle.jxl_frame_header.specs.Passes.{in_turn}
 

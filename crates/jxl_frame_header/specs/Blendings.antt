@@ -1,8 +1,8 @@
 -- How a frame is blended with others, and what becomes of it (ISO/IEC 18181-1, frame header: BlendingInfo and after it).
 use Rattle.std.specs.Prelude.{ℕ, ◌==◌, ◌&&◌, ◌||◌, not, nat_lt, Bool, true, false, if◌then◌else◌, Option, is_some, codes}
 use Rattle.std.specs.Option.{option_map_or}
-use Rattle.jxlm_base.specs.Grammar.{Grammar, number, flag, u32, give, ◌>>=◌}
-use Rattle.jxlm_base.specs.declared.bits.U32Spec.TheVariants.{Const, Offset}
+use Rattle.jxlm_bits.specs.Grammar.{Grammar, number, flag, u32, give, ◌>>=◌}
+use Rattle.jxlm_bits.specs.declared.bits.U32Spec.TheVariants.{Const, Offset}
 use Rattle.jxl_image_header.specs.Fields.{checked, when}
 use Rattle.jxl_image_header.specs.declared.image.Animation.{Animation}
 use Rattle.jxl_frame_header.specs.Places.{is_shown, is_lf, is_reference}

@@ -1,8 +1,8 @@
 -- How a frame is coded (ISO/IEC 18181-1, frame header: type, encoding, flags, upsampling).
 use Rattle.std.specs.Prelude.{ℕ, ◌/◌, ◌%◌, ◌==◌, ◌&&◌, not, Bool, true, false, if◌then◌else◌, Option, Some, None}
 use Rattle.std.specs.Option.{option_or}
-use Rattle.jxlm_base.specs.Grammar.{Grammar, number, flag, u32, give, ◌>>=◌}
-use Rattle.jxlm_base.specs.declared.bits.U32Spec.TheVariants.{Const}
+use Rattle.jxlm_bits.specs.Grammar.{Grammar, number, flag, u32, give, ◌>>=◌}
+use Rattle.jxlm_bits.specs.declared.bits.U32Spec.TheVariants.{Const}
 use Rattle.jxl_image_header.specs.Fields.{long, when}
 use Rattle.jxl_frame_header.specs.declared.coding.FrameType.{FrameType}
 use Rattle.jxl_frame_header.specs.declared.coding.FrameType.TheVariants.{Regular, LfFrame, ReferenceOnly, SkipProgressive}

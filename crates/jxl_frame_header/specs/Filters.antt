@@ -1,6 +1,6 @@
 -- Filters of what was decoded (ISO/IEC 18181-1, frame header: RestorationFilter).
 use Rattle.std.specs.Prelude.{ℕ, ◌==◌, ◌&&◌, not, Bool, true, if◌then◌else◌}
-use Rattle.jxlm_base.specs.Grammar.{Grammar, number, flag, give, ◌>>=◌}
+use Rattle.jxlm_bits.specs.Grammar.{Grammar, number, flag, give, ◌>>=◌}
 use Rattle.jxl_image_header.specs.Fields.{extensions, skipped, told_if, when}
 use Rattle.jxl_frame_header.specs.declared.filter.RestorationFilter.{RestorationFilter}
 

@@ -2,8 +2,8 @@
 use Rattle.std.specs.Prelude.{ℕ, zero, suc, ◌-◌, ◌<◌, ◌≤◌, ◌==◌, ◌&&◌, not, nat_lt, nat_le, ℤ, pos, List, [], ◌∷◌, map, Bool, true, if◌then◌else◌, Option, Some, None, codes}
 use Rattle.std.specs.List.{find, range_with_len, zip}
 use Rattle.std.specs.Option.{option_map_or}
-use Rattle.jxlm_base.specs.Grammar.{Grammar, u32, give, repeated, ◌>>=◌}
-use Rattle.jxlm_base.specs.declared.bits.U32Spec.TheVariants.{Const, Offset}
+use Rattle.jxlm_bits.specs.Grammar.{Grammar, u32, give, repeated, ◌>>=◌}
+use Rattle.jxlm_bits.specs.declared.bits.U32Spec.TheVariants.{Const, Offset}
 use Rattle.jxl_image_header.specs.Fields.{checked, when}
 use Rattle.jxl_frame_header.specs.Codings.{factor}
 use Rattle.jxl_frame_header.specs.declared.passes.Passes.{Passes as PassesInMemory}

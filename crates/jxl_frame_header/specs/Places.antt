@@ -1,8 +1,8 @@
 -- The place of a frame in the picture (ISO/IEC 18181-1, frame header: level of low frequencies, crop).
 use Rattle.std.specs.Prelude.{ℕ, ◌+◌, ◌/◌, ◌%◌, ◌==◌, ◌&&◌, ◌||◌, not, nat_lt, Bool, true, false}
-use Rattle.jxlm_base.specs.Grammar.{Grammar, u32, give, ◌>>=◌}
-use Rattle.jxlm_base.specs.Numbers.{unpack}
-use Rattle.jxlm_base.specs.declared.bits.U32Spec.TheVariants.{Offset}
+use Rattle.jxlm_bits.specs.Grammar.{Grammar, u32, give, ◌>>=◌}
+use Rattle.jxlm_bits.specs.Numbers.{unpack}
+use Rattle.jxlm_bits.specs.declared.bits.U32Spec.TheVariants.{Offset}
 use Rattle.jxl_image_header.specs.Fields.{when}
 use Rattle.jxl_image_header.specs.declared.size.Size.{Size}
 use Rattle.jxl_frame_header.specs.declared.coding.FrameType.{FrameType}

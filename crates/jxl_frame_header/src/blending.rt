@@ -3,9 +3,9 @@
 ghost use Rattle.std.specs.Prelude.{◌≡◌, ◌==◌, ◌&&◌, ◌||◌, not, nat_lt, [], None, Some, true, false, is_some, if◌then◌else◌};
 ghost use Rattle.std.specs.List.{list_any};
 ghost use Rattle.std.specs.Option.{option_map_or};
-ghost use Rattle.jxlm_base.specs.Bits.{bytes_of, position_of};
-ghost use Rattle.jxlm_base.specs.Grammar.{Reads, repeated, u32};
-ghost use Rattle.jxlm_base.specs.declared.bits.U32Spec.TheVariants.{Const, Offset};
+ghost use Rattle.jxlm_bits.specs.Bits.{bytes_of, position_of};
+ghost use Rattle.jxlm_bits.specs.Grammar.{Reads, repeated, u32};
+ghost use Rattle.jxlm_bits.specs.declared.bits.U32Spec.TheVariants.{Const, Offset};
 ghost use Rattle.jxl_image_header.specs.Fields.{when};
 ghost use Rattle.jxl_image_header.specs.Reading.{Parses};
 ghost use Rattle.jxl_frame_header.specs.Places.{is_reference as the_is_reference};
@@ -19,8 +19,8 @@ use crate::fields::field_if;
 use crate::refusal::Refusal;
 use jxl_image_header::fields::{Result, flag_if, number_if};
 use jxl_image_header::image::Animation;
-use jxlm_base::bits::{Bitstream, BitstreamError, U32Spec};
-use jxlm_base::error;
+use jxlm_bits::bits::{Bitstream, BitstreamError, U32Spec};
+use jxlm_bits::error;
 use std::alloc::Global;
 
 /// How samples and those of an earlier frame make one picture.

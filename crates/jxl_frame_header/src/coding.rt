@@ -1,8 +1,8 @@
 //! How a frame is coded.
 
 ghost use Rattle.std.specs.Prelude.{◌≡◌, ◌==◌, if◌then◌else◌, Some, None};
-ghost use Rattle.jxlm_base.specs.Bits.{bytes_of, position_of};
-ghost use Rattle.jxlm_base.specs.Grammar.{Reads};
+ghost use Rattle.jxlm_bits.specs.Bits.{bytes_of, position_of};
+ghost use Rattle.jxlm_bits.specs.Grammar.{Reads};
 ghost use Rattle.jxl_image_header.specs.Fields.{when};
 ghost use Rattle.jxl_frame_header.specs.Codings.{factor, flags_of as the_flags_of, coding, is_modular as the_is_modular, type_refusal, coding_refusal};
 ghost use Rattle.jxl_frame_header.specs.Inner.Checked.{flags as the_flags};
@@ -13,7 +13,7 @@ ghost use Rattle.jxl_frame_header.specs.declared.refusal.Refusal.TheVariants as 
 use crate::fields::field_if;
 use crate::refusal::Refusal;
 use jxl_image_header::fields::{Result, flag_if, long_if, number_if};
-use jxlm_base::bits::{Bitstream, U32Spec};
+use jxlm_bits::bits::{Bitstream, U32Spec};
 
 /// What a frame is for.
 #[derive(Clone, Copy, Debug, PartialEq, Eq)]

@@ -1,14 +1,14 @@
 //! Fields of frame headers.
 
 ghost use Rattle.std.specs.Prelude.{◌≡◌};
-ghost use Rattle.jxlm_base.specs.Bits.{bytes_of, position_of};
-ghost use Rattle.jxlm_base.specs.Grammar.{FitsU32, Reads, repeated, u32 as the_u32};
+ghost use Rattle.jxlm_bits.specs.Bits.{bytes_of, position_of};
+ghost use Rattle.jxlm_bits.specs.Grammar.{FitsU32, Reads, repeated, u32 as the_u32};
 ghost use Rattle.jxl_image_header.specs.Fields.{when};
 ghost use Rattle.jxl_image_header.specs.Reading.{Parses};
 
 use jxl_image_header::fields::Result;
-use jxlm_base::bits::{Bitstream, U32Spec};
-use jxlm_base::error;
+use jxlm_bits::bits::{Bitstream, U32Spec};
+use jxlm_bits::error;
 use std::alloc::Global;
 
 /// So many `U32` fields of one kind.

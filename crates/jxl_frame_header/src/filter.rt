@@ -1,15 +1,15 @@
 //! Filters of what was decoded.
 
 ghost use Rattle.std.specs.Prelude.{◌≡◌, ◌||◌, ◌==◌, not, if◌then◌else◌, Some, None};
-ghost use Rattle.jxlm_base.specs.Bits.{bytes_of, position_of};
-ghost use Rattle.jxlm_base.specs.Grammar.{Reads};
+ghost use Rattle.jxlm_bits.specs.Bits.{bytes_of, position_of};
+ghost use Rattle.jxlm_bits.specs.Grammar.{Reads};
 ghost use Rattle.jxl_image_header.specs.Fields.{when};
 ghost use Rattle.jxl_frame_header.specs.Filters.{own_floats as the_own_floats, filter};
 ghost use Rattle.jxl_frame_header.specs.declared.refusal.Refusal.TheVariants as refusals;
 
 use crate::refusal::Refusal;
 use jxl_image_header::fields::{Result, extensions_if, flag_if, number_if, skip_if, told_if};
-use jxlm_base::bits::Bitstream;
+use jxlm_bits::bits::Bitstream;
 
 /// Filters of what was decoded.
 #[derive(Clone, Copy)]

@@ -2,8 +2,8 @@
 
 ghost use Rattle.std.specs.Prelude.{◌≡◌, ◌<◌, ◌*◌, ◌==◌, not, [], IfOk, if◌then◌else◌, Some, None};
 ghost use Rattle.std.specs.List.{list_any};
-ghost use Rattle.jxlm_base.specs.Bits.{bytes_of, position_of};
-ghost use Rattle.jxlm_base.specs.Grammar.{repeated};
+ghost use Rattle.jxlm_bits.specs.Bits.{bytes_of, position_of};
+ghost use Rattle.jxlm_bits.specs.Grammar.{repeated};
 ghost use Rattle.jxl_image_header.specs.Fields.{when};
 ghost use Rattle.jxl_image_header.specs.Images.{image_of};
 ghost use Rattle.jxl_image_header.specs.Reading.{Parses};
@@ -21,8 +21,8 @@ use crate::refusal::Refusal;
 use jxl_image_header::fields::{extensions_if, name_if, number_if, told_if};
 use jxl_image_header::image::ImageHeader;
 use jxl_image_header::size::Size;
-use jxlm_base::bits::Bitstream;
-use jxlm_base::error::Result;
+use jxlm_bits::bits::Bitstream;
+use jxlm_bits::error::Result;
 use std::alloc::Global;
 
 /// What stands at the end of a frame header.

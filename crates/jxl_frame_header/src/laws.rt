@@ -1,6 +1,6 @@
 //! Laws of frame headers, each the contract of a function that does nothing.
 
-ghost use Rattle.jxlm_base.specs.Grammar.{IsExact};
+ghost use Rattle.jxlm_bits.specs.Grammar.{IsExact};
 ghost use Rattle.jxl_image_header.specs.Images.{Image};
 ghost use Rattle.jxl_frame_header.specs.Frames.{frame_header};
 

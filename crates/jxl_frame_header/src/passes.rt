@@ -2,9 +2,9 @@
 
 ghost use Rattle.std.specs.Prelude.{◌≡◌, ◌<◌, ◌≤◌, nat_lt, suc, None, true, IfOk};
 ghost use Rattle.std.specs.Option.{option_map_or};
-ghost use Rattle.jxlm_base.specs.Bits.{bytes_of, position_of};
-ghost use Rattle.jxlm_base.specs.Grammar.{Reads, repeated, u32};
-ghost use Rattle.jxlm_base.specs.declared.bits.U32Spec.TheVariants.{Const, Offset};
+ghost use Rattle.jxlm_bits.specs.Bits.{bytes_of, position_of};
+ghost use Rattle.jxlm_bits.specs.Grammar.{Reads, repeated, u32};
+ghost use Rattle.jxlm_bits.specs.declared.bits.U32Spec.TheVariants.{Const, Offset};
 ghost use Rattle.jxl_image_header.specs.Fields.{when};
 ghost use Rattle.jxl_image_header.specs.Reading.{Parses};
 ghost use Rattle.jxl_frame_header.specs.Codings.{factor};
@@ -14,8 +14,8 @@ ghost use Rattle.jxl_frame_header.specs.Inner.Ended.{ended as the_ended};
 
 use crate::fields::fields as fields_of;
 use jxl_image_header::fields;
-use jxlm_base::bits::{Bitstream, BitstreamError, U32Spec};
-use jxlm_base::error::Result;
+use jxlm_bits::bits::{Bitstream, BitstreamError, U32Spec};
+use jxlm_bits::error::Result;
 use jxlm_base::grid::OutOfMemory;
 use std::alloc::Global;
 use std::collections::BTreeMap;

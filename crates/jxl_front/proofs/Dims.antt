@@ -1,8 +1,8 @@
 -- The side of a frame's groups is a power of two that an image may be cut by.
 use Rattle.std.proofs.Common.{◌≡◌, ℕ, zero, suc, ◌*◌, ◌^◌, ◌<◌, ◌≤◌, Bool, true, false, List, Ok, refl, sym, ap, subst, arith}
-use Rattle.jxlm_base.proofs.BitsLemmas.{bits_at-bound}
-use Rattle.jxlm_base.specs.Bits.{bits_at}
-use Rattle.jxlm_base.specs.Grammar.{number}
+use Rattle.jxlm_bits.proofs.BitsLemmas.{bits_at-bound}
+use Rattle.jxlm_bits.specs.Bits.{bits_at}
+use Rattle.jxlm_bits.specs.Grammar.{number}
 use Rattle.jxlm_transform.proofs.ValidParams.{powers_are_group_dims}
 use Rattle.jxlm_transform.specs.Params.{IsGroupDim}
 use Rattle.jxl_image_header.specs.Fields.{when}

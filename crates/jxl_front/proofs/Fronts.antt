@@ -5,10 +5,10 @@ use Rattle.std.specs.List.{list_all, list_any}
 use Rattle.std.specs.Option.{option_map_or, option_or}
 use Rattle.std.proofs.Math.Nat.{max-le}
 use Rattle.std.proofs.lemmas.Bool.{cases_lt, le-leb, leb-true}
-use Rattle.jxlm_base.specs.Decoding.{Meaning}
-use Rattle.jxlm_base.specs.ErrorKind.{ErrorKind, UnlessMemory, UnlessNoMemory, kind_of}
-use Rattle.jxlm_base.specs.Grammar.{Grammar, IsErrorAt}
-use Rattle.jxlm_base.specs.declared.error.Error.{Error}
+use Rattle.jxlm_bits.specs.Decoding.{Meaning}
+use Rattle.jxlm_bits.specs.ErrorKind.{ErrorKind, UnlessMemory, UnlessNoMemory, kind_of}
+use Rattle.jxlm_bits.specs.Grammar.{Grammar, IsErrorAt}
+use Rattle.jxlm_bits.specs.declared.error.Error.{Error}
 use Rattle.jxlm_tree.proofs.Memory.{unless_so}
 use Rattle.jxlm_transform.proofs.Failures.{unless_memory}
 use Rattle.jxl_image_header.proofs.Refusals.{low_shifts}

@@ -1,7 +1,7 @@
 -- What is known of what a codestream tells before its sections.
 use Rattle.std.specs.Prelude.{◌≡◌, ℕ, ◌≤◌, ◌^◌, ◌&&◌, List, length, drop, map, All, true, false}
 use Rattle.std.specs.List.{list_all}
-use Rattle.jxlm_base.specs.Decoding.{Meaning}
+use Rattle.jxlm_bits.specs.Decoding.{Meaning}
 use Rattle.jxlm_transform.specs.Params.{IsGroupDim}
 use Rattle.jxl_image_header.specs.Images.{Image, image_of}
 use Rattle.jxl_frame_header.specs.Frames.{frame_of, frame_size, has_shifts}

@@ -2,9 +2,9 @@
 -- of contents), stage by stage, and what fails at each.
 use Rattle.std.specs.Prelude.{◌≡◌, ℕ, ◌+◌, ◌/◌, ◌^◌, ◌<◌, ◌≤◌, max, List, [], ◌∷◌, ◌++◌, length, drop, Bool, true, false, None, Some, Ok}
 use Rattle.std.specs.List.{list_all}
-use Rattle.jxlm_base.specs.Decoding.{Meaning}
-use Rattle.jxlm_base.specs.ErrorKind.{ErrorKind, UnlessMemory, kind_of}
-use Rattle.jxlm_base.specs.Grammar.{Grammar, IsErrorAt, give, either, ◌>>=◌}
+use Rattle.jxlm_bits.specs.Decoding.{Meaning}
+use Rattle.jxlm_bits.specs.ErrorKind.{ErrorKind, UnlessMemory, kind_of}
+use Rattle.jxlm_bits.specs.Grammar.{Grammar, IsErrorAt, give, either, ◌>>=◌}
 use Rattle.jxl_image_header.specs.Fields.{aligned}
 use Rattle.jxl_image_header.specs.Images.{Image, image_header, image_refusal}
 use Rattle.jxl_frame_header.specs.Frames.{Frame, frame_header, frame_refusal, frame_size, is_saved}

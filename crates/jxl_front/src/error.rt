@@ -2,7 +2,7 @@
 
 use jxl_frame_header::refusal::Refusal as FrameRefusal;
 use jxl_image_header::refusal::Refusal as ImageRefusal;
-use jxlm_base::error::Error;
+use jxlm_bits::error::Error;
 
 /// Why the frames of a codestream are not decoded: the first reason in the order of its bits.
 #[derive(Clone, Copy, Debug, PartialEq, Eq, thiserror::Error)]

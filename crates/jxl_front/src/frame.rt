@@ -2,7 +2,7 @@
 
 ghost use Rattle.std.specs.Prelude.{◌≡◌, ◌≢◌, ℕ, ◌+◌, ◌*◌, ◌<◌, ◌≤◌, ◌^◌, ◌↔◌, ◌&&◌, IsTrue, IfErr, IfOk, length, drop, true, false};
 ghost use Rattle.std.specs.List.{list_all};
-ghost use Rattle.jxlm_base.specs.Bits.{bytes_of, position_of};
+ghost use Rattle.jxlm_bits.specs.Bits.{bytes_of, position_of};
 ghost use Rattle.jxlm_transform.specs.Params.{IsGroupDim};
 ghost use Rattle.jxl_image_header.specs.Images.{image_of};
 ghost use Rattle.jxl_frame_header.specs.Frames.{frame_of, frame_size, has_shifts};
@@ -21,8 +21,8 @@ use jxl_picture::limits::Limits;
 use jxl_picture::picture::colours;
 use jxl_toc::layout::Layout;
 use jxl_toc::toc::{Toc, TocEntry};
-use jxlm_base::bits::Bitstream;
-use jxlm_base::decoder::Decoder;
+use jxlm_bits::bits::Bitstream;
+use jxlm_bits::decoder::Decoder;
 use std::alloc::Global;
 
 /// What a codestream tells of a frame before its sections.

@@ -1,7 +1,7 @@
 //! What comes before the sections of the frames.
 
 ghost use Rattle.std.specs.Prelude.{◌≡◌, ℕ, ◌*◌, ◌/◌, ◌<◌, ◌^◌, ◌≤◌, [], IfErr, IfOk, length};
-ghost use Rattle.jxlm_base.specs.Bits.{bytes_of, position_of};
+ghost use Rattle.jxlm_bits.specs.Bits.{bytes_of, position_of};
 ghost use Rattle.jxl_image_header.specs.Images.{image_of};
 ghost use Rattle.jxl_toc.specs.Reading.{Decodes};
 ghost use Rattle.jxl_picture.specs.Limits.{Allow};
@@ -13,9 +13,9 @@ use jxl_image_header::fields::align;
 use jxl_image_header::image::ImageHeader;
 use jxl_picture::limits::Limits;
 use jxl_toc::profile::skip_profile;
-use jxlm_base::bits::Bitstream;
-use jxlm_base::decoder::Decoder;
-use jxlm_base::error::Error;
+use jxlm_bits::bits::Bitstream;
+use jxlm_bits::decoder::Decoder;
+use jxlm_bits::error::Error;
 use jxlm_base::grid::OutOfMemory;
 use std::alloc::Global;
 

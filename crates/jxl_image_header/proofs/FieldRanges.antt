@@ -1,13 +1,13 @@
 -- The values that a U32 field can have.
 use Rattle.std.proofs.Common.{◌≡◌, ℕ, ◌^◌, ◌<◌, ◌≤◌, List, Bool, true, false, Result, Ok, Err, IfOk, arith}
 use Rattle.std.specs.Prelude.{◌==◌}
-use Rattle.jxlm_base.proofs.BitsLemmas.{bits_at-bound}
-use Rattle.jxlm_base.proofs.GrammarLaws.{exact-u32}
-use Rattle.jxlm_base.specs.Decoding.{Found}
-use Rattle.jxlm_base.specs.Grammar.{Grammar, Reads, either, part, u32}
-use Rattle.jxlm_base.specs.declared.bits.BitstreamError.{BitstreamError}
-use Rattle.jxlm_base.specs.declared.bits.U32Spec.{U32Spec}
-use Rattle.jxlm_base.specs.declared.bits.U32Spec.TheVariants.{Const, Offset}
+use Rattle.jxlm_bits.proofs.BitsLemmas.{bits_at-bound}
+use Rattle.jxlm_bits.proofs.GrammarLaws.{exact-u32}
+use Rattle.jxlm_bits.specs.Decoding.{Found}
+use Rattle.jxlm_bits.specs.Grammar.{Grammar, Reads, either, part, u32}
+use Rattle.jxlm_bits.specs.declared.bits.BitstreamError.{BitstreamError}
+use Rattle.jxlm_bits.specs.declared.bits.U32Spec.{U32Spec}
+use Rattle.jxlm_bits.specs.declared.bits.U32Spec.TheVariants.{Const, Offset}
 use Rattle.jxl_image_header.specs.Inner.FieldRanges.{min_value, max_value, min_of, max_of}
 
 part-between : (d : U32Spec) (bytes : List ℕ) (p v q : ℕ) → (part d).Stands bytes p v q → (min_value d ≤ v) × (v ≤ max_value d)

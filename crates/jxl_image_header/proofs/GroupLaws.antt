@@ -1,7 +1,7 @@
 -- The groups of a U64, one after another.
 use Rattle.std.proofs.Common.{◌≡◌, ℕ, zero, suc, ◌+◌, ◌-◌, ◌*◌, ◌<◌, ◌≤◌, Bool, true, false, List, Ok, Err, refl, ap, ◌∙◌, arith}
-use Rattle.jxlm_base.specs.ErrorKind.{ErrorAt}
-use Rattle.jxlm_base.specs.Grammar.{Grammar, number, flag, give, either, ◌>>=◌}
+use Rattle.jxlm_bits.specs.ErrorKind.{ErrorAt}
+use Rattle.jxlm_bits.specs.Grammar.{Grammar, number, flag, give, either, ◌>>=◌}
 use Rattle.jxl_image_header.specs.Fields.{groups}
 use Rattle.jxl_image_header.specs.Inner.Groups.{group_bound}
 

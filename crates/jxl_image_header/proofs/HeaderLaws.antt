@@ -1,11 +1,11 @@
 -- Headers are read exactly: what is read stands there, and what stands there is read.
 use Rattle.std.proofs.Common.{◌≡◌, ℕ, zero, suc, ◌+◌, ◌*◌, ◌/◌, ◌%◌, Bool, true, false, List, [], Ok, Err, Some, None, Result, refl, ap, sym}
 use Rattle.std.specs.Prelude.{◌-◌, nat_lt, nat_le, codes, ◌==◌, ◌&&◌, ◌||◌, not, count_ones, sum}
-use Rattle.jxlm_base.specs.Decoding.{Found}
-use Rattle.jxlm_base.specs.ErrorKind.{ErrorAt, BadEnum}
-use Rattle.jxlm_base.specs.Grammar.{Grammar, IsExact, give, fail, ◌>>=◌}
-use Rattle.jxlm_base.specs.declared.bits.U32Spec.TheVariants.{Const, Offset}
-use Rattle.jxlm_base.proofs.GrammarLaws.{exact-give, exact-fail, exact-number, exact-bind, exact-either, exact-repeated, exact-flag, exact-part, exact-u32}
+use Rattle.jxlm_bits.specs.Decoding.{Found}
+use Rattle.jxlm_bits.specs.ErrorKind.{ErrorAt, BadEnum}
+use Rattle.jxlm_bits.specs.Grammar.{Grammar, IsExact, give, fail, ◌>>=◌}
+use Rattle.jxlm_bits.specs.declared.bits.U32Spec.TheVariants.{Const, Offset}
+use Rattle.jxlm_bits.proofs.GrammarLaws.{exact-give, exact-fail, exact-number, exact-bind, exact-either, exact-repeated, exact-flag, exact-part, exact-u32}
 use Rattle.jxl_image_header.specs.Fields.{groups, long, when, optional, told_if, enumerated, meant, checked, skipped, extensions, name, here, aligned}
 use Rattle.jxl_image_header.specs.Sizes.{side, size, width_at}
 use Rattle.jxl_image_header.specs.Channels.{fits_float, bit_depth, extra_channel}

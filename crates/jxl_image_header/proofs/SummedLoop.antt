@@ -1,10 +1,10 @@
 -- Reading numbers of one kind one after another and adding them, as a loop does.
 use Rattle.std.proofs.Common.{◌≡◌, ℕ, suc, ◌-◌, ◌+◌, ◌≤◌, ◌<◌, List, ◌∷◌, Result, Ok, Err, refl, sym, ◌∙◌, arith}
 use Rattle.std.specs.Prelude.{fold, sum, count_ones}
-use Rattle.jxlm_base.specs.Decoding.{Found}
-use Rattle.jxlm_base.specs.ErrorKind.{ErrorAt, ◌>>=◌}
-use Rattle.jxlm_base.specs.Grammar.{Grammar, number, repeated, give}
-use Rattle.jxlm_base.specs.Grammar as grammar
+use Rattle.jxlm_bits.specs.Decoding.{Found}
+use Rattle.jxlm_bits.specs.ErrorKind.{ErrorAt, ◌>>=◌}
+use Rattle.jxlm_bits.specs.Grammar.{Grammar, number, repeated, give}
+use Rattle.jxlm_bits.specs.Grammar as grammar
 use Rattle.jxl_image_header.specs.Fields.{long, extensions}
 use Rattle.jxl_image_header.specs.Inner.Groups.{extension_bits, skipped_bits}
 

@@ -1,8 +1,8 @@
 -- Facts of errors other than out of memory.
 use Rattle.std.proofs.Common.{ℕ, Result, refl}
-use Rattle.jxlm_base.specs.Decoding.{Found}
-use Rattle.jxlm_base.specs.Grammar.{IsErrorAt}
-use Rattle.jxlm_base.specs.ErrorKind.{ErrorKind, Eof, BadEnum, BadProfile, BadTree, NoGlobalTree, BadRct, BadPalette, BadSqueeze, OfDecoder, NoMemory, UnlessNoMemory, ErrorAt, ◌>>=◌}
+use Rattle.jxlm_bits.specs.Decoding.{Found}
+use Rattle.jxlm_bits.specs.Grammar.{IsErrorAt}
+use Rattle.jxlm_bits.specs.ErrorKind.{ErrorKind, Eof, BadEnum, BadProfile, BadTree, NoGlobalTree, BadRct, BadPalette, BadSqueeze, OfDecoder, NoMemory, UnlessNoMemory, ErrorAt, ◌>>=◌}
 
 -- a fact holds also where it is asked for unless it is out of memory
 pub unless_no_memory : (error : ErrorKind) (P : Type 0) → P → UnlessNoMemory error P

@@ -1,7 +1,7 @@
 -- Depths of samples, and extra channels (ISO/IEC 18181-1, image header: BitDepth, ExtraChannelInfo).
 use Rattle.std.specs.Prelude.{ℕ, ◌+◌, ◌==◌, ◌&&◌, ◌||◌, nat_lt, nat_le, Bool, true, false, codes}
-use Rattle.jxlm_base.specs.Grammar.{Grammar, flag, part, u32, give, either, ◌>>=◌}
-use Rattle.jxlm_base.specs.declared.bits.U32Spec.TheVariants.{Const, Offset}
+use Rattle.jxlm_bits.specs.Grammar.{Grammar, flag, part, u32, give, either, ◌>>=◌}
+use Rattle.jxlm_bits.specs.declared.bits.U32Spec.TheVariants.{Const, Offset}
 use Rattle.jxl_image_header.specs.Fields.{checked, enumerated, name, skipped, told_if, when}
 use Rattle.jxl_image_header.specs.declared.channel.BitDepth.{BitDepth}
 use Rattle.jxl_image_header.specs.declared.channel.ExtraChannel.{ExtraChannel}

@@ -1,7 +1,7 @@
 -- Colour encodings and what is told of brightness (ISO/IEC 18181-1, image header: ColourEncoding, ToneMapping).
 use Rattle.std.specs.Prelude.{ℕ, ◌*◌, ◌==◌, ◌&&◌, ◌||◌, nat_lt, nat_le, Bool, false, not, codes}
-use Rattle.jxlm_base.specs.Grammar.{Grammar, number, flag, u32, give, ◌>>=◌}
-use Rattle.jxlm_base.specs.declared.bits.U32Spec.TheVariants.{Offset}
+use Rattle.jxlm_bits.specs.Grammar.{Grammar, number, flag, u32, give, ◌>>=◌}
+use Rattle.jxlm_bits.specs.declared.bits.U32Spec.TheVariants.{Offset}
 use Rattle.jxl_image_header.specs.Fields.{checked, enumerated, told_if, when}
 use Rattle.jxl_image_header.specs.declared.colour.Chromaticity.{Chromaticity}
 use Rattle.jxl_image_header.specs.declared.colour.Primaries.{Primaries}

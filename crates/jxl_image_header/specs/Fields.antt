@@ -1,8 +1,8 @@
 -- Fields of headers (ISO/IEC 18181-1, notation of bundles and fields). In a record `(← field)` is what is read there.
 use Rattle.std.specs.Prelude.{◌≡◌, ℕ, zero, suc, ◌+◌, ◌-◌, ◌*◌, ◌%◌, List, Bool, false, not, ◌==◌, Option, Some, None, Ok, codes, count_ones, sum}
-use Rattle.jxlm_base.specs.ErrorKind.{BadEnum}
-use Rattle.jxlm_base.specs.Grammar.{Grammar, number, flag, part, u32, give, fail, either, repeated, ◌>>=◌}
-use Rattle.jxlm_base.specs.declared.bits.U32Spec.TheVariants.{Const, Offset}
+use Rattle.jxlm_bits.specs.ErrorKind.{BadEnum}
+use Rattle.jxlm_bits.specs.Grammar.{Grammar, number, flag, part, u32, give, fail, either, repeated, ◌>>=◌}
+use Rattle.jxlm_bits.specs.declared.bits.U32Spec.TheVariants.{Const, Offset}
 
 -- n groups of 8 bits and one of 4, each after a flag that says whether it is there; the first the least significant
 unfoldable pub groups : ℕ → Grammar ℕ

@@ -1,8 +1,8 @@
 -- The image header (ISO/IEC 18181-1, image header: ImageMetadata and what is before and after it).
 use Rattle.std.specs.Prelude.{◌+◌, ◌/◌, ◌%◌, ◌==◌, ◌&&◌, not, nat_lt, List, [], ◌∷◌, Bool, true, false, if◌then◌else◌, Option, Some, None, is_some, codes}
 use Rattle.std.specs.Option.{option_or}
-use Rattle.jxlm_base.specs.Grammar.{Grammar, number, flag, u32, give, repeated, ◌>>=◌}
-use Rattle.jxlm_base.specs.declared.bits.U32Spec.TheVariants.{Const, Offset}
+use Rattle.jxlm_bits.specs.Grammar.{Grammar, number, flag, u32, give, repeated, ◌>>=◌}
+use Rattle.jxlm_bits.specs.declared.bits.U32Spec.TheVariants.{Const, Offset}
 use Rattle.jxl_image_header.specs.Fields.{checked, extensions, optional, skipped, told_if, when}
 use Rattle.jxl_image_header.specs.Sizes.{size}
 use Rattle.jxl_image_header.specs.Channels.{bit_depth, extra_channel}

@@ -1,7 +1,7 @@
 -- Sizes of pictures (ISO/IEC 18181-1, image header: SizeHeader, PreviewHeader).
 use Rattle.std.specs.Prelude.{ℕ, ◌+◌, ◌*◌, ◌/◌, ◌==◌, Bool, if◌then◌else◌}
-use Rattle.jxlm_base.specs.Grammar.{Grammar, number, flag, u32, give, either, ◌>>=◌}
-use Rattle.jxlm_base.specs.declared.bits.U32Spec.TheVariants.{Const, Offset}
+use Rattle.jxlm_bits.specs.Grammar.{Grammar, number, flag, u32, give, either, ◌>>=◌}
+use Rattle.jxlm_bits.specs.declared.bits.U32Spec.TheVariants.{Const, Offset}
 use Rattle.jxl_image_header.specs.declared.size.Size.{Size}
 
 -- a side of a preview, where it is short in eighths; or of the picture, where it is short one of 8 to 256 in steps of 8

@@ -1,14 +1,14 @@
 //! Depths of samples, and extra channels.
 
 ghost use Rattle.std.specs.Prelude.{◌≡◌, ◌≤◌, ◌==◌, ◌||◌, nat_lt, false, codes};
-ghost use Rattle.jxlm_base.specs.Bits.{bytes_of, position_of};
-ghost use Rattle.jxlm_base.specs.Grammar.{Reads, either, flag, part, u32};
-ghost use Rattle.jxlm_base.specs.declared.bits.U32Spec.TheVariants.{Const, Offset};
+ghost use Rattle.jxlm_bits.specs.Bits.{bytes_of, position_of};
+ghost use Rattle.jxlm_bits.specs.Grammar.{Reads, either, flag, part, u32};
+ghost use Rattle.jxlm_bits.specs.declared.bits.U32Spec.TheVariants.{Const, Offset};
 ghost use Rattle.jxl_image_header.specs.Fields.{checked, enumerated as the_enumerated, skipped, when};
 ghost use Rattle.jxl_image_header.specs.Channels.{bit_depth, extra_channel, fits_float as the_fits_float};
 
 use crate::fields::{Result, enumerated, name, number, skip};
-use jxlm_base::bits::{Bitstream, BitstreamError, U32Spec};
+use jxlm_bits::bits::{Bitstream, BitstreamError, U32Spec};
 
 /// How a sample is stored.
 #[derive(Clone, Copy)]

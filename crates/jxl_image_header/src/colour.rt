@@ -1,13 +1,13 @@
 //! Colour encodings, and what is told of brightness.
 
 ghost use Rattle.std.specs.Prelude.{◌≡◌, ◌==◌, ◌||◌, ◌&&◌, not, nat_lt, nat_le, ◌*◌, true, codes};
-ghost use Rattle.jxlm_base.specs.Bits.{bytes_of, position_of};
-ghost use Rattle.jxlm_base.specs.Grammar.{Reads, number as the_number};
+ghost use Rattle.jxlm_bits.specs.Bits.{bytes_of, position_of};
+ghost use Rattle.jxlm_bits.specs.Grammar.{Reads, number as the_number};
 ghost use Rattle.jxl_image_header.specs.Fields.{checked, enumerated as the_enumerated, when};
 ghost use Rattle.jxl_image_header.specs.Colours.{coordinate as the_coordinate, chromaticity, primary_colours, white as the_white, basis as the_basis, transfer as the_transfer, colour_encoding, tone_mapping};
 
 use crate::fields::{Result, enumerated, flag_if, number, number_if, told_if};
-use jxlm_base::bits::{Bitstream, BitstreamError, U32Spec};
+use jxlm_bits::bits::{Bitstream, BitstreamError, U32Spec};
 
 /// A colour without its brightness.
 #[derive(Clone, Copy)]

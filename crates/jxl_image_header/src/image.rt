@@ -1,8 +1,8 @@
 //! The image header.
 
 ghost use Rattle.std.specs.Prelude.{◌≡◌, ◌==◌, ◌&&◌, not, if◌then◌else◌, Some, None, [], codes};
-ghost use Rattle.jxlm_base.specs.Bits.{bytes_of, position_of};
-ghost use Rattle.jxlm_base.specs.Grammar.{Reads, number as the_number, repeated};
+ghost use Rattle.jxlm_bits.specs.Bits.{bytes_of, position_of};
+ghost use Rattle.jxlm_bits.specs.Grammar.{Reads, number as the_number, repeated};
 ghost use Rattle.jxl_image_header.specs.Channels.{extra_channel};
 ghost use Rattle.jxl_image_header.specs.Fields.{checked, optional, when};
 ghost use Rattle.jxl_image_header.specs.Inner.Groups.{extra_channels as the_extra_channels, weights as the_weights};
@@ -16,8 +16,8 @@ use crate::colour::{ColourEncoding, ToneMapping};
 use crate::fields::{Result, extensions_if, flag_if, number, number_if, skip_if, told_if};
 use crate::refusal::Refusal;
 use crate::size::{Size, read_size};
-use jxlm_base::bits::{Bitstream, BitstreamError, U32Spec};
-use jxlm_base::error;
+use jxlm_bits::bits::{Bitstream, BitstreamError, U32Spec};
+use jxlm_bits::error;
 use std::alloc::Global;
 
 /// When the pictures of an animation change.

@@ -1,7 +1,7 @@
 //! Laws of headers, each the contract of a function that does nothing.
 
 ghost use Rattle.std.specs.Prelude.{Bool};
-ghost use Rattle.jxlm_base.specs.Grammar.{IsExact};
+ghost use Rattle.jxlm_bits.specs.Grammar.{IsExact};
 ghost use Rattle.jxl_image_header.specs.Channels.{bit_depth, extra_channel};
 ghost use Rattle.jxl_image_header.specs.Colours.{colour_encoding};
 ghost use Rattle.jxl_image_header.specs.Fields.{long, extensions, name, aligned};

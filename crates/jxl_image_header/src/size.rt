@@ -1,13 +1,13 @@
 //! Sizes of pictures.
 
 ghost use Rattle.std.specs.Prelude.{◌≡◌, ◌*◌, ◌^◌, ◌≤◌, ◌==◌, IfOk};
-ghost use Rattle.jxlm_base.specs.Bits.{bytes_of, position_of};
-ghost use Rattle.jxlm_base.specs.Grammar.{Reads, either, give};
+ghost use Rattle.jxlm_bits.specs.Bits.{bytes_of, position_of};
+ghost use Rattle.jxlm_bits.specs.Grammar.{Reads, either, give};
 ghost use Rattle.jxl_image_header.specs.Inner.Sides.{image_side as the_image_side, preview_side as the_preview_side};
 ghost use Rattle.jxl_image_header.specs.Sizes.{side as the_side, width_at, size as the_size};
 
 use crate::fields::{Result, field, number};
-use jxlm_base::bits::{Bitstream, U32Spec};
+use jxlm_bits::bits::{Bitstream, U32Spec};
 
 /// The sides of a picture, in pixels.
 #[derive(Clone, Copy)]

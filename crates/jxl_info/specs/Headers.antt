@@ -1,7 +1,7 @@
 -- The headers of a file.
 use Rattle.std.specs.Prelude.{◌≡◌, ℕ, List, [], ◌∷◌, nat_eq, not, Bool, true, Option, Some, None, Ok, Err}
 use Rattle.std.specs.List.{starts_with}
-use Rattle.jxlm_base.specs.Decoding.{Meaning}
+use Rattle.jxlm_bits.specs.Decoding.{Meaning}
 use Rattle.jxl_container.specs.Files.{HasCodestream, UnlessMemory}
 use Rattle.jxl_image_header.specs.Images.{Image, image_header}
 use Rattle.jxl_picture.specs.declared.limits.Limits.{Limits}

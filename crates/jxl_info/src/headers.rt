@@ -13,8 +13,8 @@ use jxl_front::error::FrontError;
 use jxl_front::front::Front;
 use jxl_image_header::image::ImageHeader;
 use jxl_picture::limits::Limits;
-use jxlm_base::bits::Bitstream;
-use jxlm_base::decoder::Decoder;
+use jxlm_bits::bits::Bitstream;
+use jxlm_bits::decoder::Decoder;
 use std::alloc::Global;
 
 /// What the headers of a file tell.

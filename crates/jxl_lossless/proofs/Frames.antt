@@ -2,9 +2,9 @@
 use Rattle.std.proofs.Common.{◌≡◌, ◌∙◌, ℕ, pos, ℤ, List, [], get_or, length, Option, Result, Ok, Err, ap, sym, subst}
 use Rattle.std.specs.Prelude.{IfErr, IfOk}
 use Rattle.std.specs.Int.{w32}
-use Rattle.jxlm_base.specs.Decoding.{Found, Meaning}
-use Rattle.jxlm_base.specs.ErrorKind.{ErrorAt, UnlessMemory}
-use Rattle.jxlm_base.specs.Grammar.{IsErrorAt}
+use Rattle.jxlm_bits.specs.Decoding.{Found, Meaning}
+use Rattle.jxlm_bits.specs.ErrorKind.{ErrorAt, UnlessMemory}
+use Rattle.jxlm_bits.specs.Grammar.{IsErrorAt}
 use Rattle.jxlm_base.specs.Grid.{Grid}
 use Rattle.jxlm_groups.specs.Passes.{passes_of}
 use Rattle.jxlm_groups.specs.declared.part.SectionPart.{SectionPart}

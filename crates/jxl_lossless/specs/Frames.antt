@@ -2,9 +2,9 @@
 -- what is not supported is told before what is wrong with samples.
 use Rattle.std.specs.Prelude.{◌≡◌, ℕ, ◌^◌, ◌⊎◌, pos, ℤ, List, [], length, map, get_or, Bool, true, MatchBool, Option, Some, None}
 use Rattle.std.specs.Int.{div_ceil, w32}
-use Rattle.jxlm_base.specs.Decoding.{Meaning}
-use Rattle.jxlm_base.specs.ErrorKind.{ErrorKind, UnlessMemory, kind_of}
-use Rattle.jxlm_base.specs.Grammar.{Grammar, IsErrorAt}
+use Rattle.jxlm_bits.specs.Decoding.{Meaning}
+use Rattle.jxlm_bits.specs.ErrorKind.{ErrorKind, UnlessMemory, kind_of}
+use Rattle.jxlm_bits.specs.Grammar.{Grammar, IsErrorAt}
 use Rattle.jxlm_base.specs.Grid.{Grid}
 use Rattle.jxlm_transform.specs.Channels.{Channel, ChannelList}
 use Rattle.jxlm_transform.specs.declared.param.ChannelShift.TheVariants.{Shifts}

@@ -6,7 +6,7 @@ use jxl_container::error::FileError as BoxError;
 use jxl_front::error::FrontError;
 use jxl_patches::error::PatchError;
 use jxl_still::error::FrameError;
-use jxlm_base::error::Error;
+use jxlm_bits::error::Error;
 use jxlm_base::grid::OutOfMemory;
 
 /// Why a file is not decoded: the first reason in the order of its bits, but that what is not supported is told before

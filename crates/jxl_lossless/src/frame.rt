@@ -2,7 +2,7 @@
 
 ghost use Rattle.std.specs.Prelude.{◌≡◌, ◌≤◌, ◌^◌, ◌&&◌, pos, ℤ, false, IfErr, IfOk};
 ghost use Rattle.std.specs.Int.{w32};
-ghost use Rattle.jxlm_base.specs.Bits.{bytes_of, position_of};
+ghost use Rattle.jxlm_bits.specs.Bits.{bytes_of, position_of};
 ghost use Rattle.jxl_image_header.specs.Images.{image_of};
 ghost use Rattle.jxl_frame_header.specs.Frames.{frame_of, frame_size, has_shifts};
 ghost use Rattle.jxl_front.specs.FrontParts.{HasLowShifts, IsReadyFrame, frame_at};
@@ -33,8 +33,8 @@ use jxl_patches::slots::SavedFrames;
 use jxl_picture::picture::colours;
 use jxl_still::frame::decode_frame;
 use jxl_still::places::Places;
-use jxlm_base::bits::Bitstream;
-use jxlm_base::decoder::Decoder;
+use jxlm_bits::bits::Bitstream;
+use jxlm_bits::decoder::Decoder;
 use jxlm_base::grid::{AlignedGrid, OutOfMemory};
 use jxlm_base::sample::Sample;
 use jxlm_tree::flat::Steps;

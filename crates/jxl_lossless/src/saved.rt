@@ -12,7 +12,7 @@ use crate::frame::decode_channels;
 use jxl_front::front::Front;
 use jxl_modular::sections::Progress;
 use jxl_patches::slots::SavedFrames;
-use jxlm_base::decoder::Decoder;
+use jxlm_bits::decoder::Decoder;
 use jxlm_tree::flat::Steps;
 use std::alloc::Global;
 

@@ -1,16 +1,16 @@
 //! What the first section of a frame has before its image: the tree that sections share.
 
 ghost use Rattle.std.specs.Prelude.{◌≡◌, IfErr, IfOk};
-ghost use Rattle.jxlm_base.specs.Bits.{bytes_of, position_of};
+ghost use Rattle.jxlm_bits.specs.Bits.{bytes_of, position_of};
 ghost use Rattle.jxl_lossless.specs.Frames.{SharedTree};
 ghost use Rattle.jxl_lossless.specs.Inner.Coded.{StartFails};
 
 use crate::error::FileError;
 use jxl_image_header::size::Size;
 use jxl_toc::start::{section_start, tree_limit};
-use jxlm_base::bits::Bitstream;
-use jxlm_base::decoder::Decoder;
-use jxlm_base::error::Error;
+use jxlm_bits::bits::Bitstream;
+use jxlm_bits::decoder::Decoder;
+use jxlm_bits::error::Error;
 use jxlm_tree::ma::{MaConfig, MaConfigParams};
 use std::alloc::Global;
 

@@ -8,8 +8,8 @@ use Rattle.jxlm_plain.specs.Plain.{PlainState, plain, number_at, mode_at, cluste
 use Rattle.jxlm_plain.specs.declared.plain.Code.TheVariants.{Constant, Fixed}
 use Rattle.jxlm_plain.specs.declared.plain.Mode.TheVariants.{Unsealed, Sealed, Runs}
 use Rattle.jxlm_plain.specs.declared.plain.Mode.{Mode}
-use Rattle.jxlm_base.specs.declared.decoder.DecoderError.TheVariants.{UnexpectedEof, Invalid}
-use Rattle.jxlm_base.specs.declared.error.Error.TheVariants.{Decoder}
+use Rattle.jxlm_bits.specs.declared.decoder.DecoderError.TheVariants.{UnexpectedEof, Invalid}
+use Rattle.jxlm_bits.specs.declared.error.Error.TheVariants.{Decoder}
 use Rattle.jxlm_transform.specs.Channels.{image_list}
 use Rattle.jxlm_transform.specs.ChannelSteps.{CodedList}
 use Rattle.jxlm_transform.specs.Params.{sized}

@@ -5,13 +5,13 @@ use Rattle.std.proofs.Math.Nat.{mul-le-mul_right}
 use Rattle.std.specs.Int.{Width}
 use Rattle.std.specs.Prelude.{Result}
 use Rattle.std.specs.Result.{OnOk}
-use Rattle.jxlm_base.specs.Decoding.{Meaning}
-use Rattle.jxlm_base.specs.ErrorKind.{UnlessMemory, kind_of}
+use Rattle.jxlm_bits.specs.Decoding.{Meaning}
+use Rattle.jxlm_bits.specs.ErrorKind.{UnlessMemory, kind_of}
 use Rattle.jxlm_base.specs.Grid.{Grid}
-use Rattle.jxlm_base.specs.declared.decoder.DecoderError.{DecoderError}
-use Rattle.jxlm_base.specs.declared.decoder.DecoderError.TheVariants.{UnexpectedEof, Invalid, OutOfMemory}
-use Rattle.jxlm_base.specs.declared.error.Error.{Error}
-use Rattle.jxlm_base.specs.declared.error.Error.TheVariants as errors
+use Rattle.jxlm_bits.specs.declared.decoder.DecoderError.{DecoderError}
+use Rattle.jxlm_bits.specs.declared.decoder.DecoderError.TheVariants.{UnexpectedEof, Invalid, OutOfMemory}
+use Rattle.jxlm_bits.specs.declared.error.Error.{Error}
+use Rattle.jxlm_bits.specs.declared.error.Error.TheVariants as errors
 use Rattle.jxlm_chain.specs.Chain as chain
 use Rattle.jxlm_transform.specs.Channels.{Channel}
 use Rattle.jxlm_transform.specs.ChannelSteps.{Step}

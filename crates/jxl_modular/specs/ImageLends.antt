@@ -1,7 +1,7 @@
 -- What holds an image ends as, once a `&mut` to the image has ended.
 use Rattle.std.specs.Prelude.{Option, None, Some}
 use Rattle.std.specs.Borrow.{Fml, RattleType, MutBor, LendsIf}
-use Rattle.jxlm_base.specs.declared.decoder.Decoder.{Ghosts}
+use Rattle.jxlm_bits.specs.declared.decoder.Decoder.{Ghosts}
 use Rattle.jxl_modular.specs.Image.{Image}
 use Rattle.jxl_modular.specs.declared.root.Modular.{Modular}
 use Rattle.jxl_modular.specs.contracts.root.Modular as holders

@@ -15,14 +15,14 @@ pub mod Parsing
 pub mod ImageLends
 pub mod Types
 -- what public contracts cite of the crates below
-pub use Rattle.jxlm_base.specs.Bits
+pub use Rattle.jxlm_bits.specs.Bits
 pub use Rattle.jxlm_lanes.specs.Colour
-pub use Rattle.jxlm_base.specs.Decoding
-pub use Rattle.jxlm_base.specs.ErrorKind
-pub use Rattle.jxlm_base.specs.Grammar
+pub use Rattle.jxlm_bits.specs.Decoding
+pub use Rattle.jxlm_bits.specs.ErrorKind
+pub use Rattle.jxlm_bits.specs.Grammar
 pub use Rattle.jxlm_base.specs.Grid
 pub use Rattle.jxlm_base.specs.GridLends
-pub use Rattle.jxlm_base.specs.Numbers
+pub use Rattle.jxlm_bits.specs.Numbers
 pub use Rattle.jxlm_base.specs.Outside
 pub use Rattle.jxlm_plain.specs.Plain
 pub use Rattle.jxlm_base.specs.Regions

@@ -2,9 +2,9 @@
 -- (ISO/IEC 18181-1, Modular: group sub-bitstreams).
 use Rattle.std.specs.Prelude.{◌≡◌, ℕ, ◌*◌, ℤ, List, not, Bool, Option, Result, Ok, Err}
 use Rattle.std.specs.Int.{Width}
-use Rattle.jxlm_base.specs.Decoding.{Meaning}
+use Rattle.jxlm_bits.specs.Decoding.{Meaning}
 use Rattle.jxlm_base.specs.Grid.{Grid}
-use Rattle.jxlm_base.specs.declared.error.Error.{Error}
+use Rattle.jxlm_bits.specs.declared.error.Error.{Error}
 use Rattle.jxlm_groups.specs.declared.pass.Pass.{Pass}
 use Rattle.jxlm_groups.specs.declared.part.SectionPart.{SectionPart}
 use Rattle.jxlm_samples.specs.Decode.{MovesWithin}

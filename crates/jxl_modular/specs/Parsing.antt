@@ -1,10 +1,10 @@
 -- What reading an image gives: its header and its tree (ISO/IEC 18181-1, Modular: Modular header, MA tree).
 use Rattle.std.specs.Prelude.{◌≡◌, ℕ, List, [], ◌∷◌, ◌⊎◌, Option, None, Some, Result, Ok, Err}
 use Rattle.std.specs.Option.{option_copied}
-use Rattle.jxlm_base.specs.Decoding.{Meaning}
-use Rattle.jxlm_base.specs.ErrorKind.{UnlessMemory, kind_of}
-use Rattle.jxlm_base.specs.Grammar.{IsErrorAt}
-use Rattle.jxlm_base.specs.declared.error.Error.{Error}
+use Rattle.jxlm_bits.specs.Decoding.{Meaning}
+use Rattle.jxlm_bits.specs.ErrorKind.{UnlessMemory, kind_of}
+use Rattle.jxlm_bits.specs.Grammar.{IsErrorAt}
+use Rattle.jxlm_bits.specs.declared.error.Error.{Error}
 use Rattle.jxlm_transform.specs.Channels.{image_list}
 use Rattle.jxlm_transform.specs.declared.param.ModularChannelParams.{ModularChannelParams}
 use Rattle.jxlm_transform.specs.declared.param.ModularParams.{ModularParams}

@@ -1,7 +1,7 @@
 -- What an image ends as, once a part of it has ended.
 use Rattle.std.specs.Prelude.{◌≡◌, Result}
 use Rattle.std.specs.Borrow.{Fml, RattleType, MutBor, RestsIfErr}
-use Rattle.jxlm_base.specs.declared.decoder.Decoder.{Ghosts}
+use Rattle.jxlm_bits.specs.declared.decoder.Decoder.{Ghosts}
 use Rattle.jxl_modular.specs.Image.{Image}
 use Rattle.jxl_modular.specs.declared.groups.TransformedGlobalModular.{TransformedGlobalModular}
 use Rattle.jxl_modular.specs.declared.image.TransformedModularSubimage.{TransformedModularSubimage}

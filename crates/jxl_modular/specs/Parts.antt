@@ -2,8 +2,8 @@
 use Rattle.std.specs.Prelude.{◌≡◌, ◌↔◌, ◌<◌, ◌≤◌, ℕ, ◌*◌, ℤ, List, length, Bool, IsTrue, Result}
 use Rattle.std.specs.Borrow.{GName}
 use Rattle.std.specs.Int.{Width}
-use Rattle.jxlm_base.specs.Decoding.{Meaning}
-use Rattle.jxlm_base.specs.declared.error.Error.{Error}
+use Rattle.jxlm_bits.specs.Decoding.{Meaning}
+use Rattle.jxlm_bits.specs.declared.error.Error.{Error}
 use Rattle.jxlm_base.specs.declared.subgrid.Region.{Region}
 use Rattle.jxlm_transform.specs.Channels.{Channel}
 use Rattle.jxlm_tree.specs.Steps.{most_steps}

@@ -1,11 +1,11 @@
 -- A picture of one part, by its bits and by grids alone (ISO/IEC 18181-1, Modular: header to inverse transforms).
 use Rattle.std.specs.Prelude.{◌≡◌, ℕ, ◌+◌, ◌*◌, ◌⊎◌, ℤ, List, Option, sum_by}
 use Rattle.std.specs.Int.{Width}
-use Rattle.jxlm_base.specs.Decoding.{Meaning}
-use Rattle.jxlm_base.specs.ErrorKind.{ErrorKind, OfDecoder, UnlessMemory}
-use Rattle.jxlm_base.specs.Grammar.{IsErrorAt}
+use Rattle.jxlm_bits.specs.Decoding.{Meaning}
+use Rattle.jxlm_bits.specs.ErrorKind.{ErrorKind, OfDecoder, UnlessMemory}
+use Rattle.jxlm_bits.specs.Grammar.{IsErrorAt}
 use Rattle.jxlm_base.specs.Grid.{Grid}
-use Rattle.jxlm_base.specs.declared.decoder.DecoderError.{DecoderError}
+use Rattle.jxlm_bits.specs.declared.decoder.DecoderError.{DecoderError}
 use Rattle.jxlm_chain.specs.Chain.{IsOnlyImage}
 use Rattle.jxlm_transform.specs.Channels.{ChannelList, area}
 use Rattle.jxlm_tree.specs.Tree.{Config, depth}

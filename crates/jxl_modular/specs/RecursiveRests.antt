@@ -2,7 +2,7 @@
 use mir.Syntax.{named}
 use Rattle.std.specs.Prelude.{◌≡◌, [], Result}
 use Rattle.std.specs.Borrow.{Fml, RattleType, MutBor, RestsIfErr, follows}
-use Rattle.jxlm_base.specs.declared.decoder.Decoder as decoders
+use Rattle.jxlm_bits.specs.declared.decoder.Decoder as decoders
 use Rattle.jxl_modular.specs.Image.{Image}
 use Rattle.jxl_modular.specs.declared.groups.TransformedGlobalModular.{TransformedGlobalModular}
 use Rattle.jxl_modular.specs.declared.recursive.HoldsHeader as holders

@@ -3,12 +3,12 @@
 use Rattle.std.specs.Prelude.{◌≡◌, ◌≢◌, ◌↔◌, ◌⊎◌, ℕ, ◌+◌, ◌*◌, ◌<◌, ◌≤◌, ℤ, List, [], ◌∷◌, ◌++◌, map, replicate, sum, Bool, false, IsTrue, Any, MatchBool, Option, Result, Ok, Err}
 use Rattle.std.specs.List.{All, AllPairs, AllZip, FoldsTo}
 use Rattle.std.specs.Int.{Width}
-use Rattle.jxlm_base.specs.Bits.{bytes_of, position_of}
-use Rattle.jxlm_base.specs.Decoding.{Meaning}
-use Rattle.jxlm_base.specs.ErrorKind.{BadSqueeze, NoMemory, UnlessNoMemory, kind_of}
+use Rattle.jxlm_bits.specs.Bits.{bytes_of, position_of}
+use Rattle.jxlm_bits.specs.Decoding.{Meaning}
+use Rattle.jxlm_bits.specs.ErrorKind.{BadSqueeze, NoMemory, UnlessNoMemory, kind_of}
 use Rattle.jxlm_base.specs.Grid.{Grid}
 use Rattle.jxlm_base.specs.Regions.{grid_of, grids_in, store_meanings}
-use Rattle.jxlm_base.specs.declared.error.Error.{Error}
+use Rattle.jxlm_bits.specs.declared.error.Error.{Error}
 use Rattle.jxlm_chain.specs.Chain as chain
 use Rattle.jxlm_tree.specs.Tree.{Config, depth}
 use Rattle.jxlm_transform.specs.Channels.{AreGridsOf, ChannelList}

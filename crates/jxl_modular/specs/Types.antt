@@ -1,10 +1,10 @@
 -- The types of the crates below that a caller's definitions may name, each with its variants.
-pub use Rattle.jxlm_base.specs.declared.bits.BitstreamError
-pub use Rattle.jxlm_base.specs.declared.bits.U32Spec
-pub use Rattle.jxlm_base.specs.declared.decoder.DecoderError
-pub use Rattle.jxlm_base.specs.declared.decoder.RleToken
-pub use Rattle.jxlm_base.specs.declared.error.Error
-pub use Rattle.jxlm_base.specs.declared.grid.OutOfMemory
+pub use Rattle.jxlm_bits.specs.declared.bits.BitstreamError
+pub use Rattle.jxlm_bits.specs.declared.bits.U32Spec
+pub use Rattle.jxlm_bits.specs.declared.decoder.DecoderError
+pub use Rattle.jxlm_bits.specs.declared.decoder.RleToken
+pub use Rattle.jxlm_bits.specs.declared.error.Error
+pub use Rattle.jxlm_bits.specs.declared.error.OutOfMemory
 pub use Rattle.jxlm_base.specs.declared.subgrid.Region
 pub use Rattle.jxlm_tree.specs.declared.flat.Leaf
 pub use Rattle.jxlm_predictor.specs.declared.predictor.Predictor

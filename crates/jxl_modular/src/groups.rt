@@ -4,15 +4,15 @@
 ghost use Rattle.std.specs.Prelude.{◌≡◌, ◌≢◌, ◌↔◌, ◌&&◌, [], Some, not, pos, IsFalse, IsOk, IsSome, IsTrue, IfOk, IfErr, OnOk, OnErr, nat_le};
 ghost use Rattle.std.specs.List.{list_all};
 ghost use Rattle.std.specs.Option.{option_copied};
-ghost use Rattle.jxlm_base.specs.Bits.{bytes_of, position_of};
-ghost use Rattle.jxlm_base.specs.ErrorKind.{BadSqueeze, UnlessNoMemory, kind_of};
+ghost use Rattle.jxlm_bits.specs.Bits.{bytes_of, position_of};
+ghost use Rattle.jxlm_bits.specs.ErrorKind.{BadSqueeze, UnlessNoMemory, kind_of};
 ghost use Rattle.jxlm_samples.specs.Part.{cell_count};
 
 use crate::image::ModularImageDestination;
 use crate::recursive::{NestedHeader, RecursiveModularImage};
-use jxlm_base::bits::Bitstream;
-use jxlm_base::decoder::Decoder;
-use jxlm_base::error::Result;
+use jxlm_bits::bits::Bitstream;
+use jxlm_bits::decoder::Decoder;
+use jxlm_bits::error::Result;
 use jxlm_base::grid::{AlignedGrid, OutOfMemory};
 use jxlm_base::sample::Sample;
 use jxlm_groups::part::{Kind, SectionPart};

@@ -11,12 +11,12 @@ pub mod sections;
 
 /// Bits of the input.
 pub mod bits {
-    pub use jxlm_base::bits::{Bitstream, BitstreamError, U32Spec};
+    pub use jxlm_bits::bits::{Bitstream, BitstreamError, U32Spec};
 }
 
 /// Entropy decoders.
 pub mod decoder {
-    pub use jxlm_base::decoder::{Decoder, DecoderError, RleToken, TokensError};
+    pub use jxlm_bits::decoder::{Decoder, DecoderError, RleToken, TokensError};
 }
 
 /// A lossless encoder, over either plain format.
@@ -28,7 +28,7 @@ pub mod encode {
 
 /// Errors.
 pub mod error {
-    pub use jxlm_base::error::{Error, Result};
+    pub use jxlm_bits::error::{Error, Result};
 }
 
 /// Trees as the samples of one channel walk them.
@@ -86,7 +86,7 @@ pub mod transform {
     pub use jxlm_transform::transform::{Palette, Rct, Squeeze, SqueezeParams, TransformInfo};
 }
 
-pub use jxlm_base::error::{Error, Result};
+pub use jxlm_bits::error::{Error, Result};
 pub use jxlm_base::sample::Sample;
 pub use jxlm_tree::flat::FlatMaTree;
 pub use jxlm_tree::ma::{MaConfig, MaConfigParams};

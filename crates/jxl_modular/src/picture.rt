@@ -2,8 +2,8 @@
 
 ghost use Rattle.std.specs.Prelude.{◌≡◌, ◌↔◌, ◌*◌, [], pos, None, IfOk, IfErr, IsOk, OnOk};
 ghost use Rattle.std.specs.Option.{IfSome, option_copied};
-ghost use Rattle.jxlm_base.specs.Bits.{bytes_of, position_of};
-ghost use Rattle.jxlm_base.specs.ErrorKind.{UnlessMemory, kind_of};
+ghost use Rattle.jxlm_bits.specs.Bits.{bytes_of, position_of};
+ghost use Rattle.jxlm_bits.specs.ErrorKind.{UnlessMemory, kind_of};
 ghost use Rattle.jxlm_transform.specs.Channels.{AreGridsOf, image_list};
 ghost use Rattle.jxlm_transform.specs.Params.{IsValidParams};
 ghost use Rattle.jxlm_samples.specs.Decode.{MovesWithin};
@@ -14,9 +14,9 @@ ghost use Rattle.jxl_modular.specs.Picture.{IsPictureRead, PictureFails, StepsWi
 
 use crate::image::ModularImageDestination;
 use crate::root::Modular;
-use jxlm_base::bits::Bitstream;
-use jxlm_base::decoder::Decoder;
-use jxlm_base::error::Result;
+use jxlm_bits::bits::Bitstream;
+use jxlm_bits::decoder::Decoder;
+use jxlm_bits::error::Result;
 use jxlm_base::sample::Sample;
 use jxlm_tree::flat::Steps;
 use jxlm_transform::param::ModularParams;

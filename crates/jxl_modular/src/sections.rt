@@ -14,9 +14,9 @@ mod turns;
 
 use crate::image::ModularImageDestination;
 pub use fit::sections_fit;
-use jxlm_base::bits::Bitstream;
-use jxlm_base::decoder::Decoder;
-use jxlm_base::error::Result;
+use jxlm_bits::bits::Bitstream;
+use jxlm_bits::decoder::Decoder;
+use jxlm_bits::error::Result;
 use jxlm_base::sample::Sample;
 pub use jxlm_groups::area::{Area, PartArea};
 pub use jxlm_groups::part::SectionPart;

@@ -5,8 +5,8 @@ use Rattle.std.specs.List.{sum_by}
 use Rattle.std.proofs.lemmas.Bool.{leb-true}
 use Rattle.std.proofs.lemmas.List.Sums.{sum_by_push}
 use Rattle.std.proofs.Math.Nat.{suc-mul, mul_comm}
-use Rattle.jxlm_base.specs.Decoding.{Meaning}
-use Rattle.jxlm_base.specs.ErrorKind.{BadEnum, BadProfile, ErrorKind}
+use Rattle.jxlm_bits.specs.Decoding.{Meaning}
+use Rattle.jxlm_bits.specs.ErrorKind.{BadEnum, BadProfile, ErrorKind}
 use Rattle.jxl_image_header.specs.declared.size.Size.{Size}
 use Rattle.jxl_toc.specs.Tokens.{After}
 use Rattle.jxl_toc.specs.Turns.{chained}

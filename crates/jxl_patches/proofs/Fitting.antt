@@ -5,8 +5,8 @@ use Rattle.std.specs.Option.{ok_or, option_map_or}
 use Rattle.std.proofs.lemmas.Bool.{leb-true, ltb-true, and_parts}
 use Rattle.std.proofs.lemmas.List.{length-append, get_or_push, get_or_append_left}
 use Rattle.std.proofs.Math.Nat.{suc-mul}
-use Rattle.jxlm_base.specs.Decoding.{Meaning}
-use Rattle.jxlm_base.specs.ErrorKind.{ErrorKind, BadEnum}
+use Rattle.jxlm_bits.specs.Decoding.{Meaning}
+use Rattle.jxlm_bits.specs.ErrorKind.{ErrorKind, BadEnum}
 use Rattle.jxl_image_header.specs.declared.size.Size.{Size}
 use Rattle.jxl_toc.proofs.Cases.{less_or_same}
 use Rattle.jxl_toc.specs.Tokens.{After, token}

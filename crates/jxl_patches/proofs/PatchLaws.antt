@@ -1,10 +1,10 @@
 -- Patches are read exactly: what is read stands there, and what stands there is read.
 use Rattle.std.proofs.Common.{ℕ, ◌+◌, Bool, List, length, get_or, Ok, Err, Option, None, Result}
 use Rattle.std.specs.Prelude.{nat_le, codes, is_some}
-use Rattle.jxlm_base.specs.Decoding.{Meaning}
-use Rattle.jxlm_base.specs.ErrorKind.{ErrorKind}
-use Rattle.jxlm_base.specs.Grammar.{IsExact}
-use Rattle.jxlm_base.proofs.GrammarLaws.{exact-give, exact-fail}
+use Rattle.jxlm_bits.specs.Decoding.{Meaning}
+use Rattle.jxlm_bits.specs.ErrorKind.{ErrorKind}
+use Rattle.jxlm_bits.specs.Grammar.{IsExact}
+use Rattle.jxlm_bits.proofs.GrammarLaws.{exact-give, exact-fail}
 use Rattle.jxl_image_header.proofs.HeaderLaws.{bind, exact-meant}
 use Rattle.jxl_image_header.specs.declared.size.Size.{Size}
 use Rattle.jxl_toc.proofs.TocLaws.{exact-token, exact-chained, exact-coded}

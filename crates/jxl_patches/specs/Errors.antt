@@ -1,6 +1,6 @@
 -- Why no patches are read.
 use Rattle.std.specs.Prelude.{codes}
-use Rattle.jxlm_base.specs.ErrorKind.{ErrorKind, BadEnum, BadProfile, OfDecoder, NoMemory}
+use Rattle.jxlm_bits.specs.ErrorKind.{ErrorKind, BadEnum, BadProfile, OfDecoder, NoMemory}
 use Rattle.jxl_patches.specs.declared.error.PatchError.{PatchError}
 use Rattle.jxl_patches.specs.declared.error.PatchError.TheVariants as errors
 

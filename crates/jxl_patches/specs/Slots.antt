@@ -1,7 +1,7 @@
 -- What the four slots hold, and the patches that a frame has of it (ISO/IEC 18181-1, frame: saving, patches).
 use Rattle.std.specs.Prelude.{◌≡◌, ℕ, ◌+◌, ◌*◌, ℤ, List, [], length, replicate, set, Bool, Option, Some, None}
-use Rattle.jxlm_base.specs.Decoding.{Meaning}
-use Rattle.jxlm_base.specs.Grammar.{Grammar, give, ◌>>=◌}
+use Rattle.jxlm_bits.specs.Decoding.{Meaning}
+use Rattle.jxlm_bits.specs.Grammar.{Grammar, give, ◌>>=◌}
 use Rattle.jxlm_base.specs.Grid.{Grid}
 use Rattle.jxl_image_header.specs.Fields.{when}
 use Rattle.jxl_image_header.specs.declared.size.Size.{Size}

@@ -2,7 +2,7 @@
 
 ghost use Rattle.std.specs.Prelude.{◌≡◌, ◌+◌, ◌<◌, ◌≤◌, ◌^◌, length, IfOk};
 ghost use Rattle.std.specs.List.{sum_by};
-ghost use Rattle.jxlm_base.specs.Bits.{bytes_of, position_of};
+ghost use Rattle.jxlm_bits.specs.Bits.{bytes_of, position_of};
 ghost use Rattle.jxl_toc.specs.Turns.{chained};
 ghost use Rattle.jxl_patches.specs.Reading.{PatchesRead};
 ghost use Rattle.jxl_patches.specs.Patches.{one_rectangle as the_one_rectangle, dictionary as the_dictionary};
@@ -14,8 +14,8 @@ use crate::place::places;
 use crate::source::{place_count, rectangle_count, source};
 use crate::token::decoder;
 use jxl_image_header::size::Size;
-use jxlm_base::bits::Bitstream;
-use jxlm_base::decoder::Decoder;
+use jxlm_bits::bits::Bitstream;
+use jxlm_bits::decoder::Decoder;
 use std::alloc::Global;
 
 /// A rectangle of the frame that a slot holds.

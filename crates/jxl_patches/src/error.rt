@@ -2,7 +2,7 @@
 
 ghost use Rattle.std.specs.Prelude.{◌≡◌};
 
-use jxlm_base::decoder::DecoderError;
+use jxlm_bits::decoder::DecoderError;
 use std::alloc::AllocFailed;
 
 /// Why no patches are read.

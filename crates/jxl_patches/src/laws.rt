@@ -2,12 +2,12 @@
 
 ghost use Rattle.std.specs.Prelude.{◌≡◌, ℕ, List, Option, Some, pos, ◌+ℤ◌, ◌↔◌, true};
 ghost use Rattle.jxl_image_header.specs.declared.size.Size.{Size as TheSize};
-ghost use Rattle.jxlm_base.specs.Grammar.{IsExact};
-ghost use Rattle.jxlm_base.specs.Numbers.{unpack};
+ghost use Rattle.jxlm_bits.specs.Grammar.{IsExact};
+ghost use Rattle.jxlm_bits.specs.Numbers.{unpack};
 ghost use Rattle.jxl_patches.specs.Patches.{dictionary, moved};
 ghost use Rattle.jxl_patches.specs.Patched.{LastReplacementStays, ReadPatchesFit, UncoveredCellsStay};
 
-use jxlm_base::decoder::Decoder;
+use jxlm_bits::decoder::Decoder;
 
 /// What is read as a dictionary stands there, and what stands there is read.
 pub fn dictionaries_are_read_exactly<D: Decoder>()

@@ -2,7 +2,7 @@
 
 ghost use Rattle.std.specs.Prelude.{◌≡◌, ◌+◌, ◌*◌, ◌<◌, ◌≤◌, ◌^◌, length, IfOk};
 ghost use Rattle.std.specs.Option.{IfSome, option_map};
-ghost use Rattle.jxlm_base.specs.Bits.{bytes_of, position_of};
+ghost use Rattle.jxlm_bits.specs.Bits.{bytes_of, position_of};
 ghost use Rattle.jxl_patches.specs.Dictionaries.{AreWithin, patches_of};
 ghost use Rattle.jxl_patches.specs.Reading.{PatchesRead};
 ghost use Rattle.jxl_patches.specs.Slots.{ArePut, AreOfSize, HoldFrames, optional_patches};
@@ -12,8 +12,8 @@ use crate::dictionary::Dictionary;
 use crate::error::PatchError;
 use crate::slots::SavedFrames;
 use jxl_image_header::size::Size;
-use jxlm_base::bits::Bitstream;
-use jxlm_base::decoder::Decoder;
+use jxlm_bits::bits::Bitstream;
+use jxlm_bits::decoder::Decoder;
 use jxlm_base::grid::AlignedGrid;
 use std::alloc::Global;
 

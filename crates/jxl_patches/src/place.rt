@@ -1,7 +1,7 @@
 //! The places at which a rectangle is put, and how.
 
 ghost use Rattle.std.specs.Prelude.{◌≡◌, ◌<◌, ◌^◌, ◌-◌, length, get_or, IfOk, IfSome};
-ghost use Rattle.jxlm_base.specs.Bits.{bytes_of, position_of};
+ghost use Rattle.jxlm_bits.specs.Bits.{bytes_of, position_of};
 ghost use Rattle.jxl_toc.specs.Turns.{chained};
 ghost use Rattle.jxl_patches.specs.Patches.{moved as the_moved, nowhere, coordinate as the_coordinate, mode_of as the_mode_of, one_mode, one_place};
 ghost use Rattle.jxl_patches.specs.Dictionaries.{patches_of};
@@ -11,8 +11,8 @@ use crate::dictionary::{Dictionary, PatchMode, Place, Rectangle};
 use crate::error::{PatchError, Result};
 use crate::token::token;
 use jxl_image_header::size::Size;
-use jxlm_base::bits::Bitstream;
-use jxlm_base::decoder::Decoder;
+use jxlm_bits::bits::Bitstream;
+use jxlm_bits::decoder::Decoder;
 
 fn moved(later: bool, before: u32, value: u32) -> Option<u64>
     ensures value { result ≡ the_moved later before value }

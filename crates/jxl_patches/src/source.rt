@@ -1,7 +1,7 @@
 //! The rectangles that patches take, and how often.
 
 ghost use Rattle.std.specs.Prelude.{◌≡◌, ◌+◌, ◌*◌, ◌/◌, ◌<◌, ◌≤◌, ◌^◌, length, get_or, None, Ok, Err, IfOk, MatchResult, is_some, nat_le, if◌then◌else◌, Some};
-ghost use Rattle.jxlm_base.specs.Bits.{bytes_of, position_of};
+ghost use Rattle.jxlm_bits.specs.Bits.{bytes_of, position_of};
 ghost use Rattle.jxl_patches.specs.Errors.{patch_kind};
 ghost use Rattle.jxl_patches.specs.Patches.{most_rectangles, source as the_source};
 ghost use Rattle.jxl_patches.specs.Inner.Steps.{TokenRead, Checks, slot as the_slot, rectangle_count as the_rectangle_count, rectangle_within as the_rectangle_within, count_within as the_count_within, place_count as the_place_count};
@@ -10,8 +10,8 @@ use crate::dictionary::Rectangle;
 use crate::error::{PatchError, Result};
 use crate::token::token;
 use jxl_image_header::size::Size;
-use jxlm_base::bits::Bitstream;
-use jxlm_base::decoder::Decoder;
+use jxlm_bits::bits::Bitstream;
+use jxlm_bits::decoder::Decoder;
 
 // How many rectangles there may be.
 fn most(size: Size) -> u64

@@ -1,14 +1,14 @@
 //! Tokens of a decoder.
 
 ghost use Rattle.std.specs.Prelude.{◌≡◌, ◌<◌, length, IfOk};
-ghost use Rattle.jxlm_base.specs.Bits.{bytes_of, position_of};
+ghost use Rattle.jxlm_bits.specs.Bits.{bytes_of, position_of};
 ghost use Rattle.jxl_toc.specs.Tokens.{told};
 ghost use Rattle.jxl_patches.specs.Reading.{PatchesRead};
 ghost use Rattle.jxl_patches.specs.Inner.Steps.{TokenRead, decoder as the_decoder};
 
 use crate::error::Result;
-use jxlm_base::bits::Bitstream;
-use jxlm_base::decoder::Decoder;
+use jxlm_bits::bits::Bitstream;
+use jxlm_bits::decoder::Decoder;
 use std::alloc::Global;
 
 /// A decoder of so many contexts, at the begin of its tokens.

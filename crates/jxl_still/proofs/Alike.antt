@@ -1,8 +1,8 @@
 -- What is true of the samples of a frame by the sections of its parts is true by any other sections that are the same.
 use Rattle.std.proofs.Common.{◌≡◌, ℕ, ℤ, List, get_or, Option, sym, ◌∙◌}
 use Rattle.std.specs.Int.{Width}
-use Rattle.jxlm_base.specs.Decoding.{Meaning}
-use Rattle.jxlm_base.specs.ErrorKind.{kind_of}
+use Rattle.jxlm_bits.specs.Decoding.{Meaning}
+use Rattle.jxlm_bits.specs.ErrorKind.{kind_of}
 use Rattle.jxlm_base.specs.Grid.{Grid}
 use Rattle.jxlm_tree.proofs.Memory.{unless_so}
 use Rattle.jxlm_tree.specs.Tree.{Config}

@@ -5,12 +5,12 @@ use Rattle.std.specs.Option.{option_map}
 use Rattle.std.specs.Prelude.{◌&&◌, ◌||◌, ◌↔◌, ◌<◌, Any, IsFalse}
 use Rattle.std.specs.Borrow.{Bor}
 use Rattle.std.specs.List.{All, list_any}
-use Rattle.jxlm_base.specs.Bits.{bytes_of, position_of}
-use Rattle.jxlm_base.specs.Decoding.{Meaning}
-use Rattle.jxlm_base.specs.ErrorKind.{kind_of}
+use Rattle.jxlm_bits.specs.Bits.{bytes_of, position_of}
+use Rattle.jxlm_bits.specs.Decoding.{Meaning}
+use Rattle.jxlm_bits.specs.ErrorKind.{kind_of}
 use Rattle.jxlm_base.specs.Grid.{Grid}
-use Rattle.jxlm_base.specs.declared.bits.Bitstream.{Bitstream}
-use Rattle.jxlm_base.specs.declared.error.Error.{Error}
+use Rattle.jxlm_bits.specs.declared.bits.Bitstream.{Bitstream}
+use Rattle.jxlm_bits.specs.declared.error.Error.{Error}
 use Rattle.jxlm_tree.proofs.Memory.{always_so, unless_so}
 use Rattle.jxlm_tree.specs.Tree.{Config}
 use Rattle.jxlm_chain.specs.Chain.{Chain}

@@ -3,9 +3,9 @@ use Rattle.std.proofs.Common.{◌≡◌, ℕ, Bool, false, List, [], ◌∷◌, 
 use Rattle.std.specs.Prelude.{◌||◌}
 use Rattle.std.specs.List.{list_any}
 use Rattle.std.specs.Option.{IfSome, option_copied}
-use Rattle.jxlm_base.specs.Decoding.{Meaning}
-use Rattle.jxlm_base.specs.ErrorKind.{UnlessMemory, kind_of}
-use Rattle.jxlm_base.specs.declared.error.Error.{Error}
+use Rattle.jxlm_bits.specs.Decoding.{Meaning}
+use Rattle.jxlm_bits.specs.ErrorKind.{UnlessMemory, kind_of}
+use Rattle.jxlm_bits.specs.declared.error.Error.{Error}
 use Rattle.jxlm_tree.proofs.Memory.{unless_so}
 use Rattle.jxlm_transform.specs.Channels.{image_list}
 use Rattle.jxlm_transform.specs.declared.param.ModularChannelParams.{ModularChannelParams}

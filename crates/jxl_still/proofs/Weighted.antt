@@ -4,9 +4,9 @@ use Rattle.std.specs.Prelude.{Any}
 use Rattle.std.specs.List.{All, list_any}
 use Rattle.std.proofs.lemmas.Bool.{or_right, true≢false}
 use Rattle.std.proofs.lemmas.List.Elements.{All-head, All-tail}
-use Rattle.jxlm_base.specs.Bits.{bytes_of, position_of}
-use Rattle.jxlm_base.specs.Decoding.{Found}
-use Rattle.jxlm_base.specs.ErrorKind.{ErrorAt}
+use Rattle.jxlm_bits.specs.Bits.{bytes_of, position_of}
+use Rattle.jxlm_bits.specs.Decoding.{Found}
+use Rattle.jxlm_bits.specs.ErrorKind.{ErrorAt}
 use Rattle.jxlm_transform.proofs.StepFacts.{both_of}
 use Rattle.jxlm_transform.specs.Transforms.{OfPalette, OfRct, OfSqueeze, Transform}
 use Rattle.jxlm_transform.specs.declared.transform.Palette.{Palette}

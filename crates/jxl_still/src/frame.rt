@@ -2,7 +2,7 @@
 
 ghost use Rattle.std.specs.Prelude.{◌≡◌, ◌↔◌, [], pos, false, IfErr, IfOk, IsTrue, None, Ok, OnOk};
 ghost use Rattle.std.specs.Option.{IfSome, option_copied};
-ghost use Rattle.jxlm_base.specs.Bits.{bytes_of, position_of};
+ghost use Rattle.jxlm_bits.specs.Bits.{bytes_of, position_of};
 ghost use Rattle.jxlm_transform.specs.Channels.{AreGridsOf, image_list};
 ghost use Rattle.jxlm_transform.specs.Params.{IsValidParams};
 ghost use Rattle.jxlm_groups.specs.Passes.{one_picture, passes_of};
@@ -18,8 +18,8 @@ use crate::opening::{begin_weighted, open_image};
 use crate::places::Places;
 use jxl_modular::image::ModularImageDestination;
 use jxl_modular::sections::{Progress, Section, decode_sections_with};
-use jxlm_base::bits::Bitstream;
-use jxlm_base::decoder::Decoder;
+use jxlm_bits::bits::Bitstream;
+use jxlm_bits::decoder::Decoder;
 use jxlm_base::sample::Sample;
 use jxlm_tree::flat::Steps;
 use jxlm_tree::ma::MaConfig;

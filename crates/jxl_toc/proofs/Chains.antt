@@ -1,7 +1,7 @@
 -- Steps of a chain, one after another, as a loop reads them.
 use Rattle.std.proofs.Common.{◌≡◌, ℕ, suc, ◌+◌, ◌-◌, ◌<◌, ◌≤◌, List, Ok, refl, arith}
-use Rattle.jxlm_base.specs.ErrorKind.{ErrorKind, UnlessMemory}
-use Rattle.jxlm_base.specs.Grammar.{IsErrorAt}
+use Rattle.jxlm_bits.specs.ErrorKind.{ErrorKind, UnlessMemory}
+use Rattle.jxlm_bits.specs.Grammar.{IsErrorAt}
 use Rattle.jxl_toc.proofs.ReadSteps.{unless_so}
 use Rattle.jxl_toc.specs.Tokens.{Tokens}
 use Rattle.jxl_toc.specs.Turns.{chained}

@@ -1,8 +1,8 @@
 -- What a profile gives where its bytes are not read.
 use Rattle.std.proofs.Common.{◌≡◌, ℕ, List, [], Ok, refl}
-use Rattle.jxlm_base.specs.Decoding.{Meaning}
-use Rattle.jxlm_base.specs.ErrorKind.{ErrorKind, UnlessMemory}
-use Rattle.jxlm_base.specs.Grammar.{IsErrorAt}
+use Rattle.jxlm_bits.specs.Decoding.{Meaning}
+use Rattle.jxlm_bits.specs.ErrorKind.{ErrorKind, UnlessMemory}
+use Rattle.jxlm_bits.specs.Grammar.{IsErrorAt}
 use Rattle.jxl_toc.proofs.ReadSteps.{unless_so}
 use Rattle.jxl_toc.specs.Turns.{chained}
 use Rattle.jxl_toc.specs.Profiles.{one_byte, profile}

@@ -1,8 +1,8 @@
 -- Readings one after another, and where the error of one of them leads.
 use Rattle.std.proofs.Common.{◌≡◌, ℕ, List, Ok, refl}
-use Rattle.jxlm_base.specs.ErrorKind.{ErrorKind, Eof, BadEnum, BadProfile, BadTree, NoGlobalTree, BadRct, BadPalette, BadSqueeze, OfDecoder, NoMemory, UnlessMemory, UnlessNoMemory}
-use Rattle.jxlm_base.specs.Grammar.{Grammar, IsErrorAt, ◌>>=◌}
-use Rattle.jxlm_base.specs.declared.decoder.DecoderError.TheVariants.{UnexpectedEof, Invalid, OutOfMemory}
+use Rattle.jxlm_bits.specs.ErrorKind.{ErrorKind, Eof, BadEnum, BadProfile, BadTree, NoGlobalTree, BadRct, BadPalette, BadSqueeze, OfDecoder, NoMemory, UnlessMemory, UnlessNoMemory}
+use Rattle.jxlm_bits.specs.Grammar.{Grammar, IsErrorAt, ◌>>=◌}
+use Rattle.jxlm_bits.specs.declared.decoder.DecoderError.TheVariants.{UnexpectedEof, Invalid, OutOfMemory}
 use Rattle.jxl_image_header.proofs.UnlessMemory as headers
 
 -- a fact leads to another one, with a decoder

@@ -1,9 +1,9 @@
 -- What a table gives where its code is not read, and where it is.
 use Rattle.std.proofs.Common.{◌≡◌, ℕ, ◌*◌, Bool, List, [], Ok, Err, Result, refl}
-use Rattle.jxlm_base.specs.Decoding.{Found, Meaning}
-use Rattle.jxlm_base.specs.ErrorKind.{ErrorKind, ErrorAt, UnlessMemory, kind_of}
-use Rattle.jxlm_base.specs.Grammar.{IsErrorAt, flag}
-use Rattle.jxlm_base.specs.declared.error.Error.{Error}
+use Rattle.jxlm_bits.specs.Decoding.{Found, Meaning}
+use Rattle.jxlm_bits.specs.ErrorKind.{ErrorKind, ErrorAt, UnlessMemory, kind_of}
+use Rattle.jxlm_bits.specs.Grammar.{IsErrorAt, flag}
+use Rattle.jxlm_bits.specs.declared.error.Error.{Error}
 use Rattle.jxl_image_header.specs.Fields.{when}
 use Rattle.jxl_image_header.specs.Reading.{Parses}
 use Rattle.jxl_toc.proofs.ReadSteps.{unless_so, with_decoder}

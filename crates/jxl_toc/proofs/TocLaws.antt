@@ -2,12 +2,12 @@
 use Rattle.std.proofs.Common.{◌≡◌, ℕ, zero, suc, ◌+◌, ◌*◌, ◌/◌, ◌%◌, Bool, true, false, List, [], ◌∷◌, ◌++◌, length, Ok, Err, Some, None, Result, refl, ap, sym}
 use Rattle.std.specs.Prelude.{nat_lt, nat_le, codes, if◌then◌else◌}
 use Rattle.std.proofs.lemmas.Bool.{ltb-false, le-ltb}
-use Rattle.jxlm_base.specs.Decoding.{Found, Meaning}
-use Rattle.jxlm_base.specs.ErrorKind.{Eof, ErrorAt, BadEnum, BadProfile, OfDecoder}
-use Rattle.jxlm_base.specs.Grammar.{Grammar, IsExact}
-use Rattle.jxlm_base.specs.declared.decoder.DecoderError.{DecoderError}
-use Rattle.jxlm_base.specs.declared.bits.U32Spec.TheVariants.{Offset}
-use Rattle.jxlm_base.proofs.GrammarLaws.{exact-give, exact-fail, exact-either, exact-flag, exact-u32, exact-repeated}
+use Rattle.jxlm_bits.specs.Decoding.{Found, Meaning}
+use Rattle.jxlm_bits.specs.ErrorKind.{Eof, ErrorAt, BadEnum, BadProfile, OfDecoder}
+use Rattle.jxlm_bits.specs.Grammar.{Grammar, IsExact}
+use Rattle.jxlm_bits.specs.declared.decoder.DecoderError.{DecoderError}
+use Rattle.jxlm_bits.specs.declared.bits.U32Spec.TheVariants.{Offset}
+use Rattle.jxlm_bits.proofs.GrammarLaws.{exact-give, exact-fail, exact-either, exact-flag, exact-u32, exact-repeated}
 use Rattle.jxl_image_header.proofs.HeaderLaws.{bind, exact-aligned, exact-here, exact-long, exact-meant, found_same, none_found}
 use Rattle.jxl_toc.proofs.Tokens.{of_decoder}
 use Rattle.jxl_toc.specs.Tokens.{Tokens, called, token, coded}

@@ -1,10 +1,10 @@
 -- Tokens as fields, and what a call that reads one returns.
 use Rattle.std.proofs.Common.{◌≡◌, ℕ, ◌%◌, List, ◌∷◌, Ok, Err, None, Result, refl}
 use Rattle.std.specs.Result.{result_map_both}
-use Rattle.jxlm_base.specs.Decoding.{Found, Taken, Meaning}
-use Rattle.jxlm_base.specs.ErrorKind.{ErrorKind, ErrorAt, OfDecoder, UnlessMemory}
-use Rattle.jxlm_base.specs.Grammar.{Grammar, IsErrorAt, give, ◌>>=◌}
-use Rattle.jxlm_base.specs.declared.decoder.DecoderError.{DecoderError}
+use Rattle.jxlm_bits.specs.Decoding.{Found, Taken, Meaning}
+use Rattle.jxlm_bits.specs.ErrorKind.{ErrorKind, ErrorAt, OfDecoder, UnlessMemory}
+use Rattle.jxlm_bits.specs.Grammar.{Grammar, IsErrorAt, give, ◌>>=◌}
+use Rattle.jxlm_bits.specs.declared.decoder.DecoderError.{DecoderError}
 use Rattle.jxl_toc.proofs.ReadSteps.{always_so, first_refuses}
 use Rattle.jxl_toc.specs.Tokens.{After, told, token}
 use Rattle.jxl_toc.specs.Profiles.{context_of, one_byte}

@@ -1,9 +1,9 @@
 -- The order of sections in the file: a permutation by its Lehmer code (ISO/IEC 18181-1, permutations).
 use Rattle.std.specs.Prelude.{◌≡◌, ℕ, ◌+◌, ◌-◌, ◌<◌, List, [], ◌∷◌, ◌++◌, length, take, count_by, nat_lt, nat_le, ◌==◌, not, slice_get, slice_index, slice_index_or, codes, Some}
 use Rattle.std.specs.List.{filter, list_any, range_with_len}
-use Rattle.jxlm_base.specs.Decoding.{Meaning}
-use Rattle.jxlm_base.specs.ErrorKind.{BadEnum}
-use Rattle.jxlm_base.specs.Grammar.{Grammar, give, fail, either}
+use Rattle.jxlm_bits.specs.Decoding.{Meaning}
+use Rattle.jxlm_bits.specs.ErrorKind.{BadEnum}
+use Rattle.jxlm_bits.specs.Grammar.{Grammar, give, fail, either}
 use Rattle.jxl_image_header.specs.Fields.{meant}
 use Rattle.jxl_toc.specs.Tokens.{Tokens, token, coded}
 use Rattle.jxl_toc.specs.Turns.{◌>>=◌, chained}

@@ -1,8 +1,8 @@
 -- The profile between the image header and the first frame (ISO/IEC 18181-1, ICC profile: the stream of its bytes).
 use Rattle.std.specs.Prelude.{ℕ, ◌+◌, ◌*◌, ◌%◌, ◌==◌, ◌&&◌, ◌||◌, nat_lt, nat_le, if◌then◌else◌, List, [], ◌∷◌, length, slice_index, codes}
-use Rattle.jxlm_base.specs.Decoding.{Meaning}
-use Rattle.jxlm_base.specs.ErrorKind.{BadProfile}
-use Rattle.jxlm_base.specs.Grammar.{Grammar, give, fail, either, ◌>>=◌}
+use Rattle.jxlm_bits.specs.Decoding.{Meaning}
+use Rattle.jxlm_bits.specs.ErrorKind.{BadProfile}
+use Rattle.jxlm_bits.specs.Grammar.{Grammar, give, fail, either, ◌>>=◌}
 use Rattle.jxl_image_header.specs.Fields.{long}
 use Rattle.jxl_toc.specs.Tokens.{Tokens, token, coded}
 use Rattle.jxl_toc.specs.Turns.{chained}

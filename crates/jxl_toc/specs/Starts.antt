@@ -1,6 +1,6 @@
 -- What the first section of a Modular frame begins with (ISO/IEC 18181-1, frame: LF global).
 use Rattle.std.specs.Prelude.{ℕ, ◌+◌, ◌*◌, ◌/◌, ◌^◌, min, Bool, true}
-use Rattle.jxlm_base.specs.Grammar.{Grammar, flag, ◌>>=◌}
+use Rattle.jxlm_bits.specs.Grammar.{Grammar, flag, ◌>>=◌}
 use Rattle.jxl_image_header.specs.Fields.{skipped, told_if, when}
 use Rattle.jxl_image_header.specs.declared.size.Size.{Size}
 

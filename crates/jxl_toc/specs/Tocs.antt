@@ -1,11 +1,11 @@
 -- The table of contents of a frame (ISO/IEC 18181-1, frame: table of contents).
 use Rattle.std.specs.Prelude.{◌≡◌, ℕ, ◌+◌, ◌*◌, ◌/◌, ◌≤◌, List, [], length, take, sum, nat_lt, nat_le, Bool, true, false, if◌then◌else◌, Some, Result, Ok, Err, slice_index, slice_get, map}
 use Rattle.std.specs.List.{list_all}
-use Rattle.jxlm_base.specs.Decoding.{Found, Meaning}
-use Rattle.jxlm_base.specs.ErrorKind.{Eof, ErrorAt, UnlessMemory, kind_of}
-use Rattle.jxlm_base.specs.Grammar.{Grammar, IsErrorAt, flag, u32, give, repeated, ◌>>=◌}
-use Rattle.jxlm_base.specs.declared.bits.U32Spec.TheVariants.{Offset}
-use Rattle.jxlm_base.specs.declared.error.Error.{Error}
+use Rattle.jxlm_bits.specs.Decoding.{Found, Meaning}
+use Rattle.jxlm_bits.specs.ErrorKind.{Eof, ErrorAt, UnlessMemory, kind_of}
+use Rattle.jxlm_bits.specs.Grammar.{Grammar, IsErrorAt, flag, u32, give, repeated, ◌>>=◌}
+use Rattle.jxlm_bits.specs.declared.bits.U32Spec.TheVariants.{Offset}
+use Rattle.jxlm_bits.specs.declared.error.Error.{Error}
 use Rattle.jxl_image_header.specs.Fields.{here, aligned, when}
 use Rattle.jxl_toc.specs.Orders.{IsOrder, lehmer_code}
 use Rattle.jxl_toc.specs.declared.toc.TocEntry.{TocEntry}

@@ -1,10 +1,10 @@
 -- What an entropy decoder reads, as fields: tokens, and its state, which goes on from one to the next.
 use Rattle.std.specs.Prelude.{◌≡◌, ℕ, List, slice_index, None, Result, Ok}
 use Rattle.std.specs.Result.{result_map_both}
-use Rattle.jxlm_base.specs.Decoding.{Found, Meaning}
-use Rattle.jxlm_base.specs.ErrorKind.{OfDecoder}
-use Rattle.jxlm_base.specs.Grammar.{Grammar, give, ◌>>=◌}
-use Rattle.jxlm_base.specs.declared.decoder.DecoderError.{DecoderError}
+use Rattle.jxlm_bits.specs.Decoding.{Found, Meaning}
+use Rattle.jxlm_bits.specs.ErrorKind.{OfDecoder}
+use Rattle.jxlm_bits.specs.Grammar.{Grammar, give, ◌>>=◌}
+use Rattle.jxlm_bits.specs.declared.decoder.DecoderError.{DecoderError}
 
 -- what a call of a decoder reads; where its error leaves the reader is its own matter
 abbrev pub called : {X : Type 0} → (List ℕ → ℕ → Result (Found X) DecoderError) → Grammar X

@@ -1,7 +1,7 @@
 -- Tokens one after another, each from the decoder's state after the one before.
 use Rattle.std.specs.Prelude.{ℕ, zero, suc}
-use Rattle.jxlm_base.specs.Grammar as fields
-use Rattle.jxlm_base.specs.Grammar.{give}
+use Rattle.jxlm_bits.specs.Grammar as fields
+use Rattle.jxlm_bits.specs.Grammar.{give}
 use Rattle.jxl_toc.specs.Tokens.{Tokens}
 
 infixl 10 ◌>>=◌

@@ -1,12 +1,12 @@
 //! Laws of tables of contents and profiles, each the contract of a function that does nothing.
 
 ghost use Rattle.std.specs.Prelude.{◌≡◌, ℕ, List};
-ghost use Rattle.jxlm_base.specs.Grammar.{IsExact};
+ghost use Rattle.jxlm_bits.specs.Grammar.{IsExact};
 ghost use Rattle.jxl_toc.specs.Orders.{IsOrder, IsBijection};
 ghost use Rattle.jxl_toc.specs.Tocs.{toc};
 ghost use Rattle.jxl_toc.specs.Profiles.{profile};
 
-use jxlm_base::decoder::Decoder;
+use jxlm_bits::decoder::Decoder;
 
 /// What is read as a table of contents stands there, and what stands there is read.
 pub fn tables_are_read_exactly<D: Decoder>()

@@ -1,8 +1,8 @@
 //! The order of sections in the file.
 
 ghost use Rattle.std.specs.Prelude.{◌≡◌, ℕ, ◌+◌, ◌-◌, ◌*◌, ◌<◌, ◌≤◌, ◌^◌, List, [], ◌∷◌, ◌++◌, false, length, slice_index_or, IfOk, IfErr};
-ghost use Rattle.jxlm_base.specs.Bits.{bytes_of, position_of};
-ghost use Rattle.jxlm_base.specs.ErrorKind.{NoMemory, kind_of};
+ghost use Rattle.jxlm_bits.specs.Bits.{bytes_of, position_of};
+ghost use Rattle.jxlm_bits.specs.ErrorKind.{NoMemory, kind_of};
 ghost use Rattle.jxl_toc.specs.Tokens.{told as the_told};
 ghost use Rattle.jxl_toc.specs.Turns.{chained};
 ghost use Rattle.jxl_toc.specs.Reading.{Decodes};
@@ -11,9 +11,9 @@ ghost use Rattle.jxl_toc.specs.Inner.Free.{IsNext, free_below, is_taken};
 ghost use Rattle.jxl_toc.specs.Inner.Counts.{AreDigits, IsCounted};
 ghost use Rattle.jxl_toc.specs.Inner.Steps.{TokensRead, decoder as the_decoder, told_digits as the_told_digits};
 
-use jxlm_base::bits::{Bitstream, BitstreamError};
-use jxlm_base::decoder::Decoder;
-use jxlm_base::error::Result;
+use jxlm_bits::bits::{Bitstream, BitstreamError};
+use jxlm_bits::decoder::Decoder;
+use jxlm_bits::error::Result;
 use std::alloc::Global;
 
 fn context_of(v: u32) -> u32

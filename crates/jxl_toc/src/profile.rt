@@ -1,8 +1,8 @@
 //! The profile between the image header and the first frame.
 
 ghost use Rattle.std.specs.Prelude.{◌≡◌, ◌<◌, List, [], ◌∷◌, IfOk, length, slice_index};
-ghost use Rattle.jxlm_base.specs.Bits.{bytes_of, position_of};
-ghost use Rattle.jxlm_base.specs.Grammar.{Reads};
+ghost use Rattle.jxlm_bits.specs.Bits.{bytes_of, position_of};
+ghost use Rattle.jxlm_bits.specs.Grammar.{Reads};
 ghost use Rattle.jxl_toc.specs.Reading.{Decodes};
 ghost use Rattle.jxl_toc.specs.Turns.{chained};
 ghost use Rattle.jxl_toc.specs.Profiles.{kind_of as the_kind_of, one_byte, profile};
@@ -10,9 +10,9 @@ ghost use Rattle.jxl_toc.specs.Inner.Steps.{StateReads, context_after, length_in
 
 use crate::order::{decoder, token};
 use jxl_image_header::fields::{self, long};
-use jxlm_base::bits::{Bitstream, BitstreamError};
-use jxlm_base::decoder::Decoder;
-use jxlm_base::error::Result;
+use jxlm_bits::bits::{Bitstream, BitstreamError};
+use jxlm_bits::decoder::Decoder;
+use jxlm_bits::error::Result;
 use std::alloc::Global;
 
 // The kind of a byte.

@@ -1,13 +1,13 @@
 //! What the first section of a Modular frame begins with.
 
 ghost use Rattle.std.specs.Prelude.{◌≡◌};
-ghost use Rattle.jxlm_base.specs.Bits.{bytes_of, position_of};
-ghost use Rattle.jxlm_base.specs.Grammar.{Reads};
+ghost use Rattle.jxlm_bits.specs.Bits.{bytes_of, position_of};
+ghost use Rattle.jxlm_bits.specs.Grammar.{Reads};
 ghost use Rattle.jxl_toc.specs.Starts.{section_start as the_section_start, tree_limit as the_tree_limit};
 
 use jxl_image_header::fields::{Result, skip_if, told_if};
 use jxl_image_header::size::Size;
-use jxlm_base::bits::Bitstream;
+use jxlm_bits::bits::Bitstream;
 
 /// What the first section of a Modular frame without patches, splines and noise begins with: it passes the factors of
 /// low frequencies, and returns whether a tree follows that sections may share. After that tree, or at once, comes the

@@ -2,9 +2,9 @@
 
 ghost use Rattle.std.specs.Prelude.{◌≡◌, ℕ, ◌+◌, ◌*◌, ◌<◌, ◌≤◌, ◌^◌, [], length, take, drop, get_or, slice_index, IfOk, IfErr, IfSome, IfNone, is_some, true};
 ghost use Rattle.std.specs.List.{list_all};
-ghost use Rattle.jxlm_base.specs.Bits.{bytes_of, position_of};
-ghost use Rattle.jxlm_base.specs.ErrorKind.{NoMemory, kind_of};
-ghost use Rattle.jxlm_base.specs.Grammar.{Reads, repeated};
+ghost use Rattle.jxlm_bits.specs.Bits.{bytes_of, position_of};
+ghost use Rattle.jxlm_bits.specs.ErrorKind.{NoMemory, kind_of};
+ghost use Rattle.jxlm_bits.specs.Grammar.{Reads, repeated};
 ghost use Rattle.jxl_image_header.specs.Reading.{Parses};
 ghost use Rattle.jxl_toc.specs.Reading.{Decodes};
 ghost use Rattle.jxl_toc.specs.Inner.Counts.{AreDigits};
@@ -16,9 +16,9 @@ ghost use Rattle.jxl_toc.specs.declared.toc.TocEntry.{TocEntry as TheEntry};
 
 use crate::order::{lehmer_code, taken_in_turn};
 use jxl_image_header::fields::{self, align};
-use jxlm_base::bits::{Bitstream, BitstreamError, U32Spec};
-use jxlm_base::decoder::Decoder;
-use jxlm_base::error::Result;
+use jxlm_bits::bits::{Bitstream, BitstreamError, U32Spec};
+use jxlm_bits::decoder::Decoder;
+use jxlm_bits::error::Result;
 use std::alloc::Global;
 
 /// Where a section lies.

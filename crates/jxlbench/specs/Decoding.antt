@@ -1,7 +1,7 @@
 -- What is measured: the picture at the start of the bytes.
 use Rattle.std.specs.Prelude.{◌≡◌, ℕ, ℤ, List, None}
 use Rattle.std.specs.Int.{Width}
-use Rattle.jxlm_base.specs.Decoding.{Meaning}
+use Rattle.jxlm_bits.specs.Decoding.{Meaning}
 use Rattle.jxlm_base.specs.Grid.{Grid}
 use Rattle.jxlm_transform.specs.Channels.{ChannelList, image_list}
 use Rattle.jxlm_transform.specs.Params.{of_one_size}

@@ -1,12 +1,12 @@
 -- Errors of headers, of trees and of samples, in words.
 use Rattle.std.specs.Prelude.{ℕ, ◌==◌, List, ◌++◌, if◌then◌else◌, codes}
 use Rattle.std.specs.Fmt.{decimal}
-use Rattle.jxlm_base.specs.declared.bits.BitstreamError.{BitstreamError}
-use Rattle.jxlm_base.specs.declared.bits.BitstreamError.TheVariants as bitstream
-use Rattle.jxlm_base.specs.declared.decoder.DecoderError.{DecoderError}
-use Rattle.jxlm_base.specs.declared.decoder.DecoderError.TheVariants as decoders
-use Rattle.jxlm_base.specs.declared.error.Error.{Error}
-use Rattle.jxlm_base.specs.declared.error.Error.TheVariants as errors
+use Rattle.jxlm_bits.specs.declared.bits.BitstreamError.{BitstreamError}
+use Rattle.jxlm_bits.specs.declared.bits.BitstreamError.TheVariants as bitstream
+use Rattle.jxlm_bits.specs.declared.decoder.DecoderError.{DecoderError}
+use Rattle.jxlm_bits.specs.declared.decoder.DecoderError.TheVariants as decoders
+use Rattle.jxlm_bits.specs.declared.error.Error.{Error}
+use Rattle.jxlm_bits.specs.declared.error.Error.TheVariants as errors
 
 -- why the entropy decoder refuses its input, by the number of the refusal
 unfoldable pub code_text : ℕ → List ℕ

@@ -4,8 +4,8 @@ ghost use Rattle.std.specs.Prelude.{Some};
 ghost use Rattle.jxldec.specs.Causes.{error_text};
 
 use crate::codes::decoder_text;
-use jxlm_base::bits::BitstreamError;
-use jxlm_base::error::Error;
+use jxlm_bits::bits::BitstreamError;
+use jxlm_bits::error::Error;
 use std::fmt;
 
 /// An error of the library, with words for what the entropy decoder refuses.

@@ -3,7 +3,7 @@
 ghost use Rattle.std.specs.Prelude.{◌≡◌};
 ghost use Rattle.jxldec.specs.Causes.{code_text as the_code_text, decoder_text as the_decoder_text};
 
-use jxlm_base::decoder::DecoderError;
+use jxlm_bits::decoder::DecoderError;
 
 // Why the entropy decoder of files refuses its input, by the number of the refusal.
 #[tactic(auto, unfolding(crate::specs::Causes::code_text))]

@@ -1,13 +1,9 @@
-pub mod BitsLemmas
 pub mod Cells
 pub mod Clamping
 pub mod GridLaws
-pub mod GrammarLaws
 pub mod Outside
 pub mod RegionRows
 pub mod Regions
-pub mod Tokens
-pub mod DecodingLaws
 pub mod Wraps
 mod Resized
 mod Parts

@@ -1,11 +1,6 @@
-pub mod Bits
-pub mod Decoding
-pub mod ErrorKind
-pub mod Grammar
 pub mod Grid
 pub mod GridLends
 pub mod GridRows
-pub mod Numbers
 pub mod Outside
 pub mod Regions
 pub mod SqueezedGrids

@@ -7,29 +7,9 @@ ghost use Rattle.jxlm_base.specs.Grid.{Grid, IsFull, cell, row, written, filled,
 
 use crate::sample::Sealed;
 pub use crate::subgrid::{MutableSubgrid, Region};
-use std::alloc::{AllocError, AllocFailed, Global};
+pub use jxlm_bits::error::OutOfMemory;
+use std::alloc::Global;
 use std::marker::Model;
-
-/// Out of memory.
-#[derive(Clone, Copy, PartialEq, Eq, Debug, thiserror::Error)]
-#[error("out of memory")]
-pub struct OutOfMemory;
-
-impl From<AllocError> for OutOfMemory {
-    ghost from_gives = { λ _ e. e ≡ record {} };
-
-    fn from(_error: AllocError) -> OutOfMemory {
-        OutOfMemory
-    }
-}
-
-impl<T: Drop> From<AllocFailed<T>> for OutOfMemory {
-    ghost from_gives = { λ _ e. e ≡ record {} };
-
-    fn from(_error: AllocFailed<T>) -> OutOfMemory {
-        OutOfMemory
-    }
-}
 
 /// So many zeros. Memory is asked for once, and written by pieces, each of which is in the nearest cache.
 fn zeros<S: Sealed>(alloc: Global, count: usize) -> Result<Vec<S>, OutOfMemory>

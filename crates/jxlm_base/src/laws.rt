@@ -3,7 +3,7 @@ ghost use Rattle.std.specs.Prelude.{◌≡◌, ◌↔◌, ℕ, ℤ, ◌+◌, ◌
 ghost use Rattle.std.specs.Int.{Width, w16, w32, int_wrap};
 ghost use Rattle.jxlm_lanes.specs.Colour.{ColourIsLossless, ColourIsOneToOne};
 ghost use Rattle.jxlm_base.specs.Grid.{Grid, IsFull, cell, grid_by};
-ghost use Rattle.jxlm_base.specs.Numbers.{unpack, clamped_gradient};
+ghost use Rattle.jxlm_bits.specs.Numbers.{unpack, clamped_gradient};
 ghost use Rattle.jxlm_base.specs.Regions.{Region, LieApart, WritesChangeOneGrid};
 ghost use Rattle.jxlm_lanes.specs.Squeeze.{SqueezeLosesNothing};
 

@@ -1,11 +1,7 @@
-//! The base of the decoder: bits, errors, samples, grids, entropy decoders.
+//! Samples, grids and their regions, with the kernels of squeeze and colour.
 #![tactic(auto)]
 
-pub mod bit_laws;
-pub mod bits;
 mod colour;
-pub mod decoder;
-pub mod error;
 pub mod grid;
 pub mod laws;
 pub mod region;

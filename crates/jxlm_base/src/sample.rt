@@ -3,7 +3,7 @@ ghost use Rattle.std.specs.Prelude.{◌≡◌, ◌↔◌, ◌⊎◌, ◌+◌, �
 ghost use Rattle.std.specs.Int.{Width, w16, w32, int_wrap};
 ghost use Rattle.jxlm_lanes.specs.Colour.{FinishesRows};
 ghost use Rattle.jxlm_base.specs.Grid.{meanings};
-ghost use Rattle.jxlm_base.specs.Numbers.{unpack, clamped_gradient};
+ghost use Rattle.jxlm_bits.specs.Numbers.{unpack, clamped_gradient};
 ghost use Rattle.jxlm_base.specs.SqueezedGrids.{AreGridSamples, squeezed_rows, squeezed_columns};
 ghost use Rattle.jxlm_base.specs.Subgrid.{whole, KeepsOutside, numbers_in};
 ghost use Rattle.jxlm_base.specs.Inner.SampleLaws.{fits_wider, int_wrap-narrow, int_wrap_again};

@@ -3,7 +3,7 @@ use Rattle.std.proofs.Common.{◌≡◌, ℕ, ◌+◌, ◌-◌, ◌≤◌, ◌<�
 use Rattle.std.specs.List.{list_all}
 use Rattle.std.proofs.lemmas.Bool.{le-ltb}
 use Rattle.std.proofs.lemmas.List.{take-append-le, drop-append-le, length-append, length-map, length-take, length-drop, take_all, drop_all, append-nil, take_more, map-append}
-use Rattle.jxlm_base.specs.ErrorKind.{ErrorKind, BadSqueeze}
+use Rattle.jxlm_bits.specs.ErrorKind.{ErrorKind, BadSqueeze}
 use Rattle.jxlm_base.specs.declared.subgrid.Region.{Region}
 use Rattle.jxlm_transform.specs.Channels.{Channel, ChannelList, HasItsMeta}
 use Rattle.jxlm_transform.specs.Lists.{list_of, layout_of}

@@ -5,7 +5,7 @@ use Rattle.std.specs.List.{AllZip}
 use Rattle.std.specs.Int.{Width}
 use Rattle.std.proofs.lemmas.Bool.{leb-true, and_parts}
 use Rattle.std.proofs.Math.ListN.{length-append, length-take, length-drop, length-map}
-use Rattle.jxlm_base.specs.ErrorKind.{ErrorKind}
+use Rattle.jxlm_bits.specs.ErrorKind.{ErrorKind}
 use Rattle.jxlm_base.specs.Grid.{Grid}
 use Rattle.jxlm_transform.specs.Channels.{Channel, ChannelList, HasSides}
 use Rattle.jxlm_transform.specs.ChannelSteps.{Step, RctStep, PaletteStep, SqueezeStep, range, with_range, has_range, one_size, list_after}

@@ -1,7 +1,7 @@
 -- Channels that go on by steps, one after another.
 use Rattle.std.proofs.Common.{◌≡◌, ℕ, ◌+◌, ◌<◌, List, [], ◌∷◌, ◌++◌, length, map, take, drop, get_or, Result, Ok, refl, sym, ap, ◌∙◌, subst, append_assoc, arith}
 use Rattle.std.proofs.lemmas.List.{append-nil, take_more, drop_more, length-append, length-map}
-use Rattle.jxlm_base.specs.ErrorKind.{ErrorKind}
+use Rattle.jxlm_bits.specs.ErrorKind.{ErrorKind}
 use Rattle.jxlm_transform.specs.Channels.{ChannelList, HasItsMeta}
 use Rattle.jxlm_transform.specs.Lists.{IsAfter, list_of, layout_of}
 use Rattle.jxlm_transform.specs.declared.channels.ModularChannels.{ModularChannels}

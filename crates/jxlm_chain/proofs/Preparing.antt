@@ -5,7 +5,7 @@ use Rattle.std.proofs.lemmas.List.{append-nil, drop_all, drop_more, map-set, map
 use Rattle.std.proofs.lemmas.List.Elements.{All-head, All-tail}
 use lib.ListN.{get_or-map}
 use lib.Seq.{drop-set-lt, map-set_same}
-use Rattle.jxlm_base.specs.ErrorKind.{ErrorKind, UnlessNoMemory, ◌>>=◌}
+use Rattle.jxlm_bits.specs.ErrorKind.{ErrorKind, UnlessNoMemory, ◌>>=◌}
 use Rattle.jxlm_transform.specs.Channels.{ChannelList}
 use Rattle.jxlm_transform.specs.ChannelSteps.{CodedList, Step, coded_list, list_after_all, listed_steps, steps_of}
 use Rattle.jxlm_transform.specs.Transforms.{Transform, HasChannels, transform_of}

@@ -1,7 +1,7 @@
 -- Channels with their places, as a program keeps them, and what applying transforms to them gives.
 use Rattle.std.specs.Prelude.{◌≡◌, ◌+◌, ◌^◌, ◌<◌, List, ◌++◌, length, map, Result, Ok, Err}
-use Rattle.jxlm_base.specs.ErrorKind.{UnlessNoMemory, kind_of}
-use Rattle.jxlm_base.specs.declared.error.Error.{Error}
+use Rattle.jxlm_bits.specs.ErrorKind.{UnlessNoMemory, kind_of}
+use Rattle.jxlm_bits.specs.declared.error.Error.{Error}
 use Rattle.jxlm_base.specs.declared.subgrid.Region.{Region}
 use Rattle.jxlm_transform.specs.Channels.{ChannelList, HasItsMeta}
 use Rattle.jxlm_transform.specs.Lists.{list_of, layout_of}

@@ -3,7 +3,7 @@
 
 ghost use Rattle.std.specs.Prelude.{◌≡◌, ◌≤◌, ◌<◌, ◌^◌, ◌+◌, ◌++◌, ◌∷◌, [], length, map, take, drop, IsTrue, IsFalse, IfOk, IfErr};
 ghost use Rattle.std.specs.List.{list_all};
-ghost use Rattle.jxlm_base.specs.ErrorKind.{NoMemory, kind_of};
+ghost use Rattle.jxlm_bits.specs.ErrorKind.{NoMemory, kind_of};
 ghost use Rattle.jxlm_chain.specs.Inner.Fronts.{AppendsLast, FrontGoesOn, IsFrontOf, is_within as the_is_within, meta_after as the_meta_after, suits_meta as the_suits_meta, layout_with, list_with};
 ghost use Rattle.jxlm_chain.specs.Placed.{GoesOn, IsPlaced};
 ghost use Rattle.jxlm_transform.specs.Lists.{layout_of};
@@ -12,7 +12,7 @@ ghost use Rattle.jxlm_transform.specs.Lists.{list_of};
 ghost use Rattle.jxlm_transform.specs.ChannelSteps.{ListGives, SqueezeStep, list_after, list_after_all};
 
 use crate::placed::PlacedChannels;
-use jxlm_base::error::{Error, Result};
+use jxlm_bits::error::{Error, Result};
 use jxlm_base::grid::OutOfMemory;
 use jxlm_transform::channels::ModularChannels;
 use jxlm_transform::transform::SqueezeParams;

@@ -3,7 +3,7 @@
 
 ghost use Rattle.std.specs.Prelude.{◌≡◌, ◌<◌, ◌≤◌, ◌^◌, [], ◌∷◌, length, map, IfOk, IfErr};
 ghost use Rattle.std.specs.List.{All};
-ghost use Rattle.jxlm_base.specs.ErrorKind.{NoMemory, kind_of};
+ghost use Rattle.jxlm_bits.specs.ErrorKind.{NoMemory, kind_of};
 ghost use Rattle.jxlm_transform.specs.Layout.{first_layout};
 ghost use Rattle.jxlm_chain.specs.Placed.{AreOfKindsOf, GoesOn, IsOfKindOf, IsPlaced, IsPlacedBy, PrepareGives};
 ghost use Rattle.jxlm_transform.specs.Lists.{layout_of};
@@ -17,7 +17,7 @@ ghost use Rattle.jxlm_transform.specs.Transforms.{HasChannels, transform_of};
 use crate::default_squeeze::set_default_params;
 use crate::front::{are_within, reach};
 use crate::undo::{Undoing, undo_colour, undo_palette, undo_squeeze};
-use jxlm_base::error::{Error, Result};
+use jxlm_bits::error::{Error, Result};
 use jxlm_base::grid::Region;
 use jxlm_transform::channels::{ModularChannelInfo, ModularChannels};
 use jxlm_transform::transform::{Palette, Rct, SqueezeParams, TransformInfo};

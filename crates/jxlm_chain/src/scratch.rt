@@ -2,14 +2,14 @@
 
 ghost use Rattle.std.specs.Prelude.{◌≡◌, ◌+◌, ◌^◌, ◌<◌, ◌≤◌, Some, max, IfOk, IfErr, vec_len};
 ghost use Rattle.std.specs.List.{All};
-ghost use Rattle.jxlm_base.specs.ErrorKind.{NoMemory, kind_of};
+ghost use Rattle.jxlm_bits.specs.ErrorKind.{NoMemory, kind_of};
 ghost use Rattle.jxlm_chain.specs.Scratch.{HasRoomFor, IsNarrow, IsNarrowUndo};
 ghost use Rattle.jxlm_chain.specs.Inner.Needs.{AreNarrow, Covers, CoversCells, larger_needs};
 ghost use Rattle.jxlm_chain.specs.Undoings.{SuitsWeights, undo_of_code, undos_of};
 ghost use Rattle.jxlm_predictor.specs.SelfCorrecting.{IsHeader};
 
 use crate::undo::Undoing;
-use jxlm_base::error::Result;
+use jxlm_bits::error::Result;
 use jxlm_base::grid::{OutOfMemory, Region};
 use jxlm_base::sample::Sample;
 use jxlm_transform::rct::RctScratch;

@@ -4,9 +4,9 @@ use Rattle.std.specs.Prelude.{◌↔◌, IsTrue, slice_get}
 use Rattle.std.specs.List.{All}
 use Rattle.std.proofs.lemmas.List.{map_push, take-map, take_more, length-map, take_all}
 use Rattle.std.proofs.lemmas.List.Elements.{All-nil, All-push}
-use Rattle.jxlm_base.specs.ErrorKind.{ErrorKind, NoMemory, OfDecoder, UnlessMemory, UnlessNoMemory, kind_of}
-use Rattle.jxlm_base.specs.declared.error.Error.{Error}
-use Rattle.jxlm_base.specs.declared.decoder.DecoderError.TheVariants as decoder
+use Rattle.jxlm_bits.specs.ErrorKind.{ErrorKind, NoMemory, OfDecoder, UnlessMemory, UnlessNoMemory, kind_of}
+use Rattle.jxlm_bits.specs.declared.error.Error.{Error}
+use Rattle.jxlm_bits.specs.declared.decoder.DecoderError.TheVariants as decoder
 use Rattle.jxlm_transform.specs.Layout.{first_layout}
 use Rattle.jxlm_chain.specs.Placed.{IsPlaced, IsPlacedBy}
 use Rattle.jxlm_chain.specs.declared.placed.PlacedChannels.{PlacedChannels}

@@ -2,7 +2,7 @@
 use Rattle.std.proofs.Common.{◌≡◌, List, [], ◌∷◌, map, Result, Ok, refl, subst}
 use Rattle.std.specs.List.{All}
 use Rattle.std.proofs.lemmas.List.Elements.{All-nil, All-cons, All-head, All-tail, All-append}
-use Rattle.jxlm_base.specs.ErrorKind.{ErrorKind}
+use Rattle.jxlm_bits.specs.ErrorKind.{ErrorKind}
 use Rattle.jxlm_transform.specs.Channels.{ChannelList}
 use Rattle.jxlm_transform.specs.ChannelSteps.{CodedList, Step, RctStep, PaletteStep, SqueezeStep, coded_list, list_after_all, steps_of, steps_of_squeeze}
 use Rattle.jxlm_transform.specs.Steps.{HasChannels, tables_of}

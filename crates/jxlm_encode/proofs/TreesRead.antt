@@ -1,10 +1,10 @@
 -- The tree that nodes list, read where it was written.
 use Rattle.std.proofs.Common.{◌≡◌, ◌⊎◌, inl, inr, ℕ, ◌+◌, ◌^◌, ◌<◌, ◌≤◌, max, List, [], ◌++◌, length, map, Result, Ok, Err, IfOk, sym, ap, ◌∙◌, subst, append_assoc, arith}
 use Rattle.std.specs.List.{All}
-use Rattle.jxlm_base.specs.Decoding.{Taken}
-use Rattle.jxlm_base.specs.ErrorKind.{ErrorAt, kind_of}
-use Rattle.jxlm_base.specs.Grammar.{IsErrorAt}
-use Rattle.jxlm_base.specs.declared.error.Error.{Error}
+use Rattle.jxlm_bits.specs.Decoding.{Taken}
+use Rattle.jxlm_bits.specs.ErrorKind.{ErrorAt, kind_of}
+use Rattle.jxlm_bits.specs.Grammar.{IsErrorAt}
+use Rattle.jxlm_bits.specs.declared.error.Error.{Error}
 use Rattle.jxlm_header.specs.Opening.{depth_limit}
 use Rattle.jxlm_tree.specs.Tree.{Config, Node, Shape, config_of, depth, levels}
 use Rattle.jxlm_tree.specs.TreeReading.{IsTooDeep, IsTreeAt, TreeGives, listing_at}

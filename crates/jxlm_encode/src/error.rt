@@ -1,12 +1,12 @@
 //! Why an image is not encoded.
 
 ghost use Rattle.std.specs.Prelude.{◌≡◌, ◌⊎◌};
-ghost use Rattle.jxlm_base.specs.ErrorKind.{kind_of};
+ghost use Rattle.jxlm_bits.specs.ErrorKind.{kind_of};
 ghost use Rattle.jxlm_encode.specs.Inner.Errors.{IsNotMemory};
 ghost use Rattle.jxlm_encode.specs.declared.error.EncodeError.TheVariants.{OutOfMemory as Memory};
 
-use jxlm_base::decoder::DecoderError;
-use jxlm_base::error::Error;
+use jxlm_bits::decoder::DecoderError;
+use jxlm_bits::error::Error;
 use jxlm_base::grid::OutOfMemory;
 use std::alloc::{AllocError, AllocFailed};
 

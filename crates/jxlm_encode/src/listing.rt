@@ -8,7 +8,7 @@ ghost use Rattle.jxlm_encode.specs.Encoded.{IsTreeGiven};
 ghost use Rattle.jxlm_encode.specs.Inner.Listing.{IsNotGiven, IsNotRead, IsTreeRead, ListsOneTree, left_after};
 
 use crate::error::{EncodeError, unless_memory};
-use jxlm_base::bits::Bitstream;
+use jxlm_bits::bits::Bitstream;
 use jxlm_header::opening::{DEPTH_LIMIT, node_limit};
 use jxlm_tree::ma::{MaConfig, MaConfigParams, each_tree_is_read_exactly};
 use jxlm_plain::plain::PlainDecoder;

@@ -1,12 +1,12 @@
 -- Where an image is encoded there stands no other picture, and it is not refused.
 use Rattle.std.proofs.Common.{◌≡◌, ◌⊎◌, inl, inr, ℕ, ℤ, List, take, None, Result, Ok, Err, sym, ap, ◌∙◌, subst, arith}
 use Rattle.std.specs.Int.{Width}
-use Rattle.jxlm_base.specs.Decoding.{Found, Meaning, Taken}
-use Rattle.jxlm_base.specs.ErrorKind.{ErrorKind, ErrorAt, NoMemory, OfDecoder, UnlessMemory}
-use Rattle.jxlm_base.specs.declared.decoder.DecoderError.TheVariants as decoder
-use Rattle.jxlm_base.specs.Grammar.{IsErrorAt}
+use Rattle.jxlm_bits.specs.Decoding.{Found, Meaning, Taken}
+use Rattle.jxlm_bits.specs.ErrorKind.{ErrorKind, ErrorAt, NoMemory, OfDecoder, UnlessMemory}
+use Rattle.jxlm_bits.specs.declared.decoder.DecoderError.TheVariants as decoder
+use Rattle.jxlm_bits.specs.Grammar.{IsErrorAt}
 use Rattle.jxlm_base.specs.Grid.{Grid}
-use Rattle.jxlm_base.specs.declared.decoder.DecoderError.{DecoderError}
+use Rattle.jxlm_bits.specs.declared.decoder.DecoderError.{DecoderError}
 use Rattle.jxlm_header.specs.Opening.{Opening}
 use Rattle.jxlm_tree.specs.Tree.{Config, Node, depth, levels}
 use Rattle.jxlm_tree.specs.declared.flat.Leaf.{Leaf}

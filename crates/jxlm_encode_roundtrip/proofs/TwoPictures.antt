@@ -3,10 +3,10 @@ use Rattle.std.proofs.Common.{◌≡◌, inl, inr, ℕ, ◌*◌, ℤ, List, [], 
 use Rattle.std.specs.Prelude.{MatchBool, is_some}
 use Rattle.std.specs.Int.{Width}
 use Rattle.std.proofs.lemmas.List.{take_all}
-use Rattle.jxlm_base.specs.Decoding.{Found, Meaning, Taken}
-use Rattle.jxlm_base.specs.ErrorKind.{ErrorAt, ErrorKind}
+use Rattle.jxlm_bits.specs.Decoding.{Found, Meaning, Taken}
+use Rattle.jxlm_bits.specs.ErrorKind.{ErrorAt, ErrorKind}
 use Rattle.jxlm_base.specs.Grid.{Grid}
-use Rattle.jxlm_base.specs.declared.decoder.DecoderError.{DecoderError}
+use Rattle.jxlm_bits.specs.declared.decoder.DecoderError.{DecoderError}
 use Rattle.jxlm_chain.specs.Chain.{Chain}
 use Rattle.jxlm_header.specs.Header.{Header}
 use Rattle.jxlm_header.specs.Opening.{Opening, conditions, depth_limit, node_limit, resolved}

@@ -1,7 +1,7 @@
 -- What is encoded is a picture, and at one bit there are no two.
 use Rattle.std.specs.Prelude.{◌≡◌, ℕ, ℤ, List, Option, None}
 use Rattle.std.specs.Int.{Width}
-use Rattle.jxlm_base.specs.Decoding.{Meaning}
+use Rattle.jxlm_bits.specs.Decoding.{Meaning}
 use Rattle.jxlm_base.specs.Grid.{Grid}
 use Rattle.jxlm_tree.specs.Tree.{Config}
 use Rattle.jxlm_plain.specs.Plain.{plain, plain2}

@@ -1,8 +1,8 @@
 -- What comes back of an image that was encoded, and why nothing does.
 use Rattle.std.specs.Prelude.{ℕ, ℤ, List, None}
 use Rattle.std.specs.Int.{Width}
-use Rattle.jxlm_base.specs.Decoding.{Meaning}
-use Rattle.jxlm_base.specs.ErrorKind.{kind_of}
+use Rattle.jxlm_bits.specs.Decoding.{Meaning}
+use Rattle.jxlm_bits.specs.ErrorKind.{kind_of}
 use Rattle.jxlm_base.specs.Grid.{Grid}
 use Rattle.jxlm_tree.specs.TreeReading.{IsOutOfMemory}
 use Rattle.jxlm_transform.specs.Transforms.{Transform}

@@ -2,7 +2,7 @@
 
 ghost use Rattle.jxlm_encode_roundtrip.specs.Pictures.{Encoded2IsPicture, EncodedIsPicture, PicturesAreOne};
 
-use jxlm_base::decoder::Decoder;
+use jxlm_bits::decoder::Decoder;
 use jxlm_tree::ma::each_tree_is_read_exactly;
 use jxlm_plain::plain::PlainDecoder;
 use jxlm_plain::plain2::PlainDecoder2;

@@ -2,7 +2,7 @@
 
 ghost use Rattle.std.specs.Prelude.{◌≡◌, ◌≢◌, ◌≤◌, ◌^◌, [], IfOk, IfErr, None, length, map};
 ghost use Rattle.std.specs.List.{All};
-ghost use Rattle.jxlm_base.specs.ErrorKind.{kind_of};
+ghost use Rattle.jxlm_bits.specs.ErrorKind.{kind_of};
 ghost use Rattle.jxlm_base.specs.Regions.{store_meanings};
 ghost use Rattle.jxlm_transform.specs.Channels.{image_list};
 ghost use Rattle.jxlm_transform.specs.Params.{IsGroupDim, IsValidChannel, params_of as given_params};
@@ -14,9 +14,9 @@ ghost use Rattle.jxlm_encode_roundtrip.specs.Inner.Decoded.{IsDecoded, IsNotDeco
 ghost use Rattle.jxlm_encode_roundtrip.specs.RoundTrip.{IsReadBack, RoundTripFails};
 
 use jxl_modular::decode_picture;
-use jxlm_base::bits::Bitstream;
-use jxlm_base::decoder::Decoder;
-use jxlm_base::error::Error;
+use jxlm_bits::bits::Bitstream;
+use jxlm_bits::decoder::Decoder;
+use jxlm_bits::error::Error;
 use jxlm_base::grid::{AlignedGrid, OutOfMemory};
 use jxlm_base::sample::Sample;
 use jxlm_encode::encode::{EncodeError, EncodeNode, EncodeTransform, encode, encode2};

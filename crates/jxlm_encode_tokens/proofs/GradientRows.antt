@@ -3,7 +3,7 @@ use Rattle.std.proofs.Common.{◌≡◌, ℕ, suc, ◌+◌, List, map, get_or, s
 use Rattle.std.specs.Int.{w32, int_wrap}
 use Rattle.std.proofs.Math.ListN.{get_or-map}
 use Rattle.std.proofs.lemmas.Int.{int_wrap_fits}
-use Rattle.jxlm_base.specs.Numbers.{clamped_gradient}
+use Rattle.jxlm_bits.specs.Numbers.{clamped_gradient}
 use Rattle.jxlm_encode_tokens.specs.Inner.Neighbours.{gradient_in, north_in, north_west_in, west_in}
 
 -- a sample of the row above, or another in the first row

@@ -5,7 +5,7 @@ use Rattle.std.specs.Int.{Width}
 use Rattle.std.proofs.lemmas.List.Elements.{All-head, All-tail}
 use Rattle.std.proofs.lemmas.List.{length-append}
 use Rattle.std.proofs.lemmas.Option.{slice_get-get_or}
-use Rattle.jxlm_base.specs.Decoding.{Meaning}
+use Rattle.jxlm_bits.specs.Decoding.{Meaning}
 use Rattle.jxlm_plain.specs.Plain.{plain, plain2, plain_begin}
 use Rattle.jxlm_samples.specs.Coded.{part_rule}
 use Rattle.jxlm_samples.specs.Part.{Part, max_width, cells_of}

@@ -1,7 +1,7 @@
 -- The tokens of samples, as an encoder writes them (ISO/IEC 18181-1, Modular: decoding of samples).
 use Rattle.std.specs.Prelude.{◌≡◌, ℕ, ◌%◌, ◌<◌, ℤ, pos, List, length, take, get_or, FitsSigned}
 use Rattle.std.specs.Int.{Width}
-use Rattle.jxlm_base.specs.Numbers.{unpack}
+use Rattle.jxlm_bits.specs.Numbers.{unpack}
 use Rattle.jxlm_tree.specs.declared.flat.Leaf.{Leaf}
 use Rattle.jxlm_samples.specs.Coded.{next_prediction, sample_of}
 use Rattle.jxlm_samples.specs.Part.{Part, next_leaf}

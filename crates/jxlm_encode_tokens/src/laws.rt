@@ -2,7 +2,7 @@
 
 ghost use Rattle.jxlm_encode_tokens.specs.Laws.{EachHasOneToken, EachPartHasOneList, ReadIsCoded, WrittenIsCoded, GammaWrittenIsCoded};
 
-use jxlm_base::decoder::Decoder;
+use jxlm_bits::decoder::Decoder;
 
 /// At a leaf whose multiplier is 1 each sample has one token whose signed number is one of the sample's width.
 pub fn each_sample_has_one_token()

@@ -16,8 +16,8 @@ ghost use Rattle.jxlm_encode_tokens.specs.Inner.Walks.{AreFirstTokens, AreRowTok
 use crate::leaf::{gradient_row, zero_row};
 use crate::rows::walked_row;
 use crate::start::start_channel;
-use jxlm_base::decoder::Decoder;
-use jxlm_base::error::Result;
+use jxlm_bits::decoder::Decoder;
+use jxlm_bits::error::Result;
 use jxlm_base::grid::{AlignedGrid, OutOfMemory};
 use jxlm_base::region::region_row;
 use jxlm_base::sample::Sample;

@@ -15,7 +15,7 @@ ghost use Rattle.jxlm_encode_tokens.specs.Tokens.{MultipliesByOne};
 ghost use Rattle.jxlm_encode_tokens.specs.Inner.Walks.{AreInner, AreRowTokens, HasRow, IsInChannel, IsNextToken};
 
 use crate::token::sample_token;
-use jxlm_base::decoder::Decoder;
+use jxlm_bits::decoder::Decoder;
 use jxlm_base::grid::AlignedGrid;
 use jxlm_base::region::region_row;
 use jxlm_base::sample::{Sample, Sealed};

@@ -7,7 +7,7 @@ ghost use Rattle.jxlm_predictor.specs.Standing.{Setting, StandsAt, earlier_count
 ghost use Rattle.jxlm_samples.specs.Reading.{IsCodingOf, regions_of};
 ghost use Rattle.jxlm_encode_tokens.specs.Inner.Channels.{HasRoom, IsAfterChannel, StandsAfter, all_alike, region_at};
 
-use jxlm_base::decoder::Decoder;
+use jxlm_bits::decoder::Decoder;
 use jxlm_base::sample::{Sample, Sealed};
 use jxlm_samples::coding::PartCoding;
 use jxlm_transform::channels::ModularChannelInfo;

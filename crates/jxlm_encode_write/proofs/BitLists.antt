@@ -5,7 +5,7 @@ use Rattle.std.proofs.lemmas.Grind.{flat_map-append, one_shifted, replicate_next
 use Rattle.std.proofs.lemmas.Nat.{pow_pos, mod-pow-add}
 use Rattle.std.proofs.lemmas.Bool.{cases_lt}
 use Rattle.std.proofs.Math.Nat.{pow-suc, pow-le-pow_right, add-mul-div_right, add-mul-mod_self_right, mul_assoc, mul_comm, div-eq_of_lt, mod-eq_of_lt, zero-add}
-use Rattle.jxlm_base.specs.Bits.{bit_at, bits_at}
+use Rattle.jxlm_bits.specs.Bits.{bit_at, bits_at}
 use Rattle.jxlm_encode_write.specs.Written.{digits, bits_of, AreFilled, HasBits}
 
 pub length-digits : (n v : ℕ) → length (digits n v) ≡ n

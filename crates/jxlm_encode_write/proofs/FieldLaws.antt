@@ -4,9 +4,9 @@ use Rattle.std.specs.Prelude.{nat_lt, nat_le, ◌||◌, if◌then◌else◌}
 use Rattle.std.proofs.lemmas.Bool.{false≢true, ltb-true, leb-true, eqb-true, and_parts}
 use Rattle.std.proofs.lemmas.List.{length-append}
 use Rattle.std.proofs.Math.Nat.{mod-eq_of_lt}
-use Rattle.jxlm_base.specs.Grammar.{Grammar, number, part, flag, u32}
-use Rattle.jxlm_base.specs.declared.bits.U32Spec.{U32Spec}
-use Rattle.jxlm_base.specs.declared.bits.U32Spec.TheVariants.{Const, Offset}
+use Rattle.jxlm_bits.specs.Grammar.{Grammar, number, part, flag, u32}
+use Rattle.jxlm_bits.specs.declared.bits.U32Spec.{U32Spec}
+use Rattle.jxlm_bits.specs.declared.bits.U32Spec.TheVariants.{Const, Offset}
 use Rattle.jxlm_encode_write.specs.Written.{digits, HasBits}
 use Rattle.jxlm_encode_write.specs.Fields.{holds, part_bits, is_spelled, u32_bits}
 use Rattle.jxlm_encode_write.proofs.BitLists.{length-digits, number_stands, has_first, has_rest, has_moved}

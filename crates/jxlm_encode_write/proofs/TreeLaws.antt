@@ -4,8 +4,8 @@ use Rattle.std.specs.Prelude.{slice_get, slice_index}
 use Rattle.std.specs.List.{All, flat_map}
 use Rattle.std.proofs.lemmas.List.{length-append}
 use Rattle.std.proofs.lemmas.Grind.{flat_map-append}
-use Rattle.jxlm_base.specs.Decoding.{Found, Meaning}
-use Rattle.jxlm_base.specs.Numbers.{unpack}
+use Rattle.jxlm_bits.specs.Decoding.{Found, Meaning}
+use Rattle.jxlm_bits.specs.Numbers.{unpack}
 use Rattle.jxlm_plain.specs.Plain.{plain, plain2}
 use Rattle.jxlm_tree.specs.Tree.{Shape, levels, depth, node_count, config_of}
 use Rattle.jxlm_tree.specs.TreeStands.{TokenStands, NodeStands, NodesStand, TreeStands, leaf_clusters}

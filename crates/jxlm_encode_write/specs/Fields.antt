@@ -1,7 +1,7 @@
 -- Fields of headers as bits: each in one of its spellings (ISO/IEC 18181-1, field types).
 use Rattle.std.specs.Prelude.{ℕ, ◌-◌, ◌^◌, List, ◌++◌, Bool, nat_lt, nat_le, ◌==◌, ◌&&◌, ◌||◌, if◌then◌else◌}
-use Rattle.jxlm_base.specs.declared.bits.U32Spec.{U32Spec}
-use Rattle.jxlm_base.specs.declared.bits.U32Spec.TheVariants.{Const, Offset}
+use Rattle.jxlm_bits.specs.declared.bits.U32Spec.{U32Spec}
+use Rattle.jxlm_bits.specs.declared.bits.U32Spec.TheVariants.{Const, Offset}
 use Rattle.jxlm_encode_write.specs.Written.{digits}
 
 -- a part of a U32 has this value

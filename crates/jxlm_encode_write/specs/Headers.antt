@@ -1,7 +1,7 @@
 -- Headers as bits: each field in the first of its spellings (ISO/IEC 18181-1, Modular: Modular header, TransformInfo).
 use Rattle.std.specs.Prelude.{ℕ, List, [], ◌++◌, length, map, Bool, if◌then◌else◌}
 use Rattle.std.specs.List.{flat_map}
-use Rattle.jxlm_base.specs.declared.bits.U32Spec.TheVariants.{Const, Offset}
+use Rattle.jxlm_bits.specs.declared.bits.U32Spec.TheVariants.{Const, Offset}
 use Rattle.jxlm_transform.specs.Transforms.{Transform, OfRct, OfPalette, OfSqueeze}
 use Rattle.jxlm_transform.specs.declared.transform.Rct.{Rct}
 use Rattle.jxlm_transform.specs.declared.transform.SqueezeParams.{SqueezeParams}

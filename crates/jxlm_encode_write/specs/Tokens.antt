@@ -1,7 +1,7 @@
 -- Plain decoders of one cluster and their tokens, as bits.
 use Rattle.std.specs.Prelude.{ℕ, ◌+◌, ◌-◌, ◌^◌, List, [], ◌∷◌, ◌++◌, replicate}
 use Rattle.std.specs.List.{flat_map}
-use Rattle.jxlm_base.specs.Numbers.{floor_log2}
+use Rattle.jxlm_bits.specs.Numbers.{floor_log2}
 use Rattle.jxlm_plain.specs.Plain.{PlainState}
 use Rattle.jxlm_plain.specs.declared.plain.Code.TheVariants.{Fixed, Gamma}
 use Rattle.jxlm_plain.specs.declared.plain.Mode.TheVariants.{Unsealed}

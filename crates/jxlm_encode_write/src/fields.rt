@@ -1,12 +1,12 @@
 //! Fields of headers, written (ISO/IEC 18181-1, field types).
 
 ghost use Rattle.std.specs.Prelude.{◌≡◌, ◌<◌, ◌≤◌, ◌++◌, true, IfOk, if◌then◌else◌};
-ghost use Rattle.jxlm_base.specs.Grammar.{FitsU32};
+ghost use Rattle.jxlm_bits.specs.Grammar.{FitsU32};
 ghost use Rattle.jxlm_encode_write.specs.Written.{digits};
 ghost use Rattle.jxlm_encode_write.specs.Fields.{holds as is_held, part_bits, is_spelled, u32_bits};
 
 use crate::writer::BitWriter;
-use jxlm_base::bits::U32Spec;
+use jxlm_bits::bits::U32Spec;
 use std::alloc::AllocError;
 
 /// Whether a part of a `U32` field has this value.

@@ -7,7 +7,7 @@ ghost use Rattle.jxlm_encode_write.specs.Headers.{params_of, transform_of, begin
 ghost use Rattle.jxlm_encode_write.specs.Headers.{params_bits, squeeze_bits, transform_bits, header_bits};
 
 use crate::writer::BitWriter;
-use jxlm_base::bits::U32Spec;
+use jxlm_bits::bits::U32Spec;
 use std::alloc::AllocError;
 
 /// One squeeze step of some channels.

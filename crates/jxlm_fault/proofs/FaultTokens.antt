@@ -1,10 +1,10 @@
 -- What the tokens of a decoder with an error are.
 use Rattle.std.proofs.Common.{◌≡◌, ℕ, zero, suc, ◌+◌, ◌<◌, ◌≤◌, ◌⊎◌, List, [], ◌∷◌, length, take, min, Bool, true, false, nat_lt, ◌==◌, ◌&&◌, Result, Ok, Err, MatchResult, refl, sym, ap, arith, ◌∙◌}
 use Rattle.std.proofs.lemmas.Bool.Decides.{nat_tests}
-use Rattle.jxlm_base.specs.Decoding.{Taken, Asked, reads}
-use Rattle.jxlm_base.specs.ErrorKind.{◌>>=◌}
-use Rattle.jxlm_base.specs.declared.decoder.DecoderError.{DecoderError}
-use Rattle.jxlm_base.specs.declared.decoder.DecoderError.TheVariants.{Invalid}
+use Rattle.jxlm_bits.specs.Decoding.{Taken, Asked, reads}
+use Rattle.jxlm_bits.specs.ErrorKind.{◌>>=◌}
+use Rattle.jxlm_bits.specs.declared.decoder.DecoderError.{DecoderError}
+use Rattle.jxlm_bits.specs.declared.decoder.DecoderError.TheVariants.{Invalid}
 use Rattle.jxlm_plain.specs.Plain.{PlainState, plain_read, plain}
 use Rattle.jxlm_fault.specs.Fault.{FaultState, fault_read, fault_begin, fault_finalize, is_due, one_more, faulty}
 use Rattle.jxlm_fault.specs.FaultTokens.{TokensBeforeTheError, ErrorAtItsRead, ErrorAtItsEnd}

@@ -1,9 +1,9 @@
 -- A decoder that has an error where its input says so: a number in front of a plain decoder tells at which call.
 use Rattle.std.specs.Prelude.{ℕ, ◌+◌, List, Bool, false, if◌then◌else◌, nat_lt, ◌==◌, ◌&&◌, None, Result, Ok, Err}
-use Rattle.jxlm_base.specs.Decoding.{Found, Taken, Meaning}
-use Rattle.jxlm_base.specs.ErrorKind.{◌>>=◌}
-use Rattle.jxlm_base.specs.declared.decoder.DecoderError.{DecoderError}
-use Rattle.jxlm_base.specs.declared.decoder.DecoderError.TheVariants.{Invalid}
+use Rattle.jxlm_bits.specs.Decoding.{Found, Taken, Meaning}
+use Rattle.jxlm_bits.specs.ErrorKind.{◌>>=◌}
+use Rattle.jxlm_bits.specs.declared.decoder.DecoderError.{DecoderError}
+use Rattle.jxlm_bits.specs.declared.decoder.DecoderError.TheVariants.{Invalid}
 use Rattle.jxlm_plain.specs.Plain.{PlainState, number_at, plain_parse, plain_begin, plain_read, plain_finalize}
 
 -- where the error is; how many tokens were read since begin, where 4 stands for 4 and more; the plain decoder

@@ -1,7 +1,7 @@
 -- What the tokens of a decoder with an error are, without its steps.
 use Rattle.std.specs.Prelude.{◌≡◌, ℕ, ◌+◌, ◌<◌, ◌≤◌, ◌⊎◌, List, length, take, min, Result, Ok, Err, MatchResult}
-use Rattle.jxlm_base.specs.Decoding.{Taken, Asked, reads}
-use Rattle.jxlm_base.specs.declared.decoder.DecoderError.TheVariants.{Invalid}
+use Rattle.jxlm_bits.specs.Decoding.{Taken, Asked, reads}
+use Rattle.jxlm_bits.specs.declared.decoder.DecoderError.TheVariants.{Invalid}
 use Rattle.jxlm_plain.specs.Plain.{PlainState, plain}
 use Rattle.jxlm_fault.specs.Fault.{FaultState, faulty}
 

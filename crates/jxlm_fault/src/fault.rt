@@ -1,14 +1,14 @@
 //! A decoder that has an error where its input says so: what stands after an error is tested by it.
 
 ghost use Rattle.std.specs.Prelude.{◌≡◌, ℕ, ◌≤◌, List, Contains};
-ghost use Rattle.jxlm_base.specs.Bits.{bytes_of, position_of};
-ghost use Rattle.jxlm_base.specs.Decoding.{Gives, RunGives};
+ghost use Rattle.jxlm_bits.specs.Bits.{bytes_of, position_of};
+ghost use Rattle.jxlm_bits.specs.Decoding.{Gives, RunGives};
 ghost use Rattle.jxlm_plain.specs.Plain.{number_at};
 ghost use Rattle.jxlm_fault.specs.Fault.{FaultState, fault_parse, one_more, faulty};
 ghost use Rattle.jxlm_fault.specs.FaultTokens.{TokensBeforeTheError, ErrorAtItsRead, ErrorAtItsEnd};
 
-use jxlm_base::bits::Bitstream;
-use jxlm_base::decoder::{Decoder, DecoderError, RleToken};
+use jxlm_bits::bits::Bitstream;
+use jxlm_bits::decoder::{Decoder, DecoderError, RleToken};
 use jxlm_plain::plain::PlainDecoder;
 use std::alloc::Global;
 use std::marker::Model;

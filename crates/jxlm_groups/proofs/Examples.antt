@@ -1,6 +1,6 @@
 -- The parts of small images.
 use Rattle.std.proofs.Common.{◌≡◌, ℕ, List, [], ◌∷◌, map, true, false, ℤ, pos, Ok, Result, refl}
-use Rattle.jxlm_base.specs.ErrorKind.{ErrorKind, ◌>>=◌}
+use Rattle.jxlm_bits.specs.ErrorKind.{ErrorKind, ◌>>=◌}
 use Rattle.jxlm_transform.specs.Channels.{Channel, ChannelList, image_list}
 use Rattle.jxlm_transform.specs.ChannelSteps.{CodedList, coded_list}
 use Rattle.jxlm_transform.specs.Params.{sized}

@@ -3,7 +3,7 @@ use Rattle.std.proofs.Common.{◌≡◌, ℕ, zero, suc, ◌+◌, ◌-◌, ◌<�
 use Rattle.std.specs.List.{All}
 use Rattle.std.proofs.lemmas.Bool.{cases_lt, ltb-false}
 use Rattle.std.proofs.lemmas.List.{get_or-take, get_or-drop, length-take, length-drop, length-append, length-map, get_or_append_left, get_or-append_right}
-use Rattle.jxlm_base.specs.ErrorKind.{BadRct, BadPalette, BadSqueeze}
+use Rattle.jxlm_bits.specs.ErrorKind.{BadRct, BadPalette, BadSqueeze}
 use Rattle.jxlm_transform.specs.Channels.{Channel, ChannelList}
 use Rattle.jxlm_transform.specs.ChannelSteps.{Step, RctStep, PaletteStep, SqueezeStep, average_channel, has_range, keeps_meta, list_after, list_after_all, one_size, range, residual_channel, table_channel}
 use Rattle.jxlm_transform.specs.declared.transform.Palette.{Palette}

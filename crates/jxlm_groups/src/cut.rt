@@ -1,7 +1,7 @@
 //! How each coded channel is cut (ISO/IEC 18181-1, frame: groups, LF groups and passes), and how many groups there are.
 
 ghost use Rattle.std.specs.Prelude.{◌≡◌, ◌<◌, get_or, length, ◌*◌, ◌/◌, ◌^◌, IsTrue, IsFalse, IfOk, IfErr, unsigned_abs};
-ghost use Rattle.jxlm_base.specs.ErrorKind.{BadSqueeze, kind_of as error_kind};
+ghost use Rattle.jxlm_bits.specs.ErrorKind.{BadSqueeze, kind_of as error_kind};
 ghost use Rattle.jxlm_transform.specs.Params.{IsGroupDim};
 ghost use Rattle.jxlm_transform.specs.Channels.{Channel, infos};
 ghost use Rattle.jxlm_transform.specs.Lists.{list_of};
@@ -10,7 +10,7 @@ ghost use Rattle.jxlm_groups.specs.Counts.{exists as the_existing, group_count a
 
 use crate::part::{Kind, SectionPart};
 use crate::pass::{Pass, pass_with};
-use jxlm_base::error::{Error, Result};
+use jxlm_bits::error::{Error, Result};
 use jxlm_transform::channels::{ModularChannelInfo, ModularChannels};
 
 /// How many channels there are.

@@ -1,10 +1,10 @@
 -- The laws of the fields that come before an image's tree.
 use Rattle.std.proofs.Common.{◌≡◌, ℕ, List, Bool, Ok, refl, ap, ◌∙◌}
-use Rattle.jxlm_base.specs.ErrorKind as reading
-use Rattle.jxlm_base.specs.ErrorKind.{ErrorKind, UnlessNoMemory}
-use Rattle.jxlm_base.specs.Grammar.{Grammar, IsExact, IsErrorAt, flag, repeated, u32, ◌>>=◌}
-use Rattle.jxlm_base.specs.declared.bits.U32Spec.TheVariants.{Const, Offset}
-use Rattle.jxlm_base.proofs.GrammarLaws.{exact-give, exact-bind, exact-repeated, exact-flag, exact-u32}
+use Rattle.jxlm_bits.specs.ErrorKind as reading
+use Rattle.jxlm_bits.specs.ErrorKind.{ErrorKind, UnlessNoMemory}
+use Rattle.jxlm_bits.specs.Grammar.{Grammar, IsExact, IsErrorAt, flag, repeated, u32, ◌>>=◌}
+use Rattle.jxlm_bits.specs.declared.bits.U32Spec.TheVariants.{Const, Offset}
+use Rattle.jxlm_bits.proofs.GrammarLaws.{exact-give, exact-bind, exact-repeated, exact-flag, exact-u32}
 use Rattle.jxlm_transform.specs.Channels.{ChannelList, tables_for}
 use Rattle.jxlm_transform.specs.Transforms.{transform_by}
 use Rattle.jxlm_transform.specs.declared.param.PaletteTables.{PaletteTables}

@@ -1,6 +1,6 @@
 -- Computed examples: errors before a tree, from bits.
 use Rattle.std.specs.Prelude.{◌≡◌, ℕ, List, [], ◌∷◌, replicate, Some, Err, Ok, refl, false, true, codes}
-use Rattle.jxlm_base.specs.ErrorKind.{BadEnum, BadRct, BadSqueeze, NoGlobalTree, Eof}
+use Rattle.jxlm_bits.specs.ErrorKind.{BadEnum, BadRct, BadSqueeze, NoGlobalTree, Eof}
 use Rattle.jxlm_transform.specs.Channels.{image_list}
 use Rattle.jxlm_transform.specs.Params.{sized}
 use Rattle.jxlm_transform.specs.declared.param.ChannelShift.TheVariants.{Shifts}

@@ -2,8 +2,8 @@
 use Rattle.std.proofs.Common.{◌≡◌, ℕ, ◌≤◌, Bool, true, false, List, length, Some, Result, Ok, Err, refl, sym, ap, ◌∙◌}
 use Rattle.std.specs.Prelude.{codes, nat_lt, not, ◌&&◌, if◌then◌else◌}
 use Rattle.std.proofs.lemmas.Bool.{ltb-false}
-use Rattle.jxlm_base.specs.ErrorKind.{ErrorKind, BadProfile, NoGlobalTree, UnlessNoMemory}
-use Rattle.jxlm_base.specs.Grammar.{IsErrorAt}
+use Rattle.jxlm_bits.specs.ErrorKind.{ErrorKind, BadProfile, NoGlobalTree, UnlessNoMemory}
+use Rattle.jxlm_bits.specs.Grammar.{IsErrorAt}
 use Rattle.jxlm_transform.specs.Channels.{ChannelList, tables_for}
 use Rattle.jxlm_transform.specs.ChannelSteps.{CodedList, coded_list}
 use Rattle.jxlm_transform.specs.Transforms.{Transform, OfRct, OfPalette, OfSqueeze, HasChannels, IsTransform, checked}

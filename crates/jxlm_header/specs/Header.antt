@@ -1,8 +1,8 @@
 -- The header of an image (ISO/IEC 18181-1, Modular: Modular header).
 use Rattle.std.specs.Prelude.{List, map, Bool}
 use Rattle.std.specs.List.{All}
-use Rattle.jxlm_base.specs.Grammar.{Grammar, flag, u32, give, repeated, ◌>>=◌}
-use Rattle.jxlm_base.specs.declared.bits.U32Spec.TheVariants.{Const, Offset}
+use Rattle.jxlm_bits.specs.Grammar.{Grammar, flag, u32, give, repeated, ◌>>=◌}
+use Rattle.jxlm_bits.specs.declared.bits.U32Spec.TheVariants.{Const, Offset}
 use Rattle.jxlm_transform.specs.Transforms.{Transform, IsTransform, KeepsWeights, transform_by, transform_of}
 use Rattle.jxlm_transform.specs.declared.param.PaletteTables.{PaletteTables}
 use Rattle.jxlm_transform.specs.declared.param.PaletteTables.TheVariants.{OfColours}

@@ -1,10 +1,10 @@
 -- What comes before an image's tree, and the order of its checks (ISO/IEC 18181-1, Modular: header and conditions).
 use Rattle.std.specs.Prelude.{◌≡◌, ◌+◌, ◌^◌, nat_lt, min, sum_by, List, length, codes, Bool, ℕ, not, ◌&&◌, if◌then◌else◌, Result, Ok, Err}
 use Rattle.std.specs.List.{list_any}
-use Rattle.jxlm_base.specs.ErrorKind.{ErrorKind, BadProfile, NoGlobalTree, kind_of, ◌>>=◌}
-use Rattle.jxlm_base.specs.Grammar.{Grammar, IsExact}
-use Rattle.jxlm_base.specs.Grammar as fields
-use Rattle.jxlm_base.specs.declared.error.Error.{Error}
+use Rattle.jxlm_bits.specs.ErrorKind.{ErrorKind, BadProfile, NoGlobalTree, kind_of, ◌>>=◌}
+use Rattle.jxlm_bits.specs.Grammar.{Grammar, IsExact}
+use Rattle.jxlm_bits.specs.Grammar as fields
+use Rattle.jxlm_bits.specs.declared.error.Error.{Error}
 use Rattle.jxlm_predictor.specs.declared.predictor.WpHeader.{WpHeader}
 use Rattle.jxlm_transform.specs.Channels.{Channel, ChannelList, area, tables_for}
 use Rattle.jxlm_transform.specs.ChannelSteps.{CodedList, coded_list}

@@ -7,8 +7,8 @@ ghost use Rattle.jxlm_header.specs.Header.{header_of};
 ghost use Rattle.jxlm_header.specs.Opening.{CheckGives, conditions};
 
 use crate::header::ModularHeader;
-use jxlm_base::bits::BitstreamError;
-use jxlm_base::error::{Error, Result};
+use jxlm_bits::bits::BitstreamError;
+use jxlm_bits::error::{Error, Result};
 use jxlm_transform::channels::{ModularChannels, PlacedChannel};
 
 /// The maximum number of coded channels.

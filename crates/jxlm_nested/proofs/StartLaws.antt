@@ -3,10 +3,10 @@ use Rattle.std.proofs.Common.{◌≡◌, ℕ, List, Ok, Err, inr, refl}
 use Rattle.std.specs.Prelude.{◌⊎◌, Option, None, Some, is_some}
 use Rattle.std.specs.Borrow.{Bor}
 use Rattle.std.specs.Option.{option_copied}
-use Rattle.jxlm_base.specs.Decoding.{Meaning}
-use Rattle.jxlm_base.specs.ErrorKind.{UnlessMemory, kind_of}
-use Rattle.jxlm_base.specs.Grammar.{IsErrorAt}
-use Rattle.jxlm_base.specs.declared.error.Error.{Error}
+use Rattle.jxlm_bits.specs.Decoding.{Meaning}
+use Rattle.jxlm_bits.specs.ErrorKind.{UnlessMemory, kind_of}
+use Rattle.jxlm_bits.specs.Grammar.{IsErrorAt}
+use Rattle.jxlm_bits.specs.declared.error.Error.{Error}
 use Rattle.jxlm_transform.specs.Channels.{ChannelList}
 use Rattle.jxlm_tree.proofs.Memory.{unless_so}
 use Rattle.jxlm_tree.specs.Tree.{Config}

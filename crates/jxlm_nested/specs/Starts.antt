@@ -1,9 +1,9 @@
 -- Header and tree of an image, or of a part with a header of its own, at a bit position
 -- (ISO/IEC 18181-1, Modular: Modular header, MA tree).
 use Rattle.std.specs.Prelude.{◌≡◌, ℕ, List, false, ◌⊎◌, MatchBool, Option, Some, is_some, Result, Ok}
-use Rattle.jxlm_base.specs.Decoding.{Found, Meaning}
-use Rattle.jxlm_base.specs.ErrorKind.{ErrorKind, ErrorAt}
-use Rattle.jxlm_base.specs.Grammar.{IsErrorAt}
+use Rattle.jxlm_bits.specs.Decoding.{Found, Meaning}
+use Rattle.jxlm_bits.specs.ErrorKind.{ErrorKind, ErrorAt}
+use Rattle.jxlm_bits.specs.Grammar.{IsErrorAt}
 use Rattle.jxlm_transform.specs.Channels.{ChannelList}
 use Rattle.jxlm_tree.specs.Tree.{Config}
 use Rattle.jxlm_tree.specs.TreeReading.{IsTreeAt, IsTooDeep, listing_at}

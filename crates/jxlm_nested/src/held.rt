@@ -1,8 +1,8 @@
 //! A part's header that is held beside a store: its tables are in the store as long as it is decoded or undone there.
 
 ghost use Rattle.std.specs.Prelude.{◌≡◌, ◌≤◌, ◌+◌, ◌*◌, ◌++◌, ℕ, List, IsOk, IfErr, OnOk, OnErr, length, take, drop, vec_capacity};
-ghost use Rattle.jxlm_base.specs.Bits.{bytes_of, position_of};
-ghost use Rattle.jxlm_base.specs.ErrorKind.{NoMemory, kind_of};
+ghost use Rattle.jxlm_bits.specs.Bits.{bytes_of, position_of};
+ghost use Rattle.jxlm_bits.specs.ErrorKind.{NoMemory, kind_of};
 ghost use Rattle.jxlm_base.specs.Grid.{Grid};
 ghost use Rattle.jxlm_base.specs.Outside.{KeepsOutside};
 ghost use Rattle.jxlm_chain.specs.Undo.{UndoesAll};
@@ -15,9 +15,9 @@ ghost use Rattle.jxlm_nested.specs.NestedParts.{CanFill, head_of, nested_channel
 ghost use Rattle.jxlm_nested.specs.Starts.{coded_part};
 
 use crate::nested::NestedPart;
-use jxlm_base::bits::Bitstream;
-use jxlm_base::decoder::Decoder;
-use jxlm_base::error::Result;
+use jxlm_bits::bits::Bitstream;
+use jxlm_bits::decoder::Decoder;
+use jxlm_bits::error::Result;
 use jxlm_base::grid::AlignedGrid;
 use jxlm_base::sample::Sample;
 use jxlm_chain::placed::PlacedChannels;

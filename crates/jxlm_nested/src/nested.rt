@@ -3,9 +3,9 @@
 ghost use Rattle.std.specs.Prelude.{◌≡◌, ◌++◌, ◌<◌, ◌≤◌, ◌⊎◌, ◌^◌, length, take, pos, IfOk, IfErr, OnOk, OnErr};
 ghost use Rattle.std.specs.List.{All};
 ghost use Rattle.std.specs.Option.{option_copied};
-ghost use Rattle.jxlm_base.specs.Bits.{bytes_of, position_of};
-ghost use Rattle.jxlm_base.specs.ErrorKind.{NoMemory, UnlessMemory, kind_of};
-ghost use Rattle.jxlm_base.specs.Grammar.{IsErrorAt};
+ghost use Rattle.jxlm_bits.specs.Bits.{bytes_of, position_of};
+ghost use Rattle.jxlm_bits.specs.ErrorKind.{NoMemory, UnlessMemory, kind_of};
+ghost use Rattle.jxlm_bits.specs.Grammar.{IsErrorAt};
 ghost use Rattle.jxlm_transform.specs.Ends.{HasEnds};
 ghost use Rattle.jxlm_chain.specs.Placed.{sides_in};
 ghost use Rattle.jxlm_chain.specs.Undo.{UndoesAll};
@@ -16,9 +16,9 @@ ghost use Rattle.jxlm_nested.specs.NestedParts.{CanFill, DecodesTo, Fills, Fills
 ghost use Rattle.jxlm_nested.specs.Starts.{IsTreeErrorAt, opened};
 
 use crate::opening::{open, tree_of};
-use jxlm_base::bits::Bitstream;
-use jxlm_base::decoder::Decoder;
-use jxlm_base::error::Result;
+use jxlm_bits::bits::Bitstream;
+use jxlm_bits::decoder::Decoder;
+use jxlm_bits::error::Result;
 use jxlm_base::grid::{AlignedGrid, Region};
 use jxlm_base::sample::Sample;
 use jxlm_chain::placed::PlacedChannels;

@@ -3,7 +3,7 @@
 ghost use Rattle.std.specs.Prelude.{◌≡◌, true, is_some, IfOk};
 ghost use Rattle.std.specs.List.{All};
 ghost use Rattle.std.specs.Option.{option_copied};
-ghost use Rattle.jxlm_base.specs.Bits.{bytes_of, position_of};
+ghost use Rattle.jxlm_bits.specs.Bits.{bytes_of, position_of};
 ghost use Rattle.jxlm_chain.specs.Placed.{GoesOn, IsPlaced};
 ghost use Rattle.jxlm_header.specs.Opening.{opening};
 ghost use Rattle.jxlm_transform.specs.Channels.{IsNarrow, infos};
@@ -11,9 +11,9 @@ ghost use Rattle.jxlm_transform.specs.Lists.{list_of};
 ghost use Rattle.jxlm_transform.specs.Transforms.{Parses};
 ghost use Rattle.jxlm_nested.specs.Opened.{IsOpened, TreeOfGives, opened_of, steps_of_header};
 
-use jxlm_base::bits::Bitstream;
-use jxlm_base::decoder::Decoder;
-use jxlm_base::error::{Error, Result};
+use jxlm_bits::bits::Bitstream;
+use jxlm_bits::decoder::Decoder;
+use jxlm_bits::error::{Error, Result};
 use jxlm_chain::placed::PlacedChannels;
 use jxlm_header::header::ModularHeader;
 use jxlm_header::opening::{DEPTH_LIMIT, check, node_limit};

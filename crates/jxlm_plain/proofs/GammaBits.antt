@@ -6,12 +6,12 @@ use Rattle.std.proofs.lemmas.Bool.Decides.{nat_tests}
 use Rattle.std.proofs.lemmas.Nat.Bits.{bit_at-trailing_zeros}
 use Rattle.std.proofs.lemmas.List.{get_or_past}
 use Rattle.std.proofs.Math.Nat.{zero-div}
-use Rattle.jxlm_base.specs.Bits.{bit_at, bits_at}
-use Rattle.jxlm_base.specs.Decoding.{Found, Fails, Gives}
-use Rattle.jxlm_base.specs.ErrorKind.{◌>>=◌}
-use Rattle.jxlm_base.specs.declared.decoder.DecoderError.{DecoderError}
-use Rattle.jxlm_base.specs.declared.decoder.DecoderError.TheVariants.{UnexpectedEof, Invalid}
-use Rattle.jxlm_base.proofs.BitsLemmas.{bits_at-bound, bits_at-join, bits_at-digit}
+use Rattle.jxlm_bits.specs.Bits.{bit_at, bits_at}
+use Rattle.jxlm_bits.specs.Decoding.{Found, Fails, Gives}
+use Rattle.jxlm_bits.specs.ErrorKind.{◌>>=◌}
+use Rattle.jxlm_bits.specs.declared.decoder.DecoderError.{DecoderError}
+use Rattle.jxlm_bits.specs.declared.decoder.DecoderError.TheVariants.{UnexpectedEof, Invalid}
+use Rattle.jxlm_bits.proofs.BitsLemmas.{bits_at-bound, bits_at-join, bits_at-digit}
 use Rattle.jxlm_plain.specs.Plain.{zeros_at, zeros_end, low_bits, number_at}
 use Rattle.jxlm_plain.specs.Inner.PlainLaws.{bind_ok, ok_same}
 use Rattle.jxlm_plain.specs.Inner.GammaReads.{next_at, few_at, many_at}

@@ -4,10 +4,10 @@ use Rattle.std.proofs.lemmas.Bool.Decides.{nat_tests}
 use Rattle.std.proofs.lemmas.Nat.{pow_pos}
 use Rattle.std.proofs.Math.Nat.{pow-suc, add-mul-div_right, add-mul-mod_self_right, div-eq_of_lt, mod-eq_of_lt, zero-add}
 use Rattle.std.proofs.Math.Pow.{pow_mono}
-use Rattle.jxlm_base.specs.Bits.{bit_at, bits_at}
-use Rattle.jxlm_base.specs.Decoding.{Found, Taken}
-use Rattle.jxlm_base.specs.declared.decoder.DecoderError.{DecoderError}
-use Rattle.jxlm_base.proofs.BitsLemmas.{bit_at-bound, bits_at-bound, bits_at-join}
+use Rattle.jxlm_bits.specs.Bits.{bit_at, bits_at}
+use Rattle.jxlm_bits.specs.Decoding.{Found, Taken}
+use Rattle.jxlm_bits.specs.declared.decoder.DecoderError.{DecoderError}
+use Rattle.jxlm_bits.proofs.BitsLemmas.{bit_at-bound, bits_at-bound, bits_at-join}
 use Rattle.jxlm_plain.specs.Plain.{PlainState, zeros_end, low_bits, gamma_at, code_of, is_runs, token_at, plain_read}
 use Rattle.jxlm_plain.specs.GammaCodes.{HasZeros, gamma_code, GammaStands, EachHasOneCode, GammaTokensAreCodes}
 use Rattle.jxlm_plain.specs.Inner.PlainLaws.{bind_ok, ok_same}

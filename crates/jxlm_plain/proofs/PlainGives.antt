@@ -1,14 +1,14 @@
 -- What the parts of a plain decoder do is what the decoder means.
 use Rattle.std.proofs.Common.{◌≡◌, ℕ, zero, suc, ◌-◌, ◌<◌, List, Result, Ok, Err, IfErr, length, refl, sym, ap, arith, get_or}
 use Rattle.std.proofs.lemmas.List.{get_or_read_under}
-use Rattle.jxlm_base.specs.declared.decoder.DecoderError.{DecoderError}
-use Rattle.jxlm_base.specs.declared.decoder.RleToken.{RleToken}
-use Rattle.jxlm_base.specs.declared.decoder.RleToken.TheVariants.{Value, Repeat}
+use Rattle.jxlm_bits.specs.declared.decoder.DecoderError.{DecoderError}
+use Rattle.jxlm_bits.specs.declared.decoder.RleToken.{RleToken}
+use Rattle.jxlm_bits.specs.declared.decoder.RleToken.TheVariants.{Value, Repeat}
 use Rattle.jxlm_plain.specs.declared.plain.Code.{Code}
 use Rattle.jxlm_plain.specs.declared.plain.Code.TheVariants.{Fixed}
 use Rattle.jxlm_plain.specs.declared.plain.Mode.{Mode}
 use Rattle.jxlm_plain.specs.declared.plain.Mode.TheVariants.{Runs}
-use Rattle.jxlm_base.specs.Decoding.{Keeps, BeginGives, ReadGives, RunGives, iterate}
+use Rattle.jxlm_bits.specs.Decoding.{Keeps, BeginGives, ReadGives, RunGives, iterate}
 use Rattle.jxlm_plain.specs.Inner.PlainReads.{ReadsRun}
 use Rattle.jxlm_plain.specs.Plain.{PlainState, code_of, begin_mode, token_at, plain_begin, plain_read, plain, plain_next, last_in}
 use Rattle.jxlm_plain.specs.Inner.PlainLaws.{plain_begin_keeps}

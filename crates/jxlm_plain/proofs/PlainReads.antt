@@ -2,11 +2,11 @@
 use Rattle.std.proofs.Common.{◌≡◌, ℕ, zero, suc, inl, inr, ◌+◌, ◌*◌, ◌<◌, ◌≤◌, ◌∙◌, Bool, List, length, slice_index, Ok, Err, ap, sym, refl, arith, nat_lt, true, false}
 use Rattle.std.proofs.lemmas.Bool.{cases_lt}
 use Rattle.std.proofs.lemmas.Bool.Decides.{nat_tests}
-use Rattle.jxlm_base.specs.Bits.{EndsEither, IsEither, bits_at, width_after}
-use Rattle.jxlm_base.specs.Decoding.{TakesTokens}
-use Rattle.jxlm_base.specs.declared.decoder.DecoderError.TheVariants.{UnexpectedEof}
-use Rattle.jxlm_base.specs.declared.decoder.RleToken.TheVariants.{Value, Repeat}
-use Rattle.jxlm_base.proofs.BitsLemmas.{bits_at-bound}
+use Rattle.jxlm_bits.specs.Bits.{EndsEither, IsEither, bits_at, width_after}
+use Rattle.jxlm_bits.specs.Decoding.{TakesTokens}
+use Rattle.jxlm_bits.specs.declared.decoder.DecoderError.TheVariants.{UnexpectedEof}
+use Rattle.jxlm_bits.specs.declared.decoder.RleToken.TheVariants.{Value, Repeat}
+use Rattle.jxlm_bits.proofs.BitsLemmas.{bits_at-bound}
 use Rattle.jxlm_plain.specs.Plain.{code_of, number_at, plain_read, run_at, token_at}
 use Rattle.jxlm_plain.specs.declared.plain.Code.{Code}
 use Rattle.jxlm_plain.specs.declared.plain.Code.TheVariants.{Fixed}

@@ -1,19 +1,19 @@
 -- What the tokens of a plain decoder are.
 use Rattle.std.proofs.Common.{◌≡◌, ℕ, zero, suc, ◌+◌, ◌-◌, ◌*◌, ◌%◌, ◌<◌, ◌≤◌, List, [], ◌∷◌, length, replicate, Bool, true, false, cond, nat_lt, ◌==◌, Result, Ok, Err, MatchResult, refl, sym, ap, arith, ◌∙◌}
 use Rattle.std.proofs.lemmas.Bool.Decides.{nat_tests}
-use Rattle.jxlm_base.specs.Bits.{bits_at}
-use Rattle.jxlm_base.specs.Decoding.{Found, Taken, Asked, reads}
-use Rattle.jxlm_base.specs.ErrorKind.{◌>>=◌}
+use Rattle.jxlm_bits.specs.Bits.{bits_at}
+use Rattle.jxlm_bits.specs.Decoding.{Found, Taken, Asked, reads}
+use Rattle.jxlm_bits.specs.ErrorKind.{◌>>=◌}
 use Rattle.jxlm_plain.specs.Plain.{PlainState, number_at, gamma_at, code_of, is_runs, owed_in, last_in, begin_mode, token_at, run_at, plain_begin, plain_read, plain}
 use Rattle.jxlm_plain.specs.Inner.PlainLaws.{bind_ok, ok_same}
 use Rattle.jxlm_plain.specs.PlainTokens.{FixedTokensAreNumbers, SealsAreSums, RunsRepeat, is_sealed, counted, fixed_sum}
-use Rattle.jxlm_base.specs.declared.decoder.DecoderError.{DecoderError}
-use Rattle.jxlm_base.specs.declared.decoder.DecoderError.TheVariants.{UnexpectedEof}
+use Rattle.jxlm_bits.specs.declared.decoder.DecoderError.{DecoderError}
+use Rattle.jxlm_bits.specs.declared.decoder.DecoderError.TheVariants.{UnexpectedEof}
 use Rattle.jxlm_plain.specs.declared.plain.Code.{Code}
 use Rattle.jxlm_plain.specs.declared.plain.Code.TheVariants.{Constant, Fixed, Gamma}
 use Rattle.jxlm_plain.specs.declared.plain.Mode.{Mode}
 use Rattle.jxlm_plain.specs.declared.plain.Mode.TheVariants.{Unsealed, Sealed, Runs}
-use Rattle.jxlm_base.proofs.BitsLemmas.{bits_at-bound}
+use Rattle.jxlm_bits.proofs.BitsLemmas.{bits_at-bound}
 use Rattle.jxlm_plain.proofs.PlainGives.{state}
 
 -- what is meant by a number at a bit position

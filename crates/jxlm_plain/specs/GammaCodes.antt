@@ -1,6 +1,6 @@
 -- Gamma codes, without the steps of a read.
 use Rattle.std.specs.Prelude.{◌≡◌, ◌↔◌, ℕ, ◌+◌, ◌-◌, ◌*◌, ◌^◌, ◌<◌, ◌≤◌, List, length, false, Ok}
-use Rattle.jxlm_base.specs.Bits.{bits_at}
+use Rattle.jxlm_bits.specs.Bits.{bits_at}
 use Rattle.jxlm_plain.specs.Plain.{PlainState, code_of, is_runs, plain2}
 use Rattle.jxlm_plain.specs.declared.plain.Code.TheVariants.{Gamma}
 

@@ -1,9 +1,9 @@
 -- What the tokens of a plain decoder are, without its steps.
 use Rattle.std.specs.Prelude.{◌≡◌, ℕ, ◌+◌, ◌*◌, ◌%◌, ◌<◌, ◌≤◌, List, [], ◌∷◌, length, replicate, Bool, true, false, if◌then◌else◌, ◌==◌, Ok, Err, MatchResult}
-use Rattle.jxlm_base.specs.Bits.{bits_at}
-use Rattle.jxlm_base.specs.Decoding.{Found, Taken, Asked, reads}
+use Rattle.jxlm_bits.specs.Bits.{bits_at}
+use Rattle.jxlm_bits.specs.Decoding.{Found, Taken, Asked, reads}
 use Rattle.jxlm_plain.specs.Plain.{PlainState, code_of, is_runs, owed_in, last_in, plain}
-use Rattle.jxlm_base.specs.declared.decoder.DecoderError.TheVariants.{UnexpectedEof, Invalid}
+use Rattle.jxlm_bits.specs.declared.decoder.DecoderError.TheVariants.{UnexpectedEof, Invalid}
 use Rattle.jxlm_plain.specs.declared.plain.Code.{Code}
 use Rattle.jxlm_plain.specs.declared.plain.Code.TheVariants.{Constant, Fixed, Gamma}
 use Rattle.jxlm_plain.specs.declared.plain.Mode.{Mode}

@@ -1,15 +1,15 @@
 //! Gamma tokens: n zeros, a one, and n bits, whose number with 2^n is the token and one more.
 
 ghost use Rattle.std.specs.Prelude.{◌≡◌, ◌+◌, ◌*◌, ◌^◌, ◌<◌, ◌≤◌, IfOk, IfErr, length};
-ghost use Rattle.jxlm_base.specs.Bits.{bytes_of, position_of};
-ghost use Rattle.jxlm_base.specs.Decoding.{Gives};
+ghost use Rattle.jxlm_bits.specs.Bits.{bytes_of, position_of};
+ghost use Rattle.jxlm_bits.specs.Decoding.{Gives};
 ghost use Rattle.jxlm_plain.specs.Plain.{zeros_end, low_bits, gamma_at};
 ghost use Rattle.jxlm_plain.specs.Inner.GammaReads.{next_at, few_at, many_at};
 ghost use Rattle.jxlm_plain.specs.Inner.PlainReads.{IsOfTokens};
 
 use crate::plain::number;
-use jxlm_base::bits::Bitstream;
-use jxlm_base::decoder::DecoderError;
+use jxlm_bits::bits::Bitstream;
+use jxlm_bits::decoder::DecoderError;
 
 /// The next 32 bits, of which those after the end are 0, where fewer are left.
 #[cold]

@@ -1,14 +1,14 @@
 //! The plain decoder of the second format: a version, and gamma codes.
 
 ghost use Rattle.std.specs.Prelude.{◌≡◌};
-ghost use Rattle.jxlm_base.specs.Bits.{bytes_of, position_of};
-ghost use Rattle.jxlm_base.specs.Decoding.{Gives};
+ghost use Rattle.jxlm_bits.specs.Bits.{bytes_of, position_of};
+ghost use Rattle.jxlm_bits.specs.Decoding.{Gives};
 ghost use Rattle.jxlm_plain.specs.GammaCodes.{EachHasOneCode, GammaTokensAreCodes};
 ghost use Rattle.jxlm_plain.specs.Plain.{PlainState, code2_at, fields_at, plain2_parse, plain2};
 
 use crate::plain::{Format, Machine, number};
-use jxlm_base::bits::Bitstream;
-use jxlm_base::decoder::{Decoder, DecoderError, RleToken, TokensError};
+use jxlm_bits::bits::Bitstream;
+use jxlm_bits::decoder::{Decoder, DecoderError, RleToken, TokensError};
 use std::alloc::Global;
 use std::marker::Model;
 

@@ -1,15 +1,15 @@
 //! Tokens of one width under runs, many at a time.
 
 ghost use Rattle.std.specs.Prelude.{◌≡◌, ◌+◌, ◌*◌, ◌/◌, ◌^◌, ◌<◌, ◌≤◌, true, length, Ok};
-ghost use Rattle.jxlm_base.specs.Bits.{bytes_of, position_of};
+ghost use Rattle.jxlm_bits.specs.Bits.{bytes_of, position_of};
 ghost use Rattle.jxlm_plain.specs.Plain.{is_runs, token_at};
 ghost use Rattle.jxlm_plain.specs.Inner.PlainReads.{ReadsTokens};
 ghost use Rattle.jxlm_plain.specs.declared.plain.Code.TheVariants.{Fixed};
 ghost use Rattle.jxlm_plain.specs.declared.plain.Mode.TheVariants.{Runs};
 
 use crate::plain::{Code, Mode, each_token};
-use jxlm_base::bits::Bitstream;
-use jxlm_base::decoder::TokensError;
+use jxlm_bits::bits::Bitstream;
+use jxlm_bits::decoder::TokensError;
 
 /// A place between two tokens: the token before, how often it is still owed, and how many bits after the reader's position
 /// it lies.

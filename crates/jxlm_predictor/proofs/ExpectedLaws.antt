@@ -1,7 +1,7 @@
 -- What a sample of an earlier channel is expected to be, by where it stands.
 use Rattle.std.proofs.Common.{◌≡◌, ℕ, suc, ◌+◌, ℤ, List, refl, subst}
 use Rattle.jxlm_base.specs.Grid.{Grid}
-use Rattle.jxlm_base.specs.Numbers.{clamped_gradient}
+use Rattle.jxlm_bits.specs.Numbers.{clamped_gradient}
 use Rattle.jxlm_base.specs.declared.subgrid.Region.{Region}
 use Rattle.jxlm_predictor.specs.EarlierRows.{IsRowOf}
 use Rattle.jxlm_predictor.specs.Neighbours.{at}

@@ -1,10 +1,10 @@
 -- Fields of a header that stand one after the other in the same bytes: the first that is truncated ends the reading.
 use Rattle.std.proofs.Common.{◌≡◌, ℕ, List, Result, Ok, Err, Some, refl, rules, subst, sym, ◌∙◌}
 use Rattle.std.specs.Prelude.{IfOk, IsErrAnd}
-use Rattle.jxlm_base.specs.Decoding.{Found}
-use Rattle.jxlm_base.specs.ErrorKind.{ErrorAt, bitstream_kind, ◌>>=◌}
-use Rattle.jxlm_base.specs.Grammar.{Reads, number}
-use Rattle.jxlm_base.specs.declared.bits.BitstreamError.{BitstreamError}
+use Rattle.jxlm_bits.specs.Decoding.{Found}
+use Rattle.jxlm_bits.specs.ErrorKind.{ErrorAt, bitstream_kind, ◌>>=◌}
+use Rattle.jxlm_bits.specs.Grammar.{Reads, number}
+use Rattle.jxlm_bits.specs.declared.bits.BitstreamError.{BitstreamError}
 use Rattle.jxlm_predictor.specs.SelfCorrecting.{IsHeader}
 use Rattle.jxlm_predictor.specs.declared.predictor.WpHeader.{WpHeader}
 

@@ -9,7 +9,7 @@ use Rattle.std.proofs.lemmas.Bool.{cases_lt}
 use Rattle.std.proofs.lemmas.List.Elements.{All-append}
 use Rattle.std.proofs.Math.Nat.{mod-lt}
 use Rattle.std.proofs.Math.Pow.{pow_mono}
-use Rattle.jxlm_base.specs.Numbers.{floor_log2}
+use Rattle.jxlm_bits.specs.Numbers.{floor_log2}
 use Rattle.jxlm_predictor.specs.Neighbours.{neighbours, at, west, north, north_west, north_east, north_north, column, row}
 use Rattle.jxlm_predictor.specs.SelfCorrecting.{shift_of, reciprocal, weight_of, shifted, Errors, no_errors, errors_at, errors_above, errors_left, error_sum, errors_near, errors_of, IsHeader, sub_predictions, weights, weighted_sum}
 use Rattle.jxlm_predictor.specs.SelfCorrectingRanges.{IsInTable, OfEach, InRange, AlwaysInRange}

@@ -1,7 +1,7 @@
 -- Weights are read exactly.
 use Rattle.std.specs.Prelude.{false}
-use Rattle.jxlm_base.specs.Grammar.{Grammar, IsExact, ◌>>=◌}
-use Rattle.jxlm_base.proofs.GrammarLaws.{exact-give, exact-number, exact-bind, exact-either, exact-flag}
+use Rattle.jxlm_bits.specs.Grammar.{Grammar, IsExact, ◌>>=◌}
+use Rattle.jxlm_bits.proofs.GrammarLaws.{exact-give, exact-number, exact-bind, exact-either, exact-flag}
 use Rattle.jxlm_predictor.specs.WeightsHeader.{default_weights, listed_weights, wp_header}
 
 bind : {X Y : Type 0} {field : Grammar X} {next : X → Grammar Y} → IsExact field → ((x : X) → IsExact (next x)) → IsExact (field >>= next)

@@ -2,9 +2,9 @@
 use Rattle.std.specs.Prelude.{ℕ, nat_lt, if◌then◌else◌, ℤ, pos, ◌+ℤ◌, ◌-ℤ◌, ◌*ℤ◌, unsigned_abs, int_div, List, [], ◌∷◌, slice_get, Option, Some, None, Result, Ok, Err, codes, ◌≡◌}
 use Rattle.std.specs.Int.{w32, int_wrap, int_shr}
 use Rattle.std.specs.Option.{option_map_or}
-use Rattle.jxlm_base.specs.ErrorKind.{BadEnum, bitstream_kind}
-use Rattle.jxlm_base.specs.Numbers.{clamped_gradient}
-use Rattle.jxlm_base.specs.declared.bits.BitstreamError.{BitstreamError}
+use Rattle.jxlm_bits.specs.ErrorKind.{BadEnum, bitstream_kind}
+use Rattle.jxlm_bits.specs.Numbers.{clamped_gradient}
+use Rattle.jxlm_bits.specs.declared.bits.BitstreamError.{BitstreamError}
 use Rattle.jxlm_predictor.specs.Neighbours.{Neighbours, neighbours}
 use Rattle.jxlm_predictor.specs.SelfCorrecting.{self_corrected, self_unclamped}
 use Rattle.jxlm_predictor.specs.declared.predictor.Predictor.{Predictor}

@@ -3,7 +3,7 @@ use Rattle.std.specs.Prelude.{ℕ, zero, suc, ◌-◌, ◌/◌, ◌%◌, ◌==�
 use Rattle.std.specs.Int.{w32, int_wrap}
 use Rattle.std.specs.Option.{option_map_or}
 use Rattle.jxlm_base.specs.Grid.{Grid}
-use Rattle.jxlm_base.specs.Numbers.{absolute, clamped_gradient}
+use Rattle.jxlm_bits.specs.Numbers.{absolute, clamped_gradient}
 use Rattle.jxlm_predictor.specs.Neighbours.{neighbours, at, west, north, north_west, column, row}
 use Rattle.jxlm_predictor.specs.SelfCorrecting.{maximum_error}
 use Rattle.jxlm_predictor.specs.declared.predictor.WpHeader.{WpHeader}

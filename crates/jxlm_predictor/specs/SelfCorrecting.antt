@@ -2,7 +2,7 @@
 use Rattle.std.specs.Prelude.{ℕ, zero, suc, ◌+◌, ◌-◌, ◌*◌, ◌/◌, ◌%◌, ◌^◌, ◌<◌, ℤ, pos, ◌+ℤ◌, ◌-ℤ◌, ◌*ℤ◌, List, [], ◌∷◌, ◌++◌, length, take, map, zip, fold, sum, slice_index, slice_index_or, unsigned_abs, nat_lt, Bool, not, ◌&&◌, ◌||◌, if◌then◌else◌}
 use Rattle.std.specs.Int.{w32, int_wrap, int_shr, int_min, int_max, is_negative}
 use Rattle.std.specs.Ordering.{int_eq}
-use Rattle.jxlm_base.specs.Numbers.{clamped, floor_log2}
+use Rattle.jxlm_bits.specs.Numbers.{clamped, floor_log2}
 use Rattle.jxlm_predictor.specs.Neighbours.{Neighbours, neighbours, column, row}
 use Rattle.jxlm_predictor.specs.declared.predictor.WpHeader.{WpHeader}
 

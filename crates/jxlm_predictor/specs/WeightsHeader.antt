@@ -1,9 +1,9 @@
 -- The weights of the weighted predictor, as they stand in the input (ISO/IEC 18181-1, Modular: the bundle WPHeader).
 use Rattle.std.specs.Prelude.{◌≡◌, ℕ, true, false, Result, Ok, Err}
-use Rattle.jxlm_base.specs.Decoding.{Found}
-use Rattle.jxlm_base.specs.ErrorKind.{ErrorAt, kind_of}
-use Rattle.jxlm_base.specs.Grammar.{Grammar, IsErrorAt, number, flag, give, either, ◌>>=◌}
-use Rattle.jxlm_base.specs.declared.error.Error.{Error}
+use Rattle.jxlm_bits.specs.Decoding.{Found}
+use Rattle.jxlm_bits.specs.ErrorKind.{ErrorAt, kind_of}
+use Rattle.jxlm_bits.specs.Grammar.{Grammar, IsErrorAt, number, flag, give, either, ◌>>=◌}
+use Rattle.jxlm_bits.specs.declared.error.Error.{Error}
 use Rattle.jxlm_predictor.specs.declared.predictor.WpHeader.{WpHeader}
 
 -- the default weights

@@ -1,8 +1,8 @@
 //! Predictors, and the weights of the weighted (self-correcting) one.
 
 ghost use Rattle.std.specs.Prelude.{◌≡◌, ◌≤◌, ◌<◌, ◌^◌, IfOk};
-ghost use Rattle.jxlm_base.specs.Bits.{bytes_of, position_of};
-ghost use Rattle.jxlm_base.specs.Grammar.{IsExact, Reads, number};
+ghost use Rattle.jxlm_bits.specs.Bits.{bytes_of, position_of};
+ghost use Rattle.jxlm_bits.specs.Grammar.{IsExact, Reads, number};
 ghost use Rattle.jxlm_predictor.specs.Holding.{IsCurrent, IsOfPlace};
 ghost use Rattle.jxlm_predictor.specs.Inner.ListedWeights.{HasFactors, last_weights};
 ghost use Rattle.jxlm_predictor.specs.Predictions.{prediction};
@@ -14,8 +14,8 @@ pub use crate::properties::Properties;
 use crate::reduced::reduced;
 pub use crate::self_correcting::PredictionResult;
 pub use crate::state::PredictorState;
-use jxlm_base::bits::{Bitstream, BitstreamError};
-use jxlm_base::error::Result;
+use jxlm_bits::bits::{Bitstream, BitstreamError};
+use jxlm_bits::error::Result;
 
 /// How a sample is predicted from the samples before it (ISO/IEC 18181-1, Modular: predictors). The
 /// variants are in the order of their numbers, from 0 to 13.

@@ -2,7 +2,7 @@
 
 ghost use Rattle.std.specs.Prelude.{◌≡◌, pos};
 ghost use Rattle.std.specs.Int.{w32, int_wrap};
-ghost use Rattle.jxlm_base.specs.Numbers.{absolute};
+ghost use Rattle.jxlm_bits.specs.Numbers.{absolute};
 
 /// The number of 32 bits that is the given one but for a multiple of 2^32.
 pub fn reduced(value: i64) -> i32

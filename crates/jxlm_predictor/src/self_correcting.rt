@@ -1,6 +1,6 @@
 //! The weighted (self-correcting) predictor: the errors that it remembers, and what it makes of a cell.
 
-ghost use Rattle.jxlm_base.specs.Numbers.{floor_log2};
+ghost use Rattle.jxlm_bits.specs.Numbers.{floor_log2};
 ghost use Rattle.jxlm_predictor.specs.SelfCorrecting.{IsHeader, errors_above, errors_left, errors_near, errors_of, greatest, is_clamped, predicted, reciprocal, self_unclamped, shifted, sub_predictions, unclamped, weight_of, weighted_sum, weights};
 ghost use Rattle.std.specs.Int.{int_shr};
 ghost use Rattle.std.specs.Prelude.{◌≡◌, ◌+◌, ◌-◌, ◌*◌, ◌<◌, ◌≤◌, ◌^◌, ◌+ℤ◌, ◌-ℤ◌, ◌*ℤ◌, pos, ℕ, ℤ, List, [], ◌∷◌, ◌++◌, length, Option, Some, ◌/◌, ◌%◌, nat_lt, max, if◌then◌else◌, not, IfOk, false, vec_len, slice_index_or, sum, unsigned_abs};

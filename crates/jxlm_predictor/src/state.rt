@@ -2,14 +2,14 @@
 
 ghost use Rattle.std.specs.Prelude.{◌≡◌, ◌+◌, ◌*◌, ◌<◌, ◌≤◌, ◌^◌, ℕ, ℤ, List, [], ◌∷◌, ◌++◌, false, None, IfOk, IfErr, OnErr, if◌then◌else◌, vec_len};
 ghost use Rattle.std.specs.Option.{option_copied, ForSome};
-ghost use Rattle.jxlm_base.specs.ErrorKind.{NoMemory, kind_of};
+ghost use Rattle.jxlm_bits.specs.ErrorKind.{NoMemory, kind_of};
 ghost use Rattle.jxlm_predictor.specs.Correcting.{HasRows};
 ghost use Rattle.jxlm_predictor.specs.SelfCorrecting.{IsHeader};
 
 use crate::around::Around;
 use crate::predictor::WpHeader;
 use crate::self_correcting::{Corrector, PredictionResult};
-use jxlm_base::error::Result;
+use jxlm_bits::error::Result;
 use jxlm_base::grid::{OutOfMemory, Region};
 use std::alloc::Global;
 use std::marker::PhantomData;

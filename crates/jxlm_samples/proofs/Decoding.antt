@@ -3,9 +3,9 @@ use Rattle.std.proofs.Common.{◌≡◌, ℕ, suc, ◌+◌, ◌*◌, ◌<◌, Li
 use Rattle.std.specs.Prelude.{Result, OnOk, IfErr}
 use Rattle.std.specs.Int.{Width}
 use Rattle.std.proofs.lemmas.List.{length-map}
-use Rattle.jxlm_base.specs.Decoding.{Meaning}
+use Rattle.jxlm_bits.specs.Decoding.{Meaning}
 use Rattle.jxlm_base.specs.Grid.{Grid}
-use Rattle.jxlm_base.specs.declared.decoder.DecoderError.{DecoderError}
+use Rattle.jxlm_bits.specs.declared.decoder.DecoderError.{DecoderError}
 use Rattle.jxlm_base.proofs.Outside.{all_lie_still, keeps_all, keeps_both}
 use Rattle.jxlm_predictor.specs.declared.state.PredictorState.{PredictorState}
 use Rattle.jxlm_samples.specs.Inner.Channels.{StandsAfter, region_at}

@@ -6,10 +6,10 @@ use Rattle.std.proofs.Math.IntN.{+ℤ_idr, *ℤ_comm, suc_ℤ-*ℤ, zero-*ℤ, +
 use Rattle.std.proofs.Math.ListN.{get_or-map}
 use Rattle.std.proofs.lemmas.Int.{SFits-int_wrap, int_wrap_fits, int_wrap-add_left, int_wrap-add_right}
 use Rattle.std.proofs.lemmas.List.{get_or-set_same, get_or-take, length-map, length-take-le, map-set}
-use Rattle.jxlm_base.specs.Bits.{bytes_of, position_of}
-use Rattle.jxlm_base.specs.Decoding.{IsLawful, Meaning, Taken}
-use Rattle.jxlm_base.specs.Numbers.{clamped_gradient, unpack}
-use Rattle.jxlm_base.specs.declared.decoder.DecoderError.{DecoderError}
+use Rattle.jxlm_bits.specs.Bits.{bytes_of, position_of}
+use Rattle.jxlm_bits.specs.Decoding.{IsLawful, Meaning, Taken}
+use Rattle.jxlm_bits.specs.Numbers.{clamped_gradient, unpack}
+use Rattle.jxlm_bits.specs.declared.decoder.DecoderError.{DecoderError}
 use Rattle.jxlm_tree.specs.declared.flat.Leaf.{Leaf}
 use Rattle.jxlm_samples.specs.Coded.{sample_of}
 use Rattle.jxlm_samples.specs.Inner.Paths.{AreGradients, AreLeft, IsPlain, gradient_in, gradient_rule, leaf_by, north_in, north_west_in, property_9_in, steps_by, sum_by, west_in}

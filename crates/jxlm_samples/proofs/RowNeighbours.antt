@@ -6,7 +6,7 @@ use Rattle.std.proofs.lemmas.List.{get_or-append-add, get_or-take, get_or_append
 use Rattle.std.proofs.lemmas.Nat.{div-mul-add, mod-mul-add, mul-add-lt, mul-le}
 use Rattle.std.proofs.lemmas.Option.{get_or_from_slice_get, slice_get-get_or}
 use Rattle.jxlm_base.specs.Grid.{Grid, IsFull, row as grid_row}
-use Rattle.jxlm_base.specs.Numbers.{clamped_gradient}
+use Rattle.jxlm_bits.specs.Numbers.{clamped_gradient}
 use Rattle.jxlm_base.specs.Regions.{grid_of, region_cell, store_meanings}
 use Rattle.jxlm_base.specs.declared.subgrid.Region.{Region}
 use Rattle.jxlm_base.proofs.Outside.{number_of_row}

@@ -3,9 +3,9 @@ use Rattle.std.proofs.Common.{◌≡◌, ℕ, zero, suc, ◌+◌, ◌*◌, ◌<�
 use Rattle.std.specs.Prelude.{slice_get}
 use Rattle.std.proofs.Math.Nat.{mul-le-mul_left}
 use Rattle.std.proofs.lemmas.List.{length-take, take-set}
-use Rattle.jxlm_base.specs.Bits.{position_of}
-use Rattle.jxlm_base.specs.Decoding.{Meaning}
-use Rattle.jxlm_base.specs.declared.decoder.DecoderError.{DecoderError}
+use Rattle.jxlm_bits.specs.Bits.{position_of}
+use Rattle.jxlm_bits.specs.Decoding.{Meaning}
+use Rattle.jxlm_bits.specs.declared.decoder.DecoderError.{DecoderError}
 use Rattle.jxlm_base.proofs.Cells.{slice_get-set_same}
 use Rattle.jxlm_samples.specs.Inner.Rows.{AreAlike, FailsCell, FailsRow, ReadsCell, ReadsCells, ReadsRow}
 use Rattle.jxlm_samples.specs.declared.source.Source.{Source}

@@ -3,8 +3,8 @@ use Rattle.std.proofs.Common.{◌≡◌, ℕ, ◌<◌, ◌≤◌, List, ◌++◌
 use Rattle.std.specs.Int.{Width, w32}
 use Rattle.std.proofs.lemmas.Int.{SFits-int_wrap, int_wrap_fits, ints}
 use Rattle.std.proofs.lemmas.List.{length-map}
-use Rattle.jxlm_base.specs.Bits.{bytes_of}
-use Rattle.jxlm_base.specs.Decoding.{Meaning}
+use Rattle.jxlm_bits.specs.Bits.{bytes_of}
+use Rattle.jxlm_bits.specs.Decoding.{Meaning}
 use Rattle.jxlm_base.specs.Grid.{Grid}
 use Rattle.jxlm_base.specs.Regions.{grid_of, store_meanings}
 use Rattle.jxlm_base.specs.declared.subgrid.Region.{Region}

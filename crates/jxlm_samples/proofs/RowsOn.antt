@@ -3,12 +3,12 @@ use Rattle.std.proofs.Common.{◌≡◌, ℕ, suc, ◌+◌, ◌*◌, ◌<◌, �
 use Rattle.std.specs.Prelude.{slice_set, Result}
 use Rattle.std.specs.Int.{Width}
 use Rattle.std.proofs.lemmas.List.{drop-drop, length-append, length-map, length-take-le, take-map, take-take, take_all, take_at}
-use Rattle.jxlm_base.specs.Bits.{bytes_of, position_of}
-use Rattle.jxlm_base.specs.Decoding.{Meaning}
+use Rattle.jxlm_bits.specs.Bits.{bytes_of, position_of}
+use Rattle.jxlm_bits.specs.Decoding.{Meaning}
 use Rattle.jxlm_base.specs.Grid.{Grid, with_row}
 use Rattle.jxlm_base.specs.Outside.{SetsRow}
 use Rattle.jxlm_base.specs.Regions.{region, store_meanings}
-use Rattle.jxlm_base.specs.declared.decoder.DecoderError.{DecoderError}
+use Rattle.jxlm_bits.specs.declared.decoder.DecoderError.{DecoderError}
 use Rattle.jxlm_base.specs.declared.subgrid.Region.{Region}
 use Rattle.jxlm_samples.specs.Coded.{part_rule}
 use Rattle.jxlm_samples.specs.Part.{Part, cells_of, channel}

@@ -3,10 +3,10 @@ use Rattle.std.proofs.Common.{◌≡◌, ℕ, zero, suc, ◌+◌, ◌<◌, ◌�
 use Rattle.std.specs.Prelude.{slice_index, slice_set}
 use Rattle.std.proofs.lemmas.Bool.{cases_lt}
 use Rattle.std.proofs.lemmas.List.{length-map, map-set, take-set-le}
-use Rattle.jxlm_base.specs.Bits.{bytes_of, position_of}
-use Rattle.jxlm_base.specs.Decoding.{FailsTokens, IsLawful, Meaning, Reading, TakesTokens}
-use Rattle.jxlm_base.specs.declared.decoder.DecoderError.{DecoderError}
-use Rattle.jxlm_base.specs.declared.decoder.TokensError.{TokensError}
+use Rattle.jxlm_bits.specs.Bits.{bytes_of, position_of}
+use Rattle.jxlm_bits.specs.Decoding.{FailsTokens, IsLawful, Meaning, Reading, TakesTokens}
+use Rattle.jxlm_bits.specs.declared.decoder.DecoderError.{DecoderError}
+use Rattle.jxlm_bits.specs.declared.decoder.TokensError.{TokensError}
 use Rattle.jxlm_lanes.proofs.NumberAt.{slice_get-set_other}
 use Rattle.jxlm_base.proofs.Cells.{slice_get-set_same}
 use Rattle.jxlm_samples.specs.Inner.Rows.{FailsRow, MakesCells, ReadsCells, StretchGives}

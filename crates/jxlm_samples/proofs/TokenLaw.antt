@@ -5,8 +5,8 @@ use Rattle.std.proofs.lemmas.Int.{ints, int_wrap_fits, SFits-int_wrap, int_wrap-
 use Rattle.std.proofs.lemmas.Bool.{cases_lt}
 use Rattle.std.proofs.Math.IntN.{zero-*ℤ, *ℤ_comm, +ℤ_idr, +ℤ_assoc, pos-*ℤ-pos}
 use borrow.Author.Differences.{up, down, same_in, product_is}
-use Rattle.jxlm_base.specs.Numbers.{unpack}
-use Rattle.jxlm_base.proofs.Tokens.{token_of, unpack_fits, unpack_one}
+use Rattle.jxlm_bits.specs.Numbers.{unpack}
+use Rattle.jxlm_bits.proofs.Tokens.{token_of, unpack_fits, unpack_one}
 use Rattle.jxlm_samples.specs.Coded.{sample_of}
 use Rattle.jxlm_samples.specs.Token.{EachHasToken}
 

@@ -4,8 +4,8 @@ use Rattle.std.specs.Prelude.{replicate, slice_get, slice_set}
 use Rattle.std.specs.Int.{Width}
 use Rattle.std.proofs.lemmas.List.{get_or-replicate, length-map, length-replicate, map-set, replicate_more, take_more_set}
 use Rattle.std.proofs.lemmas.Option.{slice_get-get_or}
-use Rattle.jxlm_base.specs.Bits.{bytes_of, position_of}
-use Rattle.jxlm_base.specs.Decoding.{IsLawful, Meaning}
+use Rattle.jxlm_bits.specs.Bits.{bytes_of, position_of}
+use Rattle.jxlm_bits.specs.Decoding.{IsLawful, Meaning}
 use Rattle.jxlm_tree.specs.declared.flat.Leaf.{Leaf}
 use Rattle.jxlm_samples.specs.Coded.{sample_of}
 use Rattle.jxlm_samples.specs.Inner.Paths.{zero_rule}

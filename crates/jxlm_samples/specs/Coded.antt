@@ -1,10 +1,10 @@
 -- The samples of a part, as they are coded (ISO/IEC 18181-1, Modular: decoding of samples).
 use Rattle.std.specs.Prelude.{◌≡◌, ℕ, suc, ◌<◌, ◌⊎◌, ℤ, pos, ◌+ℤ◌, ◌*ℤ◌, List, take, Ok, Err}
 use Rattle.std.specs.Int.{Width, int_wrap}
-use Rattle.jxlm_base.specs.Decoding.{Found, Meaning}
+use Rattle.jxlm_bits.specs.Decoding.{Found, Meaning}
 use Rattle.jxlm_base.specs.Grid.{Grid}
-use Rattle.jxlm_base.specs.Numbers.{unpack}
-use Rattle.jxlm_base.specs.declared.decoder.DecoderError.{DecoderError}
+use Rattle.jxlm_bits.specs.Numbers.{unpack}
+use Rattle.jxlm_bits.specs.declared.decoder.DecoderError.{DecoderError}
 use Rattle.jxlm_predictor.specs.Predictions.{prediction}
 use Rattle.jxlm_tree.specs.declared.flat.Leaf.{Leaf}
 use Rattle.jxlm_samples.specs.Part.{Part, surroundings, next_leaf, cell_count, max_width, cells_of}

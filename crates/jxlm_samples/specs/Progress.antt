@@ -1,11 +1,11 @@
 -- What decoding a part leaves in a store, whose regions hold the part's grids.
 use Rattle.std.specs.Prelude.{ℕ, ◌+◌, ◌*◌, ◌<◌, ◌≤◌, ℤ, List, Bool}
 use Rattle.std.specs.Int.{Width}
-use Rattle.jxlm_base.specs.Decoding.{Meaning}
+use Rattle.jxlm_bits.specs.Decoding.{Meaning}
 use Rattle.jxlm_base.specs.Grid.{Grid}
 pub use Rattle.jxlm_base.specs.Outside.{KeepsOutside, buffer_at}
 pub use Rattle.jxlm_base.specs.Regions.{grids_in}
-use Rattle.jxlm_base.specs.declared.decoder.DecoderError.{DecoderError}
+use Rattle.jxlm_bits.specs.declared.decoder.DecoderError.{DecoderError}
 use Rattle.jxlm_base.specs.declared.subgrid.Region.{Region}
 use Rattle.jxlm_transform.specs.Channels.{AreGridsOf}
 use Rattle.jxlm_samples.specs.Coded.{IsCodedToTheEnd}

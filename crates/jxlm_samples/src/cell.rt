@@ -2,7 +2,7 @@
 
 ghost use Rattle.std.specs.Prelude.{◌≡◌, pos, ◌+ℤ◌, ◌*ℤ◌, ◌+◌, ◌^◌, ◌<◌, ◌≤◌, true, false, length, None, OnOk};
 ghost use Rattle.std.specs.Int.{int_wrap};
-ghost use Rattle.jxlm_base.specs.Numbers.{unpack};
+ghost use Rattle.jxlm_bits.specs.Numbers.{unpack};
 ghost use Rattle.jxlm_tree.specs.FlatTree.{ClustersStandIn};
 ghost use Rattle.jxlm_tree.specs.Paths.{Gives};
 ghost use Rattle.jxlm_tree.specs.SumTrees.{GoesBySum};
@@ -16,7 +16,7 @@ ghost use Rattle.jxlm_samples.specs.Inner.Rows.{AreAway, CellGives, CellsGive, I
 use crate::number::Number;
 use crate::rows::{Line, RowError};
 use crate::source::{Source, Walk};
-use jxlm_base::decoder::{Decoder, DecoderError};
+use jxlm_bits::decoder::{Decoder, DecoderError};
 use jxlm_base::sample::{Sample, Sealed};
 use jxlm_tree::flat::{FlatMaTree, Leaf, Steps};
 use jxlm_tree::paths::Path;

@@ -1,7 +1,7 @@
 //! Everything a part is decoded with, and what is made ready before its first bit is read.
 
 ghost use Rattle.std.specs.Prelude.{◌≡◌, ◌↔◌, ℤ, ◌^◌, ◌<◌, ◌≤◌, List, IfOk, IfErr, IfSome, IsTrue, None, get_or, length};
-ghost use Rattle.jxlm_base.specs.ErrorKind.{NoMemory, kind_of};
+ghost use Rattle.jxlm_bits.specs.ErrorKind.{NoMemory, kind_of};
 ghost use Rattle.jxlm_base.specs.Grid.{Grid};
 ghost use Rattle.jxlm_predictor.specs.SelfCorrecting.{IsHeader};
 ghost use Rattle.jxlm_transform.specs.Layout.{no_region};
@@ -10,8 +10,8 @@ ghost use Rattle.jxlm_predictor.specs.Standing.{Setting, StandsAt, earlier_count
 ghost use Rattle.jxlm_samples.specs.Reading.{HasFlats, HasRoom, IsCodingOf, IsLone, IsRoomyFor, IsTreeOf, LeadsAlone, ReadsAlone, alone_at, flat, part_of, regions_of};
 ghost use Rattle.jxlm_samples.specs.Inner.Channels.{IsNext, StandsAfter, all_alike};
 
-use jxlm_base::decoder::Decoder;
-use jxlm_base::error::Result;
+use jxlm_bits::decoder::Decoder;
+use jxlm_bits::error::Result;
 use jxlm_base::grid::Region;
 use jxlm_base::sample::{Sample, Sealed};
 use jxlm_tree::flat::{FlatMaTree, Leaf};

@@ -16,7 +16,7 @@ use crate::gradient::{Leaves, read_gradients};
 use crate::rows::{Line, RowError, write_read};
 use crate::source::Walk;
 use crate::zeros::read_zeros;
-use jxlm_base::decoder::{Decoder, DecoderError};
+use jxlm_bits::decoder::{Decoder, DecoderError};
 use jxlm_base::grid::AlignedGrid;
 use jxlm_base::sample::Sample;
 use jxlm_tree::paths::Path;

@@ -12,7 +12,7 @@ use crate::above::sample_above;
 use crate::one_gradient::read_one_gradient;
 use crate::rows::{Line, RowError};
 use crate::source::Source;
-use jxlm_base::decoder::Decoder;
+use jxlm_bits::decoder::Decoder;
 use jxlm_base::region::region_row;
 use jxlm_base::sample::{Sample, Sealed};
 use jxlm_tree::flat::{Leaf, Steps};

@@ -3,13 +3,13 @@
 ghost use Rattle.std.specs.Prelude.{ℕ, List, ℤ};
 ghost use Rattle.std.specs.Int.{Width};
 ghost use Rattle.jxlm_base.specs.Grid.{Grid};
-ghost use Rattle.jxlm_base.specs.declared.decoder.DecoderError.{DecoderError};
+ghost use Rattle.jxlm_bits.specs.declared.decoder.DecoderError.{DecoderError};
 ghost use Rattle.jxlm_samples.specs.Coded.{IsCodedToTheEnd};
 ghost use Rattle.jxlm_samples.specs.Decode.{Standing, Fails};
 ghost use Rattle.jxlm_samples.specs.Part as part;
 ghost use Rattle.jxlm_samples.specs.Token.{EachHasToken};
 
-use jxlm_base::decoder::Decoder;
+use jxlm_bits::decoder::Decoder;
 
 /// The next sample of a part sees the samples before it in its own channel, and the earlier channels whole.
 pub fn each_sample_sees_what_is_before()

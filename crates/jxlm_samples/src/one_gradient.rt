@@ -3,7 +3,7 @@
 //! Tokens are read a stretch of the row at a time, and then the stretch is made of them and of the row above.
 
 ghost use Rattle.std.specs.Prelude.{◌≡◌, ◌+◌, ◌<◌, ◌≤◌, map, length, Contains, false, if◌then◌else◌};
-ghost use Rattle.jxlm_base.specs.Bits.{bytes_of};
+ghost use Rattle.jxlm_bits.specs.Bits.{bytes_of};
 ghost use Rattle.jxlm_tree.specs.declared.flat.Leaf.{Leaf};
 ghost use Rattle.jxlm_samples.specs.Coded.{sample_of};
 ghost use Rattle.jxlm_samples.specs.Inner.Paths.{AreLeft, IsPlain, gradient_in, gradient_rule};
@@ -13,7 +13,7 @@ ghost use Rattle.jxlm_samples.specs.declared.gradient.Leaves.TheVariants.{One};
 use crate::above::sample_above;
 use crate::rows::{RowError, STRETCH};
 use crate::source::Source;
-use jxlm_base::decoder::Decoder;
+use jxlm_bits::decoder::Decoder;
 use jxlm_base::sample::{Sample, Sealed};
 use jxlm_tree::flat::Leaf;
 

@@ -1,7 +1,7 @@
 //! What tokens are taken from, and what the decoding of a part changes beside its store.
 
-use jxlm_base::bits::Bitstream;
-use jxlm_base::decoder::Decoder;
+use jxlm_bits::bits::Bitstream;
+use jxlm_bits::decoder::Decoder;
 use jxlm_tree::flat::Steps;
 use jxlm_predictor::predictor::PredictorState;
 

@@ -4,7 +4,7 @@
 //! row is filled.
 
 ghost use Rattle.std.specs.Prelude.{◌≡◌, ◌+◌, ◌≤◌, pos, true, map, length, replicate, Contains};
-ghost use Rattle.jxlm_base.specs.Bits.{bytes_of};
+ghost use Rattle.jxlm_bits.specs.Bits.{bytes_of};
 ghost use Rattle.jxlm_tree.specs.FlatTree.{HasMultiplier};
 ghost use Rattle.jxlm_samples.specs.Coded.{sample_of};
 ghost use Rattle.jxlm_samples.specs.Inner.Paths.{IsPlain, zero_rule};
@@ -13,7 +13,7 @@ ghost use Rattle.jxlm_samples.specs.Inner.Rows.{MakesCells, ReadsRow, StretchGiv
 use crate::cell::sample_from;
 use crate::rows::{RowError, STRETCH};
 use crate::source::Source;
-use jxlm_base::decoder::Decoder;
+use jxlm_bits::decoder::Decoder;
 use jxlm_base::sample::{Sample, Sealed};
 use jxlm_tree::flat::Leaf;
 

@@ -3,8 +3,8 @@ use Rattle.std.proofs.Common.{◌≡◌, ℕ, zero, suc, ◌≤◌, Bool, true, 
 use Rattle.std.specs.Prelude.{◌==◌, MatchBool}
 use Rattle.std.specs.List.{All}
 use Rattle.std.proofs.lemmas.List.Elements.{All-nil, All-cons, All-head, All-tail, All-append}
-use Rattle.jxlm_base.specs.ErrorKind.{ErrorKind}
-use Rattle.jxlm_base.specs.Grammar.{repeated}
+use Rattle.jxlm_bits.specs.ErrorKind.{ErrorKind}
+use Rattle.jxlm_bits.specs.Grammar.{repeated}
 use Rattle.jxlm_predictor.specs.declared.predictor.WpHeader.{WpHeader}
 use Rattle.jxlm_transform.specs.Channels.{ChannelList, tables_for}
 use Rattle.jxlm_transform.specs.ChannelSteps.{CodedList, Step, RctStep, PaletteStep, SqueezeStep, coded_list, list_after_all, steps_of, steps_of_squeeze}

@@ -5,13 +5,13 @@ use Rattle.std.specs.List.{All}
 use Rattle.std.specs.Option.{option_copied}
 use Rattle.std.specs.Prelude.{IsFalse}
 use Rattle.std.proofs.lemmas.List.Elements.{All-cons, All-map}
-use Rattle.jxlm_base.specs.Bits.{bytes_of, position_of}
-use Rattle.jxlm_base.specs.Decoding.{Meaning}
-use Rattle.jxlm_base.specs.ErrorKind.{BadSqueeze, Eof, ErrorKind, UnlessMemory, kind_of}
-use Rattle.jxlm_base.specs.Grammar.{IsErrorAt}
+use Rattle.jxlm_bits.specs.Bits.{bytes_of, position_of}
+use Rattle.jxlm_bits.specs.Decoding.{Meaning}
+use Rattle.jxlm_bits.specs.ErrorKind.{BadSqueeze, Eof, ErrorKind, UnlessMemory, kind_of}
+use Rattle.jxlm_bits.specs.Grammar.{IsErrorAt}
 use Rattle.jxlm_base.specs.Grid.{Grid}
-use Rattle.jxlm_base.specs.declared.bits.Bitstream.{Bitstream}
-use Rattle.jxlm_base.specs.declared.error.Error.{Error}
+use Rattle.jxlm_bits.specs.declared.bits.Bitstream.{Bitstream}
+use Rattle.jxlm_bits.specs.declared.error.Error.{Error}
 use Rattle.jxlm_tree.proofs.Memory.{always_so, unless_so}
 use Rattle.jxlm_transform.proofs.Failures.{unless_memory}
 use Rattle.jxlm_chain.specs.Chain.{Chain}

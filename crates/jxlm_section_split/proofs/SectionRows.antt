@@ -8,7 +8,7 @@ use Rattle.std.proofs.lemmas.List.Elements.{All-append}
 use Rattle.std.proofs.lemmas.List.FromFn.{filter_of_map_range_with_len_more}
 use Rattle.std.proofs.lemmas.Bool.Decides.{nat_tests}
 use Rattle.std.proofs.lemmas.Nat.{le_bytes_4, from_le_bytes-to_le_bytes_4}
-use Rattle.jxlm_base.specs.Bits.{bytes_of}
+use Rattle.jxlm_bits.specs.Bits.{bytes_of}
 use Rattle.jxlm_groups.specs.Counts.{group_count}
 use Rattle.jxlm_groups.specs.declared.part.Kind.TheVariants as kinds
 use Rattle.jxlm_groups.specs.declared.part.SectionPart.{SectionPart}
@@ -18,8 +18,8 @@ use Rattle.jxl_modular.specs.declared.sections.Section.{Section}
 use Rattle.jxlm_section_split.specs.CutPicture.{AreNumbered, StandBefore, groups_in_order, in_a_row, lf_groups, one_pass, pass_groups, with_length, with_samples}
 use Rattle.std.specs.Prelude.{IsFalse}
 use Rattle.std.proofs.lemmas.List.{length-map}
-use Rattle.jxlm_base.specs.ErrorKind.{BadSqueeze, Eof, kind_of}
-use Rattle.jxlm_base.specs.declared.error.Error.{Error}
+use Rattle.jxlm_bits.specs.ErrorKind.{BadSqueeze, Eof, kind_of}
+use Rattle.jxlm_bits.specs.declared.error.Error.{Error}
 use Rattle.jxlm_groups.specs.Cutting.{can_cut}
 use Rattle.jxlm_transform.proofs.Failures.{unless_so}
 use Rattle.jxlm_section_split.specs.CutErrors.{EndsEarly, IsSplit, IsTruncated}

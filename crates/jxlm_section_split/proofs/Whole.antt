@@ -4,8 +4,8 @@ use Rattle.std.specs.Prelude.{MatchBool, Option}
 use Rattle.std.specs.Int.{Width}
 use Rattle.std.specs.List.{All}
 use Rattle.std.proofs.lemmas.List.Elements.{All-cons, All-nil}
-use Rattle.jxlm_base.specs.Bits.{bytes_of, position_of}
-use Rattle.jxlm_base.specs.Decoding.{Meaning}
+use Rattle.jxlm_bits.specs.Bits.{bytes_of, position_of}
+use Rattle.jxlm_bits.specs.Decoding.{Meaning}
 use Rattle.jxlm_base.specs.Grid.{Grid}
 use Rattle.jxlm_tree.specs.Tree.{Config}
 use Rattle.jxlm_groups.specs.declared.pass.Pass.{Pass}

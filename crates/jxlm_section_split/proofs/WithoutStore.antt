@@ -3,8 +3,8 @@ use Rattle.std.proofs.Common.{ℕ, pos, ℤ, Bool, true, false, List, [], ◌∷
 use Rattle.std.specs.Prelude.{MatchBool, Option}
 use Rattle.std.specs.Int.{Width}
 use Rattle.std.specs.List.{AllZip}
-use Rattle.jxlm_base.specs.Bits.{bytes_of, position_of}
-use Rattle.jxlm_base.specs.Decoding.{Meaning}
+use Rattle.jxlm_bits.specs.Bits.{bytes_of, position_of}
+use Rattle.jxlm_bits.specs.Decoding.{Meaning}
 use Rattle.jxlm_base.specs.Grid.{Grid}
 use Rattle.jxlm_base.specs.Regions.{grid_of}
 use Rattle.jxlm_tree.specs.Tree.{Config}

@@ -1,12 +1,12 @@
 -- How reading a picture that is cut into sections fails (ISO/IEC 18181-1, frame: sections).
 use Rattle.std.specs.Prelude.{Bool, ◌≡◌, ◌⊎◌, ℕ, ◌<◌, ◌^◌, ℤ, List, ◌∷◌, ◌++◌, length, map, IsFalse, IsTrue, None}
 use Rattle.std.specs.Int.{Width}
-use Rattle.jxlm_base.specs.Bits.{bytes_of, position_of}
-use Rattle.jxlm_base.specs.Decoding.{Meaning}
-use Rattle.jxlm_base.specs.ErrorKind.{BadSqueeze, Eof, ErrorKind, kind_of}
-use Rattle.jxlm_base.specs.Grammar.{IsErrorAt}
+use Rattle.jxlm_bits.specs.Bits.{bytes_of, position_of}
+use Rattle.jxlm_bits.specs.Decoding.{Meaning}
+use Rattle.jxlm_bits.specs.ErrorKind.{BadSqueeze, Eof, ErrorKind, kind_of}
+use Rattle.jxlm_bits.specs.Grammar.{IsErrorAt}
 use Rattle.jxlm_base.specs.Grid.{Grid}
-use Rattle.jxlm_base.specs.declared.error.Error.{Error}
+use Rattle.jxlm_bits.specs.declared.error.Error.{Error}
 use Rattle.jxlm_transform.specs.Channels.{ChannelList}
 use Rattle.jxlm_groups.specs.Cutting.{can_cut}
 use Rattle.jxlm_groups.specs.declared.part.SectionPart.TheVariants as parts

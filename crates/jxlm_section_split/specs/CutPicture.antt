@@ -2,8 +2,8 @@
 use Rattle.std.specs.Prelude.{Bool, ◌≡◌, ℕ, ◌%◌, ◌^◌, ◌<◌, ℤ, pos, List, [], ◌∷◌, ◌++◌, length, map, slice_index_or, nat_lt, IsTrue, None}
 use Rattle.std.specs.Int.{Width, w32, to_le_bytes}
 use Rattle.std.specs.List.{All, filter, flat_map, range_with_len}
-use Rattle.jxlm_base.specs.Bits.{bytes_of, position_of}
-use Rattle.jxlm_base.specs.Decoding.{Meaning}
+use Rattle.jxlm_bits.specs.Bits.{bytes_of, position_of}
+use Rattle.jxlm_bits.specs.Decoding.{Meaning}
 use Rattle.jxlm_base.specs.Grid.{Grid}
 use Rattle.jxlm_transform.specs.Channels.{ChannelList}
 use Rattle.jxlm_groups.specs.Counts.{group_count}

@@ -1,9 +1,9 @@
 -- What splitting the bytes of an image into its sections gives (ISO/IEC 18181-1, frame: sections).
 use Rattle.std.specs.Prelude.{◌≡◌, ℕ, ◌+◌, ◌%◌, ◌^◌, ◌<◌, List, [], ◌∷◌, ◌++◌, length, map, slice_index_or, true, false, ◌⊎◌, IsFalse, IsTrue}
-use Rattle.jxlm_base.specs.Bits.{position_of}
-use Rattle.jxlm_base.specs.ErrorKind.{BadSqueeze, Eof, UnlessNoMemory, kind_of}
-use Rattle.jxlm_base.specs.declared.bits.Bitstream.{Bitstream}
-use Rattle.jxlm_base.specs.declared.error.Error.{Error}
+use Rattle.jxlm_bits.specs.Bits.{position_of}
+use Rattle.jxlm_bits.specs.ErrorKind.{BadSqueeze, Eof, UnlessNoMemory, kind_of}
+use Rattle.jxlm_bits.specs.declared.bits.Bitstream.{Bitstream}
+use Rattle.jxlm_bits.specs.declared.error.Error.{Error}
 use Rattle.jxlm_groups.specs.Cutting.{can_cut}
 use Rattle.jxlm_groups.specs.declared.part.SectionPart.{SectionPart}
 use Rattle.jxlm_groups.specs.declared.part.SectionPart.TheVariants as parts

@@ -2,7 +2,7 @@
 
 ghost use Rattle.std.specs.Prelude.{◌≡◌, ◌↔◌, [], false, pos, None, Ok, IfOk, IfErr, IsTrue};
 ghost use Rattle.std.specs.Option.{IfSome, option_copied};
-ghost use Rattle.jxlm_base.specs.ErrorKind.{UnlessMemory, kind_of};
+ghost use Rattle.jxlm_bits.specs.ErrorKind.{UnlessMemory, kind_of};
 ghost use Rattle.jxlm_transform.specs.Channels.{AreGridsOf, image_list};
 ghost use Rattle.jxlm_transform.specs.Params.{IsValidParams};
 ghost use Rattle.jxlm_groups.specs.Passes.{one_picture, passes_of};
@@ -15,9 +15,9 @@ use crate::split::split_section;
 use jxl_modular::Modular;
 use jxl_modular::image::ModularImageDestination;
 use jxl_modular::sections::decode_sections;
-use jxlm_base::bits::Bitstream;
-use jxlm_base::decoder::Decoder;
-use jxlm_base::error::Result;
+use jxlm_bits::bits::Bitstream;
+use jxlm_bits::decoder::Decoder;
+use jxlm_bits::error::Result;
 use jxlm_base::grid::OutOfMemory;
 use jxlm_base::sample::Sample;
 use jxlm_tree::flat::Steps;

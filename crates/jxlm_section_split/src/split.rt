@@ -1,12 +1,12 @@
 //! Sections split off bytes.
 
 ghost use Rattle.std.specs.Prelude.{◌≡◌, MatchResult};
-ghost use Rattle.jxlm_base.specs.declared.bits.BitstreamError.{BitstreamError};
-ghost use Rattle.jxlm_base.specs.declared.error.Error.{Error};
+ghost use Rattle.jxlm_bits.specs.declared.bits.BitstreamError.{BitstreamError};
+ghost use Rattle.jxlm_bits.specs.declared.error.Error.{Error};
 ghost use Rattle.jxlm_section_split.specs.CutErrors.{IsSplit, IsTruncated};
 
-use jxlm_base::bits::BitstreamError;
-use jxlm_base::error::Error;
+use jxlm_bits::bits::BitstreamError;
+use jxlm_bits::error::Error;
 
 /// The bytes of the section at the start, which come after their number in four bytes, the least significant first, and
 /// the bytes after it.

@@ -1,6 +1,6 @@
 -- Channel lists of small images.
 use Rattle.std.specs.Prelude.{◌≡◌, refl, true, false, ℕ, List, [], ◌∷◌, map, None, Result, Ok, Err}
-use Rattle.jxlm_base.specs.ErrorKind.{ErrorKind, BadRct, BadPalette, BadSqueeze, ◌>>=◌}
+use Rattle.jxlm_bits.specs.ErrorKind.{ErrorKind, BadRct, BadPalette, BadSqueeze, ◌>>=◌}
 use Rattle.jxlm_predictor.specs.declared.predictor.Predictor.TheVariants.{Zero}
 use Rattle.jxlm_transform.specs.Channels.{Channel, image_channel}
 use Rattle.jxlm_transform.specs.ChannelSteps.{coded_list, default_squeeze, step_of_all}

@@ -1,7 +1,7 @@
 -- Applying transforms one after another, as a loop does.
 use Rattle.std.proofs.Common.{◌≡◌, List, [], ◌∷◌, ◌++◌, Result, Ok, Err, refl, sym, ap, ◌∙◌, append_assoc}
 use Rattle.std.proofs.lemmas.List.{append-nil}
-use Rattle.jxlm_base.specs.ErrorKind.{ErrorKind, ◌>>=◌}
+use Rattle.jxlm_bits.specs.ErrorKind.{ErrorKind, ◌>>=◌}
 use Rattle.jxlm_transform.specs.Channels.{ChannelList}
 use Rattle.jxlm_transform.specs.ChannelSteps.{CodedList, Step, steps_of, listed_steps, list_after_all, coded_list}
 use Rattle.jxlm_transform.specs.Transforms.{Transform}

@@ -1,9 +1,9 @@
 -- Facts of errors other than out of memory.
 use Rattle.std.proofs.Common.{◌≡◌, ℕ, List, Ok, Some, refl, false}
 use Rattle.std.specs.Prelude.{codes, ◌==◌}
-use Rattle.jxlm_base.specs.ErrorKind.{ErrorKind, Eof, BadEnum, BadProfile, BadTree, NoGlobalTree, BadRct, BadPalette, BadSqueeze, OfDecoder, NoMemory, UnlessMemory, UnlessNoMemory}
-use Rattle.jxlm_base.specs.Grammar.{IsErrorAt, number}
-use Rattle.jxlm_base.specs.declared.decoder.DecoderError.TheVariants as decoder
+use Rattle.jxlm_bits.specs.ErrorKind.{ErrorKind, Eof, BadEnum, BadProfile, BadTree, NoGlobalTree, BadRct, BadPalette, BadSqueeze, OfDecoder, NoMemory, UnlessMemory, UnlessNoMemory}
+use Rattle.jxlm_bits.specs.Grammar.{IsErrorAt, number}
+use Rattle.jxlm_bits.specs.declared.decoder.DecoderError.TheVariants as decoder
 use Rattle.jxlm_transform.specs.Transforms.{squeeze, transform_by}
 use Rattle.jxlm_transform.specs.declared.param.PaletteTables.{PaletteTables}
 use Rattle.jxlm_predictor.specs.declared.predictor.WpHeader.{WpHeader}

@@ -4,7 +4,7 @@ use Rattle.std.specs.Prelude.{◌&&◌, ◌||◌, if◌then◌else◌, nat_lt, I
 use Rattle.std.specs.List.{All, list_all, list_any}
 use Rattle.std.specs.Result.{is_ok}
 use Rattle.std.proofs.lemmas.List.{length-map, drop-map, take-map, get_or-map}
-use Rattle.jxlm_base.specs.ErrorKind.{BadPalette, BadSqueeze}
+use Rattle.jxlm_bits.specs.ErrorKind.{BadPalette, BadSqueeze}
 use Rattle.jxlm_transform.specs.Channels.{Channel, ChannelList, infos, regions}
 use Rattle.jxlm_transform.specs.ChannelSteps.{can_be_squeezed, has_range, keeps_meta, one_size, palette_step, range, squeeze_range, squeeze_step, with_halves}
 use Rattle.jxlm_transform.specs.Ends.{HasEnds}

@@ -1,9 +1,9 @@
 -- Reading fields of one kind one after another, as a loop does.
 use Rattle.std.proofs.Common.{◌≡◌, ℕ, suc, ◌-◌, ◌+◌, ◌≤◌, ◌<◌, List, [], ◌∷◌, ◌++◌, Result, Ok, Err, refl, sym, ap, ◌∙◌, append_assoc, arith}
 use Rattle.std.proofs.lemmas.List.{append-nil}
-use Rattle.jxlm_base.specs.Decoding.{Found}
-use Rattle.jxlm_base.specs.ErrorKind.{ErrorAt, ◌>>=◌}
-use Rattle.jxlm_base.specs.Grammar.{Grammar, repeated}
+use Rattle.jxlm_bits.specs.Decoding.{Found}
+use Rattle.jxlm_bits.specs.ErrorKind.{ErrorAt, ◌>>=◌}
+use Rattle.jxlm_bits.specs.Grammar.{Grammar, repeated}
 
 module _ {Y : Type 0} where
   -- what was read before, and what is still read

@@ -2,7 +2,7 @@
 use Rattle.std.proofs.Common.{◌≡◌, ℕ, ◌+◌, ◌-◌, Bool, true, false, if◌then◌else◌, List, [], ◌∷◌, ◌++◌, map, take, drop, Result, Ok, Err, refl, subst, arith}
 use Rattle.std.proofs.lemmas.List.Elements.{All-nil, All-cons, All-head, All-tail, All-append, All-take, All-drop, All-map, All-weaker}
 use Rattle.std.specs.List.{All}
-use Rattle.jxlm_base.specs.ErrorKind.{ErrorKind, BadRct, BadPalette, BadSqueeze, ◌>>=◌}
+use Rattle.jxlm_bits.specs.ErrorKind.{ErrorKind, BadRct, BadPalette, BadSqueeze, ◌>>=◌}
 use Rattle.jxlm_transform.proofs.ImageChannels.{IsWithinLimits, All-image_list}
 use Rattle.jxlm_transform.specs.Channels.{Channel, ChannelList, IsNarrow, image_list}
 use Rattle.jxlm_transform.specs.ChannelSteps.{CodedList, Step, RctStep, PaletteStep, SqueezeStep, average_channel, coded_list, list_after, list_after_all, range, residual_channel, steps_of, steps_of_squeeze, table_channel, with_halves, with_range}

@@ -8,7 +8,7 @@ use Rattle.std.proofs.lemmas.Grind.{div_ceil_times}
 use Rattle.std.proofs.lemmas.List.Elements.{All-nil, All-cons, All-head, All-tail}
 use Rattle.std.proofs.lemmas.List.Sums.{sum_by-cons}
 use borrow.Author.Tests.{ltb-true, ltb-false}
-use Rattle.jxlm_base.specs.ErrorKind.{ErrorKind, BadSqueeze}
+use Rattle.jxlm_bits.specs.ErrorKind.{ErrorKind, BadSqueeze}
 use Rattle.jxlm_transform.proofs.Halvings.{more, none}
 use Rattle.jxlm_transform.proofs.SideBounds.{came}
 use Rattle.jxlm_transform.specs.Channels.{Channel, ChannelList}

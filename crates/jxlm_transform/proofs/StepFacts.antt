@@ -1,7 +1,7 @@
 -- What a step without an error says of the list before it, and of the one after it.
 use Rattle.std.proofs.Common.{◌≡◌, ℕ, ◌+◌, ◌≤◌, Bool, true, false, ◌-◌, not, ◌&&◌, ◌||◌, nat_lt, nat_le, if◌then◌else◌, List, [], ◌∷◌, ◌++◌, length, map, take, drop, Result, Ok, Err, refl, leb-true}
 use Rattle.std.specs.List.{list_all}
-use Rattle.jxlm_base.specs.ErrorKind.{ErrorKind, BadRct, BadPalette, BadSqueeze, ◌>>=◌}
+use Rattle.jxlm_bits.specs.ErrorKind.{ErrorKind, BadRct, BadPalette, BadSqueeze, ◌>>=◌}
 use Rattle.jxlm_transform.specs.Channels.{Channel, ChannelList}
 use Rattle.jxlm_transform.specs.ChannelSteps.{Step, RctStep, PaletteStep, SqueezeStep, average_channel, can_be_squeezed, has_range, keeps_meta, list_after, list_after_all, one_size, range, residual_channel, squeeze_range, table_channel, with_halves}
 use Rattle.jxlm_transform.specs.declared.transform.Rct.{Rct}

@@ -1,9 +1,9 @@
 -- Transforms are read exactly.
 use Rattle.std.specs.Prelude.{Result, Ok, Err, ok_or, slice_get, codes}
-use Rattle.jxlm_base.specs.ErrorKind.{ErrorKind, BadEnum}
-use Rattle.jxlm_base.specs.Grammar.{Grammar, IsExact, ◌>>=◌}
-use Rattle.jxlm_base.specs.declared.bits.U32Spec.TheVariants.{Const, Offset}
-use Rattle.jxlm_base.proofs.GrammarLaws.{exact-give, exact-fail, exact-number, exact-bind, exact-either, exact-repeated, exact-flag, exact-u32}
+use Rattle.jxlm_bits.specs.ErrorKind.{ErrorKind, BadEnum}
+use Rattle.jxlm_bits.specs.Grammar.{Grammar, IsExact, ◌>>=◌}
+use Rattle.jxlm_bits.specs.declared.bits.U32Spec.TheVariants.{Const, Offset}
+use Rattle.jxlm_bits.proofs.GrammarLaws.{exact-give, exact-fail, exact-number, exact-bind, exact-either, exact-repeated, exact-flag, exact-u32}
 use Rattle.jxlm_predictor.specs.Predictions.{predictors}
 use Rattle.jxlm_predictor.specs.declared.predictor.WpHeader.{WpHeader}
 use Rattle.jxlm_transform.specs.Params.{columns}

@@ -2,7 +2,7 @@
 
 ghost use Rattle.std.specs.Prelude.{◌≡◌, ◌≤ℤ◌, pos, IsTrue, IfOk, IfErr, map};
 ghost use Rattle.std.specs.List.{All, list_any};
-ghost use Rattle.jxlm_base.specs.ErrorKind.{NoMemory, kind_of};
+ghost use Rattle.jxlm_bits.specs.ErrorKind.{NoMemory, kind_of};
 ghost use Rattle.jxlm_base.specs.Regions.{region};
 ghost use Rattle.jxlm_lanes.specs.Squeeze.{averages as the_averages};
 ghost use Rattle.jxlm_transform.specs.ChannelSteps.{has_size_of, table_channel, average_channel, residual_channel, can_be_squeezed, grown as the_grown};
@@ -12,7 +12,7 @@ ghost use Rattle.jxlm_transform.specs.Params.{IsValidChannel, has_deltas};
 ghost use Rattle.jxlm_transform.specs.SqueezedRegions.{average_region, residual_region};
 
 use crate::param::{ChannelShift, GradientSums, ModularChannelParams, PaletteTables};
-use jxlm_base::error::Result;
+use jxlm_bits::error::Result;
 use jxlm_base::grid::{OutOfMemory, Region};
 use std::alloc::Global;
 

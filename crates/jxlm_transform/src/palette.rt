@@ -2,7 +2,7 @@
 
 ghost use Rattle.std.specs.Prelude.{◌≡◌, ◌+◌, ◌-◌, ◌*◌, ◌/◌, ◌%◌, ◌^◌, ◌<◌, ◌≤◌, ◌↔◌, IsTrue, ℕ, ℤ, pos, ◌+ℤ◌, if◌then◌else◌, unsigned_abs, List, [], ◌∷◌, ◌++◌, get_or, length, take, drop, map, min, FitsSigned, IfOk, IfErr};
 ghost use Rattle.std.specs.Option.{ForSome};
-ghost use Rattle.jxlm_base.specs.ErrorKind.{NoMemory, kind_of};
+ghost use Rattle.jxlm_bits.specs.ErrorKind.{NoMemory, kind_of};
 ghost use Rattle.jxlm_predictor.specs.Holding.{IsCurrent};
 ghost use Rattle.jxlm_predictor.specs.SelfCorrecting.{IsHeader};
 ghost use Rattle.std.specs.Int.{int_wrap, w32};
@@ -15,7 +15,7 @@ ghost use Rattle.jxlm_transform.specs.Palette.{colour_of, deltas, difference, im
 ghost use Rattle.jxlm_transform.specs.Inner.PaletteSteps.{ChannelLies, ChannelsDone, channel_at, columns_of, FillsOn, FillsOnBy, AreSimple, IsSimple, IsSimpleIndex, IsSimpleRow, SetsNext, StandsBefore, StandsNext, index_in, kept, number_of, table_in};
 
 use crate::transform::Palette;
-use jxlm_base::error::Result;
+use jxlm_bits::error::Result;
 use jxlm_base::grid::{AlignedGrid, Region};
 use jxlm_base::region::{region_get, region_row, region_set};
 use jxlm_base::sample::Sample;

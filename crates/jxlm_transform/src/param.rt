@@ -5,10 +5,10 @@ ghost use Rattle.std.specs.Int.{div_ceil};
 ghost use Rattle.std.specs.List.{All, list_any};
 ghost use Rattle.jxlm_transform.specs.Shifts.{IsValidShift, shift_size, jpeg_shift, hshift, vshift, IsShift, upsampled_side as the_upsampled_side};
 ghost use Rattle.jxlm_transform.specs.Params.{IsSide, IsValidChannel, IsGroupDim, IsValidParams, OneSizeIsValid, OneSizeOfImageIsValid, PowersAreGroupDims, are_clamped, columns, has_deltas, params_of, sized, with_sums, with_tables};
-ghost use Rattle.jxlm_base.specs.ErrorKind.{NoMemory, kind_of};
+ghost use Rattle.jxlm_bits.specs.ErrorKind.{NoMemory, kind_of};
 
-use jxlm_base::decoder::Decoder;
-use jxlm_base::error::Result;
+use jxlm_bits::decoder::Decoder;
+use jxlm_bits::error::Result;
 use jxlm_tree::ma::MaConfig;
 use std::alloc::Global;
 
@@ -340,7 +340,7 @@ impl<'a, D: Decoder> ModularParams<'a, D> {
     ///
     /// # Errors
     ///
-    /// [`Error::Buffer`](jxlm_base::error::Error) if it is out of memory, and no other.
+    /// [`Error::Buffer`](jxlm_bits::error::Error) if it is out of memory, and no other.
     pub fn new(
         alloc: Global,
         width: u32,

@@ -2,14 +2,14 @@
 
 ghost use Rattle.std.specs.Prelude.{◌≡◌, ◌+◌, ◌*◌, ◌<◌, ◌≤◌, length, map, get_or, IfOk, IfErr, OnOk, OnErr};
 ghost use Rattle.jxlm_lanes.specs.Colour.{permuted, triple_at};
-ghost use Rattle.jxlm_base.specs.ErrorKind.{NoMemory, kind_of};
+ghost use Rattle.jxlm_bits.specs.ErrorKind.{NoMemory, kind_of};
 ghost use Rattle.jxlm_base.specs.Outside.{KeepsOutside};
 ghost use Rattle.jxlm_base.specs.Regions.{AllLie, LieApart, region, store_meanings};
 ghost use Rattle.jxlm_transform.specs.ColourRows.{HasRoom, KeepsRoom};
 ghost use Rattle.jxlm_transform.specs.Inner.ColourRows.{AreThree, PutsRow, FinishesRow, FinishedUntil};
 ghost use Rattle.jxlm_transform.specs.Recoloured.{HaveOneSize, UndoesColour};
 
-use jxlm_base::error;
+use jxlm_bits::error;
 use jxlm_base::grid::{AlignedGrid, OutOfMemory, Region};
 use jxlm_base::region::{region_row, region_set_row};
 use jxlm_base::sample::{Sample, Sealed};

@@ -1,14 +1,14 @@
 //! Squeeze steps, inverse-transformed (ISO/IEC 18181-1, Modular: squeeze).
 
 ghost use Rattle.std.specs.Prelude.{◌≡◌, ◌+◌, ◌≤◌, [], ◌∷◌, length, max, IfOk, IfErr};
-ghost use Rattle.jxlm_base.specs.ErrorKind.{NoMemory, kind_of};
+ghost use Rattle.jxlm_bits.specs.ErrorKind.{NoMemory, kind_of};
 ghost use Rattle.jxlm_base.specs.Outside.{KeepsOutside as KeepsOutsideRegions};
 ghost use Rattle.jxlm_base.specs.Regions.{Lies, store_meanings};
 ghost use Rattle.jxlm_base.specs.SqueezedGrids.{AreGridSamples, squeezed_rows, squeezed_columns};
 ghost use Rattle.jxlm_base.specs.Subgrid.{whole, KeepsOutside, numbers_in};
 ghost use Rattle.jxlm_transform.specs.SqueezedRegions.{UndoesSqueeze};
 
-use jxlm_base::error::Result;
+use jxlm_bits::error::Result;
 use jxlm_base::grid::{AlignedGrid, MutableSubgrid, Region};
 use jxlm_base::sample::Sample;
 use std::alloc::Global;

@@ -2,8 +2,8 @@
 
 ghost use Rattle.std.specs.Prelude.{◌≡◌, ◌≤◌, ◌↔◌, ◌⊎◌, length, IsTrue, IfOk, None, Some};
 ghost use Rattle.std.specs.List.{All};
-ghost use Rattle.jxlm_base.specs.Bits.{bytes_of, position_of};
-ghost use Rattle.jxlm_base.specs.Grammar.{FitsU32, IsExact, Reads, number, repeated, u32 as the_u32};
+ghost use Rattle.jxlm_bits.specs.Bits.{bytes_of, position_of};
+ghost use Rattle.jxlm_bits.specs.Grammar.{FitsU32, IsExact, Reads, number, repeated, u32 as the_u32};
 ghost use Rattle.jxlm_predictor.specs.WeightsHeader.{GivesExactly};
 ghost use Rattle.jxlm_transform.specs.DefaultSqueeze.{LeavesSmallSides, TakesFewestSteps};
 ghost use Rattle.jxlm_transform.specs.Inner.FieldRanges.{min_of, max_of};
@@ -15,8 +15,8 @@ mod lists;
 mod steps;
 
 use crate::param::PaletteTables;
-use jxlm_base::bits::{Bitstream, BitstreamError, U32Spec};
-use jxlm_base::error::{Error, Result};
+use jxlm_bits::bits::{Bitstream, BitstreamError, U32Spec};
+use jxlm_bits::error::{Error, Result};
 use jxlm_predictor::predictor::{Predictor, WpHeader};
 use std::alloc::Global;
 

@@ -1,8 +1,8 @@
 -- Nodes that are read one after another: what was read before comes before what is still read.
 use Rattle.std.proofs.Common.{◌≡◌, ℕ, zero, suc, ◌+◌, ◌-◌, ◌<◌, ◌≤◌, List, [], ◌∷◌, ◌++◌, Some, Result, Ok, Err, refl, sym, ap, ◌∙◌, arith, append_assoc, append-nil}
-use Rattle.jxlm_base.specs.Decoding.{Meaning}
-use Rattle.jxlm_base.specs.Decoding.{Taken}
-use Rattle.jxlm_base.specs.ErrorKind.{ErrorKind, ErrorAt, ◌>>=◌}
+use Rattle.jxlm_bits.specs.Decoding.{Meaning}
+use Rattle.jxlm_bits.specs.Decoding.{Taken}
+use Rattle.jxlm_bits.specs.ErrorKind.{ErrorKind, ErrorAt, ◌>>=◌}
 use Rattle.jxlm_tree.specs.Inner.DraftReading.{AllDrafts, IsDraftNode}
 use Rattle.jxlm_tree.specs.Tree.{Node, leaf_node, decision_node}
 use Rattle.jxlm_tree.specs.TreeReading.{children, node_at, nodes_at}

@@ -1,7 +1,7 @@
 -- A queue of trees: what is in it, and how deep that is.
 use Rattle.std.proofs.Common.{◌≡◌, ℕ, ◌<◌, ◌≤◌, max, ℤ, List, [], ◌∷◌, ◌++◌, Option, None, Some, refl, subst, arith, map}
 use Rattle.std.specs.Option.{option_and_then}
-use Rattle.jxlm_base.specs.ErrorKind.{ErrorKind}
+use Rattle.jxlm_bits.specs.ErrorKind.{ErrorKind}
 use Rattle.jxlm_tree.specs.Inner.Queue.{HasTooDeep, IsTooDeepAt, IsErrorInQueue, deepest, taken_up, too_deep}
 use Rattle.jxlm_tree.specs.Tree.{Shape, leaf, decision, Node, leaf_node, decision_node, depth}
 use Rattle.jxlm_tree.proofs.Listing.{queue_of}

@@ -1,9 +1,9 @@
 -- What is read as a listing is the listing of exactly one tree.
 use Rattle.std.proofs.Common.{◌≡◌, ℕ, zero, suc, ◌+◌, List, [], ◌∷◌, ◌++◌, None, Some, Result, Ok, Err, Bool, true, false, cond, refl, sym, ap, ◌∙◌, subst, arith, length, take, drop, ◌⊎◌, inr}
 use Rattle.std.proofs.lemmas.List.{take-append-drop, length-take-le, length-append}
-use Rattle.jxlm_base.specs.Decoding.{Found, Meaning, Taken}
-use Rattle.jxlm_base.specs.ErrorKind.{ErrorKind, ErrorAt, UnlessMemory, ◌>>=◌}
-use Rattle.jxlm_base.specs.Grammar.{IsErrorAt}
+use Rattle.jxlm_bits.specs.Decoding.{Found, Meaning, Taken}
+use Rattle.jxlm_bits.specs.ErrorKind.{ErrorKind, ErrorAt, UnlessMemory, ◌>>=◌}
+use Rattle.jxlm_bits.specs.Grammar.{IsErrorAt}
 use Rattle.jxlm_tree.specs.Inner.DraftReading.{ListsTrees, is_endless}
 use Rattle.jxlm_tree.specs.Tree.{Shape, leaf, decision, Node, Config, leaf_node, decision_node, config_of, levels}
 use Rattle.jxlm_tree.specs.Inner.Queue.{IsTooDeepListing, ListsTooDeep}

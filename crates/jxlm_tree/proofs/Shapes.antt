@@ -3,7 +3,7 @@ use Rattle.std.proofs.Common.{false, true, append_assoc, ◌≡◌, ℕ, suc, �
 use Rattle.std.specs.Prelude.{slice_index}
 use Rattle.std.specs.Option.{option_and_then}
 use Rattle.std.proofs.lemmas.List.Elements.{Contains-get_or}
-use Rattle.jxlm_base.specs.ErrorKind.{ErrorKind}
+use Rattle.jxlm_bits.specs.ErrorKind.{ErrorKind}
 use Rattle.jxlm_tree.specs.Inner.Building.{leaves_in}
 use Rattle.jxlm_tree.specs.Inner.DraftReading.{AllDrafts, IsDraft}
 use Rattle.jxlm_tree.specs.Inner.Queue.{HasTooDeep, IsErrorInQueue, IsTooDeepListing, ListsTooDeep, deepest, taken_up}

@@ -1,11 +1,11 @@
 -- What a step returns, where a call in it failed.
 use Rattle.std.proofs.Common.{◌≡◌, ◌∙◌, ℕ, List, Some, Result, Ok, Err, ap, sym}
 use Rattle.std.specs.Result.{IfOk, IsErr, IsErrAnd}
-use Rattle.jxlm_base.specs.Bits.{bytes_of, position_of}
-use Rattle.jxlm_base.specs.Decoding.{Taken}
-use Rattle.jxlm_base.specs.ErrorKind.{ErrorAt, kind_of}
-use Rattle.jxlm_base.specs.declared.bits.Bitstream.{Bitstream}
-use Rattle.jxlm_base.specs.declared.error.Error.{Error}
+use Rattle.jxlm_bits.specs.Bits.{bytes_of, position_of}
+use Rattle.jxlm_bits.specs.Decoding.{Taken}
+use Rattle.jxlm_bits.specs.ErrorKind.{ErrorAt, kind_of}
+use Rattle.jxlm_bits.specs.declared.bits.Bitstream.{Bitstream}
+use Rattle.jxlm_bits.specs.declared.error.Error.{Error}
 use Rattle.jxlm_tree.specs.Inner.DraftReading.{StepGives}
 
 -- the error of the call is the step's own

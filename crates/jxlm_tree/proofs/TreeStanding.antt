@@ -7,9 +7,9 @@ use Rattle.std.proofs.lemmas.List.Elements.{Contains-get_or}
 use Rattle.std.proofs.Math.ListN.{drop_of_length-le}
 use Rattle.std.proofs.Math.Nat.{lt_of_mul-lt-mul_right}
 use Rattle.std.proofs.Math.Seq.{drop-cons}
-use Rattle.jxlm_base.specs.Decoding.{Found, IsLawful, Keeps, Meaning, Taken}
-use Rattle.jxlm_base.specs.ErrorKind.{ErrorKind, BadEnum, ErrorAt, ◌>>=◌}
-use Rattle.jxlm_base.specs.declared.decoder.DecoderError.{DecoderError}
+use Rattle.jxlm_bits.specs.Decoding.{Found, IsLawful, Keeps, Meaning, Taken}
+use Rattle.jxlm_bits.specs.ErrorKind.{ErrorKind, BadEnum, ErrorAt, ◌>>=◌}
+use Rattle.jxlm_bits.specs.declared.decoder.DecoderError.{DecoderError}
 use Rattle.jxlm_tree.specs.Inner.DraftReading.{ListsTrees, is_endless}
 use Rattle.jxlm_predictor.specs.Predictions.{predictors}
 use Rattle.jxlm_tree.specs.Tree.{Shape, leaf, decision, Node, Config, config_of, leaf_node, decision_node, levels, node_count}

@@ -1,11 +1,11 @@
 -- What reading a sample by a tree returns.
 use Rattle.std.specs.Prelude.{◌≡◌, ℕ, ℤ, Result, Ok, Err}
-use Rattle.jxlm_base.specs.Bits.{bytes_of, position_of}
-use Rattle.jxlm_base.specs.Decoding.{Meaning, Taken}
-use Rattle.jxlm_base.specs.declared.bits.Bitstream.{Bitstream}
-use Rattle.jxlm_base.specs.declared.decoder.DecoderError.{DecoderError}
-use Rattle.jxlm_base.specs.declared.error.Error.{Error}
-use Rattle.jxlm_base.specs.declared.error.Error.TheVariants.{Decoder}
+use Rattle.jxlm_bits.specs.Bits.{bytes_of, position_of}
+use Rattle.jxlm_bits.specs.Decoding.{Meaning, Taken}
+use Rattle.jxlm_bits.specs.declared.bits.Bitstream.{Bitstream}
+use Rattle.jxlm_bits.specs.declared.decoder.DecoderError.{DecoderError}
+use Rattle.jxlm_bits.specs.declared.error.Error.{Error}
+use Rattle.jxlm_bits.specs.declared.error.Error.TheVariants.{Decoder}
 use Rattle.jxlm_tree.specs.FlatTree.{residual_of}
 use Rattle.jxlm_tree.specs.declared.flat.Leaf.{Leaf}
 use Rattle.jxlm_predictor.specs.declared.predictor.Predictor.{Predictor}

@@ -1,7 +1,7 @@
 -- A tree as the samples of one channel walk it (ISO/IEC 18181-1, Modular: meta-adaptive trees, properties).
 use Rattle.std.specs.Prelude.{◌≡◌, ◌≢◌, ◌⊎◌, ℕ, ◌+◌, ◌-◌, ◌*◌, ◌/◌, ◌<◌, ◌^◌, ◌≤◌, ◌==◌, ◌||◌, nat_lt, if◌then◌else◌, ℤ, pos, ◌+ℤ◌, ◌*ℤ◌, Bool, true, false, List, Contains}
 use Rattle.std.specs.Int.{w32, int_wrap}
-use Rattle.jxlm_base.specs.Numbers.{unpack}
+use Rattle.jxlm_bits.specs.Numbers.{unpack}
 use Rattle.jxlm_tree.specs.ShortTrees.{Fits}
 use Rattle.jxlm_tree.specs.Tree.{AllLeaves, Shape, leaf, decision, walk}
 use Rattle.jxlm_tree.specs.declared.flat.Leaf.{Leaf}

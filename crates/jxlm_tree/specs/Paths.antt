@@ -1,6 +1,6 @@
 -- How the samples of a channel are decoded, where that takes less than a walk of the tree.
 use Rattle.std.specs.Prelude.{◌≡◌, ℕ, ◌+◌, ◌≤◌, ℤ, pos, IsSome, None, true, false}
-use Rattle.jxlm_base.specs.Decoding.{Meaning}
+use Rattle.jxlm_bits.specs.Decoding.{Meaning}
 use Rattle.jxlm_tree.specs.ClusterTables.{Clusters, IsTableOf}
 use Rattle.jxlm_tree.specs.FlatTree.{FlatTree, HasMultiplier, leaf_reached}
 use Rattle.jxlm_tree.specs.Steps.{is_tabular, leftmost, most_steps}

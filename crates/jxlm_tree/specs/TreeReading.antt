@@ -2,12 +2,12 @@
 use Rattle.std.specs.Prelude.{◌≡◌, ℕ, zero, suc, ◌+◌, ◌-◌, ◌*◌, ◌^◌, ◌<◌, ◌≤◌, ◌⊎◌, min, nat_lt, if◌then◌else◌, FitsSigned, List, [], ◌∷◌, slice_get, slice_index, Contains, Option, None, Some, Result, Ok, Err, IsOk, codes, unwrap_or, ok_or}
 use Rattle.std.specs.Int.{w32}
 use Rattle.std.specs.Result.{result_map_both}
-use Rattle.jxlm_base.specs.Decoding.{Found, Taken, Meaning}
-use Rattle.jxlm_base.specs.ErrorKind.{ErrorKind, BadEnum, BadProfile, BadTree, NoMemory, OfDecoder, ErrorAt, kind_of, UnlessMemory, ◌>>=◌}
-use Rattle.jxlm_base.specs.Grammar.{IsErrorAt}
-use Rattle.jxlm_base.specs.Numbers.{unpack}
-use Rattle.jxlm_base.specs.declared.decoder.DecoderError.{DecoderError}
-use Rattle.jxlm_base.specs.declared.error.Error.{Error}
+use Rattle.jxlm_bits.specs.Decoding.{Found, Taken, Meaning}
+use Rattle.jxlm_bits.specs.ErrorKind.{ErrorKind, BadEnum, BadProfile, BadTree, NoMemory, OfDecoder, ErrorAt, kind_of, UnlessMemory, ◌>>=◌}
+use Rattle.jxlm_bits.specs.Grammar.{IsErrorAt}
+use Rattle.jxlm_bits.specs.Numbers.{unpack}
+use Rattle.jxlm_bits.specs.declared.decoder.DecoderError.{DecoderError}
+use Rattle.jxlm_bits.specs.declared.error.Error.{Error}
 use Rattle.jxlm_predictor.specs.Predictions.{predictors}
 use Rattle.jxlm_tree.specs.Tree.{Node, Config, leaf_node, decision_node, levels, depth}
 use Rattle.jxlm_tree.specs.declared.flat.Leaf.{Leaf}

@@ -1,7 +1,7 @@
 -- How a tree stands in the bits (ISO/IEC 18181-1, Modular: decoding of meta-adaptive trees): token after token, level by level.
 use Rattle.std.specs.Prelude.{◌≡◌, ℕ, suc, ◌+◌, ◌*◌, ◌^◌, ◌<◌, ◌≤◌, ◌↔◌, List, [], ◌∷◌, length, slice_get, slice_index, Some, Ok}
-use Rattle.jxlm_base.specs.Decoding.{Found, Meaning, Taken}
-use Rattle.jxlm_base.specs.Numbers.{unpack}
+use Rattle.jxlm_bits.specs.Decoding.{Found, Meaning, Taken}
+use Rattle.jxlm_bits.specs.Numbers.{unpack}
 use Rattle.jxlm_predictor.specs.Predictions.{predictors}
 use Rattle.jxlm_tree.specs.Tree.{Config, Node, Shape, leaf_node, decision_node, depth, levels, node_count}
 use Rattle.jxlm_tree.specs.TreeReading.{IsTreeAt, listing_at}

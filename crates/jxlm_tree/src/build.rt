@@ -1,7 +1,7 @@
 //! How a tree is put together from the end of its listing.
 
 ghost use Rattle.std.specs.Prelude.{◌≡◌, ◌+◌, ◌≤◌, ◌∷◌, List, length, map, IfOk, IfErr, IsSome, Some};
-ghost use Rattle.jxlm_base.specs.ErrorKind.{kind_of};
+ghost use Rattle.jxlm_bits.specs.ErrorKind.{kind_of};
 ghost use Rattle.jxlm_tree.specs.Inner.Building.{leaves_in, listed_of, listing_with, queue_with, trees_in};
 ghost use Rattle.jxlm_tree.specs.Inner.DraftReading.{AllDrafts, ListsTrees, node_of};
 ghost use Rattle.jxlm_tree.specs.Inner.Queue.{IsErrorInQueue, IsTooDeepListing, deepest};
@@ -13,7 +13,7 @@ ghost use Rattle.jxlm_tree.specs.declared.flat.Leaf.{Leaf};
 use crate::flat::Leaf;
 use crate::nodes::DraftNode;
 use crate::tree::MaTree;
-use jxlm_base::error::Result;
+use jxlm_bits::error::Result;
 use std::alloc::Global;
 use std::collections::VecDeque;
 

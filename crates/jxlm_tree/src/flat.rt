@@ -3,7 +3,7 @@
 ghost use Rattle.std.specs.Prelude.{◌≡◌, ◌≢◌, ◌≤◌, ◌<◌, ◌+◌, ◌^◌, ℕ, ℤ, pos, false, length, true, ◌/◌, ◌⊎◌, IfOk, IfErr, IfSome, None};
 ghost use Rattle.std.proofs.Common.{reverse};
 ghost use Rattle.std.specs.Int.{w32, int_wrap};
-ghost use Rattle.jxlm_base.specs.Bits.{bytes_of};
+ghost use Rattle.jxlm_bits.specs.Bits.{bytes_of};
 ghost use Rattle.jxlm_tree.specs.DecodingSamples.{SampleGives};
 ghost use Rattle.jxlm_tree.specs.CompiledNodes.{AsksKnown, flat_nodes, undecided};
 ghost use Rattle.jxlm_tree.specs.NextChannel.{next_alike};
@@ -20,7 +20,7 @@ ghost use Rattle.jxlm_tree.specs.Inner.FlatNodes.{IsSound, channels_of, node_cha
 ghost use Rattle.jxlm_tree.specs.Inner.Compiled.{IsCompiledFor, ServesAnywhere};
 ghost use Rattle.jxlm_tree.specs.Inner.Pruned.{tests_place};
 ghost use Rattle.jxlm_tree.specs.Inner.Walking.{Ended, EndsAt};
-ghost use Rattle.jxlm_base.specs.ErrorKind.{NoMemory, kind_of};
+ghost use Rattle.jxlm_bits.specs.ErrorKind.{NoMemory, kind_of};
 ghost use Rattle.jxlm_tree.specs.Inner.TreeShape.{shape_of};
 
 use crate::alike::channels_alike;
@@ -29,9 +29,9 @@ use crate::marks::{Known, mark};
 use crate::paths::ClusterTable;
 pub use crate::steps::Steps;
 use crate::tree::{MaTree, MaTreeNode};
-use jxlm_base::bits::Bitstream;
-use jxlm_base::decoder::Decoder;
-use jxlm_base::error::Result;
+use jxlm_bits::bits::Bitstream;
+use jxlm_bits::decoder::Decoder;
+use jxlm_bits::error::Result;
 use jxlm_base::sample::Sealed;
 pub use jxlm_predictor::place::{AskedProperty, PlaceProperties};
 use jxlm_predictor::predictor::Predictor;

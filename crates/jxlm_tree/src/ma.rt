@@ -1,8 +1,8 @@
 //! Meta-adaptive trees: how a tree is read, and what it is kept with.
 
 ghost use Rattle.std.specs.Prelude.{◌≡◌, ◌≢◌, ◌≤◌, ◌^◌, length, map, IfOk, IfErr};
-ghost use Rattle.jxlm_base.specs.Bits.{bytes_of, position_of};
-ghost use Rattle.jxlm_base.specs.ErrorKind.{NoMemory, kind_of};
+ghost use Rattle.jxlm_bits.specs.Bits.{bytes_of, position_of};
+ghost use Rattle.jxlm_bits.specs.ErrorKind.{NoMemory, kind_of};
 ghost use Rattle.jxlm_tree.specs.Inner.DraftReading.{DecoderGives, ListsTrees, node_of};
 ghost use Rattle.jxlm_tree.specs.FlatTree.{ClustersStandIn, flat_tree};
 ghost use Rattle.jxlm_tree.specs.Inner.Compiled.{IsCompiledFor};
@@ -15,9 +15,9 @@ use crate::build::build;
 use crate::flat::{CompiledTree, FlatMaTree};
 use crate::nodes::{DraftNode, read_tree};
 use crate::tree::MaTree;
-use jxlm_base::bits::Bitstream;
-use jxlm_base::decoder::Decoder;
-use jxlm_base::error::Result;
+use jxlm_bits::bits::Bitstream;
+use jxlm_bits::decoder::Decoder;
+use jxlm_bits::error::Result;
 use jxlm_base::grid::OutOfMemory;
 use std::alloc::Global;
 use std::marker::Model;

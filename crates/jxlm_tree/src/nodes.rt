@@ -1,15 +1,15 @@
 //! How the nodes of a tree are read, level by level.
 
 ghost use Rattle.std.specs.Prelude.{◌≡◌, ◌≤◌, ◌<◌, ◌^◌, length, map, IfOk, IfErr};
-ghost use Rattle.jxlm_base.specs.Bits.{bytes_of};
-ghost use Rattle.jxlm_base.specs.ErrorKind.{kind_of};
+ghost use Rattle.jxlm_bits.specs.Bits.{bytes_of};
+ghost use Rattle.jxlm_bits.specs.ErrorKind.{kind_of};
 ghost use Rattle.jxlm_tree.specs.Inner.DraftReading.{AllDrafts, IsDraft, IsDraftNode, ListGives, ListsTrees, StepGives, StepsGive, draft_of, is_endless as has_no_end, node_of};
 ghost use Rattle.jxlm_tree.specs.TreeReading.{children as children_of, drafts_at, leaf_at, limit_error, max_nodes, multiplier_at, node_at, nodes_at, predictor_at, read_context as token_of};
 
 use crate::flat::Leaf;
-use jxlm_base::bits::{Bitstream, BitstreamError};
-use jxlm_base::decoder::Decoder;
-use jxlm_base::error::{Error, Result};
+use jxlm_bits::bits::{Bitstream, BitstreamError};
+use jxlm_bits::decoder::Decoder;
+use jxlm_bits::error::{Error, Result};
 use jxlm_base::sample::Sealed;
 use jxlm_predictor::predictor::Predictor;
 use std::alloc::Global;

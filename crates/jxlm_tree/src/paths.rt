@@ -6,8 +6,8 @@ ghost use Rattle.std.specs.Rc.{rc_value};
 
 use crate::flat::{FlatMaTree, FlatNode, Leaf, entry_of};
 use crate::steps::Steps;
-use jxlm_base::decoder::Decoder;
-use jxlm_base::error::Error;
+use jxlm_bits::decoder::Decoder;
+use jxlm_bits::error::Error;
 use jxlm_base::grid::OutOfMemory;
 use jxlm_predictor::place::{AskedProperty, PlaceProperties};
 use jxlm_predictor::predictor::Predictor;
@@ -239,7 +239,7 @@ impl ClusterTable {
 
 impl FlatMaTree {
     ghost use Rattle.jxlm_tree.specs.FlatTree.{ClustersStandIn};
-    ghost use Rattle.jxlm_base.specs.ErrorKind.{NoMemory, kind_of};
+    ghost use Rattle.jxlm_bits.specs.ErrorKind.{NoMemory, kind_of};
     ghost use Rattle.jxlm_tree.specs.Paths.{Gives, IsGradientTable, IsNamed, TakesGradientTable, steps_on};
     ghost use Rattle.jxlm_tree.specs.Steps.{most_steps};
 

@@ -1,7 +1,7 @@
 //! The nodes of a tree.
 
 ghost use Rattle.std.specs.Prelude.{◌≡◌, ◌≤◌, IfOk, IfErr};
-ghost use Rattle.jxlm_base.specs.ErrorKind.{kind_of};
+ghost use Rattle.jxlm_bits.specs.ErrorKind.{kind_of};
 ghost use Rattle.jxlm_tree.specs.FlatTree.{earlier_of};
 ghost use Rattle.jxlm_tree.specs.Inner.FlatShapes.{earlier_named};
 ghost use Rattle.jxlm_tree.specs.Inner.Pruned.{tests_place as tests_place_of};
@@ -10,8 +10,8 @@ ghost use Rattle.jxlm_tree.specs.Tree.{depth as depth_of, leaf as leaf_shape};
 ghost use Rattle.jxlm_tree.specs.Inner.TreeShape.{shape_of};
 
 use crate::flat::Leaf;
-use jxlm_base::bits::BitstreamError;
-use jxlm_base::error::Result;
+use jxlm_bits::bits::BitstreamError;
+use jxlm_bits::error::Result;
 use std::alloc::Global;
 
 /// A node of a meta-adaptive tree, with all that is below it.

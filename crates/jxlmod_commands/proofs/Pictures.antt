@@ -19,10 +19,10 @@ use Rattle.jxlm_groups.specs.Passes.{is_of_picture_of, one_picture}
 use Rattle.jxlm_section_split.specs.CutPicture.{IsCutPicture}
 use Rattle.jxlmod_commands.specs.Channels.{channels_asked, plain_channel}
 use Rattle.jxlmod_commands.specs.Printed.{IsCutPictureError, IsPictureError}
-use Rattle.jxlm_base.specs.ErrorKind.{NoMemory, kind_of}
+use Rattle.jxlm_bits.specs.ErrorKind.{NoMemory, kind_of}
 use Rattle.jxlm_base.specs.Grid.{Grid}
-use Rattle.jxlm_base.specs.Decoding.{Meaning}
-use Rattle.jxlm_base.specs.declared.error.Error.{Error}
+use Rattle.jxlm_bits.specs.Decoding.{Meaning}
+use Rattle.jxlm_bits.specs.declared.error.Error.{Error}
 use Rattle.jxlm_tree.specs.Tree.{Config}
 use Rattle.jxl_modular.specs.Picture.{IsPicture, PictureFails}
 use Rattle.jxl_modular.proofs.PictureLaws.{no_memory}

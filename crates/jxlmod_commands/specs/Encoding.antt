@@ -2,7 +2,7 @@
 use Rattle.std.specs.Prelude.{◌≡◌, ◌≢◌, ℕ, ℤ, pos, List, [], ◌∷◌, false, None}
 use Rattle.std.specs.Int.{Width}
 use Rattle.jxlm_base.specs.Grid.{Grid}
-use Rattle.jxlm_base.specs.Decoding.{Meaning}
+use Rattle.jxlm_bits.specs.Decoding.{Meaning}
 use Rattle.jxlm_plain.specs.Plain.{PlainState, plain, plain2}
 use Rattle.jxlm_encode.specs.Encoded.{EncodeFails, IsEncodedFor}
 use Rattle.jxlm_tree.specs.Tree.{leaf}

@@ -2,7 +2,7 @@
 use Rattle.std.specs.Prelude.{ℕ, ◌≡◌, ℤ, pos, List, None}
 use Rattle.std.specs.Int.{Width, w16, w32}
 use Rattle.jxlm_base.specs.Grid.{Grid}
-use Rattle.jxlm_base.specs.Decoding.{Meaning}
+use Rattle.jxlm_bits.specs.Decoding.{Meaning}
 use Rattle.jxlm_transform.specs.Channels.{ChannelList}
 use Rattle.jxl_modular.specs.Picture.{IsPicture}
 use Rattle.jxlm_section_split.specs.CutPicture.{IsCutPicture}

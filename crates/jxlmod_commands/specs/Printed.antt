@@ -1,9 +1,9 @@
 -- What is made of the bytes of the program's input.
 use Rattle.std.specs.Prelude.{ℕ, ℤ, pos, List, None, false, Result, Ok, Err}
 use Rattle.std.specs.Int.{Width}
-use Rattle.jxlm_base.specs.ErrorKind.{UnlessMemory, kind_of}
-use Rattle.jxlm_base.specs.Decoding.{Meaning}
-use Rattle.jxlm_base.specs.declared.error.Error.{Error}
+use Rattle.jxlm_bits.specs.ErrorKind.{UnlessMemory, kind_of}
+use Rattle.jxlm_bits.specs.Decoding.{Meaning}
+use Rattle.jxlm_bits.specs.declared.error.Error.{Error}
 use Rattle.jxlm_transform.specs.Channels.{ChannelList}
 use Rattle.jxl_modular.specs.Picture.{PictureFails}
 use Rattle.jxlm_section_split.specs.CutErrors.{CutPictureFails}

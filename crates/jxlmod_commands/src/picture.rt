@@ -8,9 +8,9 @@ ghost use Rattle.jxlmod_commands.specs.PictureText.{IsCutPictureText, IsPictureT
 ghost use Rattle.jxlmod_commands.specs.Printed.{IsCutPictureError, IsPictureError};
 
 use jxl_modular::decode_picture;
-use jxlm_base::bits::Bitstream;
-use jxlm_base::decoder::Decoder;
-use jxlm_base::error::Error;
+use jxlm_bits::bits::Bitstream;
+use jxlm_bits::decoder::Decoder;
+use jxlm_bits::error::Error;
 use jxlm_base::grid::OutOfMemory;
 use jxlm_base::sample::Sample;
 use jxlm_tree::flat::Steps;

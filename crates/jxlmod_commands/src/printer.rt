@@ -11,7 +11,7 @@ use crate::encoding::encode_text;
 use crate::picture::{cut_picture_text, picture_text};
 use crate::refusal::Refusal;
 use crate::run::Print;
-use jxlm_base::decoder::Decoder;
+use jxlm_bits::decoder::Decoder;
 use jxlm_plain::plain::PlainDecoder;
 use jxlm_plain::plain2::PlainDecoder2;
 use std::alloc::Global;

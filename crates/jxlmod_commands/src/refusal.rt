@@ -2,7 +2,7 @@
 
 ghost use Rattle.std.specs.Prelude.{◌≡◌};
 
-use jxlm_base::error::Error;
+use jxlm_bits::error::Error;
 use jxlm_encode::encode::EncodeError;
 use jxl_text::reading::TextError;
 

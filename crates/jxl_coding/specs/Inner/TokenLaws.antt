@@ -1,10 +1,10 @@
 -- The entropy decoder meets the laws of decoders. Proofs alone: nothing here has to be believed.
 use Rattle.std.specs.Prelude.{◌≡◌, ◌≢◌, ℕ, ◌+◌, ◌-◌, ◌*◌, ◌%◌, ◌^◌, List, [], ◌∷◌, length, Bool, true, false, cond, nat_lt, ◌==◌, ◌⊎◌, Option, Some, None, Result, Ok, Err, refl}
 use Rattle.std.proofs.Common.{ap, inl, inr}
-use Rattle.jxlm_base.specs.Decoding.{Found, Taken, Keeps, IsLawful}
-use Rattle.jxlm_base.specs.ErrorKind.{◌>>=◌}
-use Rattle.jxlm_base.specs.declared.decoder.DecoderError.{DecoderError}
-use Rattle.jxlm_base.specs.declared.decoder.DecoderError.TheVariants.{OutOfMemory}
+use Rattle.jxlm_bits.specs.Decoding.{Found, Taken, Keeps, IsLawful}
+use Rattle.jxlm_bits.specs.ErrorKind.{◌>>=◌}
+use Rattle.jxlm_bits.specs.declared.decoder.DecoderError.{DecoderError}
+use Rattle.jxlm_bits.specs.declared.decoder.DecoderError.TheVariants.{OutOfMemory}
 use Rattle.jxl_coding_codes.specs.Fields.{number_at}
 use Rattle.jxl_coding_codes.specs.IntegerConfigs.{token_at, width_of}
 use Rattle.jxl_coding.specs.Symbols.{Codes, cluster_code, symbol_at, symbol_with, coded_symbol}

@@ -1,7 +1,7 @@
 -- What contracts see of codes as they are read.
 use Rattle.std.specs.Prelude.{◌≡◌, Result, Ok, Err}
-use Rattle.jxlm_base.specs.Decoding.{Fails}
-use Rattle.jxlm_base.specs.declared.decoder.DecoderError.{DecoderError}
+use Rattle.jxlm_bits.specs.Decoding.{Fails}
+use Rattle.jxlm_bits.specs.declared.decoder.DecoderError.{DecoderError}
 use Rattle.jxl_coding_codes.specs.PrefixCodes as meant
 use Rattle.jxl_coding_codes.specs.Alias as aliased
 use Rattle.jxl_coding_codes.specs.Distributions as counted

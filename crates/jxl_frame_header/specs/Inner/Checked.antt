@@ -1,8 +1,8 @@
 -- Flags, and numbers that are checked: where they come in an order, and where they stand alone.
 use Rattle.std.specs.Prelude.{ℕ, ◌&&◌, nat_lt, nat_le, Bool, true, Option, codes}
 use Rattle.std.specs.Option.{option_map_or}
-use Rattle.jxlm_base.specs.Grammar.{Grammar, u32, give, ◌>>=◌}
-use Rattle.jxlm_base.specs.declared.bits.U32Spec.TheVariants.{Const, Offset}
+use Rattle.jxlm_bits.specs.Grammar.{Grammar, u32, give, ◌>>=◌}
+use Rattle.jxlm_bits.specs.declared.bits.U32Spec.TheVariants.{Const, Offset}
 use Rattle.jxl_image_header.specs.Fields.{checked, long, when}
 use Rattle.jxl_frame_header.specs.Codings.{factor, flags_of}
 use Rattle.jxl_frame_header.specs.declared.coding.FrameFlags.{FrameFlags}

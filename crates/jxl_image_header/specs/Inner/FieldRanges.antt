@@ -1,7 +1,7 @@
 -- The values that a U32 field can have.
 use Rattle.std.specs.Prelude.{ℕ, ◌+◌, ◌-◌, ◌^◌, min, max}
-use Rattle.jxlm_base.specs.declared.bits.U32Spec.{U32Spec}
-use Rattle.jxlm_base.specs.declared.bits.U32Spec.TheVariants.{Const, Offset}
+use Rattle.jxlm_bits.specs.declared.bits.U32Spec.{U32Spec}
+use Rattle.jxlm_bits.specs.declared.bits.U32Spec.TheVariants.{Const, Offset}
 
 -- the minimum and the maximum of a part
 abbrev pub min_value : U32Spec → ℕ

@@ -1,7 +1,7 @@
 -- Sides of pictures, as their functions read them.
 use Rattle.std.specs.Prelude.{ℕ, ◌+◌, ◌*◌, Bool}
-use Rattle.jxlm_base.specs.Grammar.{Grammar, number, u32, give, either, ◌>>=◌}
-use Rattle.jxlm_base.specs.declared.bits.U32Spec.TheVariants.{Const, Offset}
+use Rattle.jxlm_bits.specs.Grammar.{Grammar, number, u32, give, either, ◌>>=◌}
+use Rattle.jxlm_bits.specs.declared.bits.U32Spec.TheVariants.{Const, Offset}
 
 -- a side of a picture: where it is small, one of 8 to 256 in steps of 8
 abbrev pub image_side : Bool → Grammar ℕ

@@ -1,8 +1,8 @@
 -- What the first section of a frame and those of its groups code, or why they do not, from a bit position on.
 use Rattle.std.specs.Prelude.{ℕ, pos, ℤ, List, length, Option}
 use Rattle.std.specs.Int.{Width, w32}
-use Rattle.jxlm_base.specs.Decoding.{Meaning}
-use Rattle.jxlm_base.specs.ErrorKind.{UnlessMemory, kind_of}
+use Rattle.jxlm_bits.specs.Decoding.{Meaning}
+use Rattle.jxlm_bits.specs.ErrorKind.{UnlessMemory, kind_of}
 use Rattle.jxlm_base.specs.Grid.{Grid}
 use Rattle.jxlm_tree.specs.Tree.{Config}
 use Rattle.jxl_image_header.specs.Images.{Image}

@@ -1,10 +1,10 @@
 -- What decoding all samples of an image that was read, and undoing its transforms, gives.
 use Rattle.std.specs.Prelude.{◌≡◌, ℕ, ◌+◌, ◌*◌, ◌≤◌, ℤ, List}
 use Rattle.std.specs.Int.{Width}
-use Rattle.jxlm_base.specs.Decoding.{Meaning}
-use Rattle.jxlm_base.specs.ErrorKind.{ErrorKind, OfDecoder}
+use Rattle.jxlm_bits.specs.Decoding.{Meaning}
+use Rattle.jxlm_bits.specs.ErrorKind.{ErrorKind, OfDecoder}
 use Rattle.jxlm_base.specs.Grid.{Grid}
-use Rattle.jxlm_base.specs.declared.decoder.DecoderError.{DecoderError}
+use Rattle.jxlm_bits.specs.declared.decoder.DecoderError.{DecoderError}
 use Rattle.jxlm_samples.specs.Coded.{DecodingFails, IsCodedWhole}
 use Rattle.jxl_modular.specs.Image.{Image, IsOnlyImage, cost_of, image_grids}
 use Rattle.jxlm_samples.specs.Part.{Part, cell_count}

@@ -1,13 +1,13 @@
 //! Images that are cut into parts (ISO/IEC 18181-1, frame: groups, LF groups and passes).
 
-ghost use Rattle.jxlm_base.specs.Bits.{bytes_of, position_of};
+ghost use Rattle.jxlm_bits.specs.Bits.{bytes_of, position_of};
 ghost use Rattle.jxlm_samples.specs.Part.{cell_count};
 ghost use Rattle.std.specs.Prelude.{◌≡◌, ◌↔◌, ◌<◌, IsOk, IsTrue, IsFalse, IfOk, IfErr};
 
 use super::ModularImageDestination;
-use jxlm_base::bits::Bitstream;
-use jxlm_base::decoder::Decoder;
-use jxlm_base::error::Result;
+use jxlm_bits::bits::Bitstream;
+use jxlm_bits::decoder::Decoder;
+use jxlm_bits::error::Result;
 use jxlm_base::sample::Sample;
 use jxlm_groups::area::{PartArea, parts, picture_sides};
 use jxlm_groups::complete::has_each_part;
@@ -23,7 +23,7 @@ use std::alloc::Global;
 use std::collections::{BTreeMap, BTreeSet};
 
 impl<S: Sample, D: Decoder> ModularImageDestination<S, D> {
-    ghost use Rattle.jxlm_base.specs.ErrorKind.{BadSqueeze, NoMemory, kind_of};
+    ghost use Rattle.jxlm_bits.specs.ErrorKind.{BadSqueeze, NoMemory, kind_of};
     ghost use Rattle.jxlm_groups.specs.Areas.{areas_of, picture_of};
     ghost use Rattle.jxlm_groups.specs.Passes.{can_group as groups_possible, passes_of};
     ghost use Rattle.jxlm_groups.specs.Counts.{exists as the_existing, group_count as the_group_count};

@@ -1,15 +1,15 @@
 //! Images before any of their samples is decoded.
 
 ghost use Rattle.std.specs.Prelude.{◌≡◌, ◌++◌, pos, map, IfOk, IfErr, OnOk};
-ghost use Rattle.jxlm_base.specs.ErrorKind.{NoMemory, kind_of};
+ghost use Rattle.jxlm_bits.specs.ErrorKind.{NoMemory, kind_of};
 ghost use Rattle.jxlm_transform.specs.Layout.{sides_of};
 ghost use Rattle.jxlm_chain.specs.Placed.{sides_in};
 ghost use Rattle.jxl_modular.specs.Fresh.{fresh};
 ghost use Rattle.jxlm_nested.specs.Zeros.{zeros};
 
 use super::ModularImageDestination;
-use jxlm_base::decoder::Decoder;
-use jxlm_base::error::Result;
+use jxlm_bits::decoder::Decoder;
+use jxlm_bits::error::Result;
 use jxlm_base::grid::{AlignedGrid, Region};
 use jxlm_base::sample::Sample;
 use jxlm_chain::placed::PlacedChannels;

@@ -1,14 +1,14 @@
 //! Whether sections are of all parts that have samples.
 
 ghost use Rattle.std.specs.Prelude.{◌≡◌, ◌↔◌, IfOk, IfErr, IsTrue, OnOk};
-ghost use Rattle.jxlm_base.specs.ErrorKind.{NoMemory, kind_of};
+ghost use Rattle.jxlm_bits.specs.ErrorKind.{NoMemory, kind_of};
 ghost use Rattle.jxl_modular.specs.Sections.{IsComplete};
 ghost use Rattle.jxl_modular.specs.Inner.SectionParts.{HoldsParts};
 
 use super::{Section, SectionPart};
 use crate::image::ModularImageDestination;
-use jxlm_base::decoder::Decoder;
-use jxlm_base::error::Result;
+use jxlm_bits::decoder::Decoder;
+use jxlm_bits::error::Result;
 use jxlm_base::sample::Sample;
 use jxlm_groups::pass::Pass;
 use std::alloc::Global;

@@ -2,15 +2,15 @@
 
 ghost use Rattle.std.specs.Prelude.{◌≡◌, ◌≢◌, ◌↔◌, IfOk, IfErr, IsTrue};
 ghost use Rattle.std.specs.List.{All, AllPairs};
-ghost use Rattle.jxlm_base.specs.ErrorKind.{NoMemory, kind_of};
+ghost use Rattle.jxlm_bits.specs.ErrorKind.{NoMemory, kind_of};
 ghost use Rattle.jxlm_groups.specs.Passes.{passes_of};
 ghost use Rattle.jxl_modular.specs.Groups.{Exists};
 ghost use Rattle.jxl_modular.specs.Sections.{FitGives};
 
 use super::Section;
 use crate::image::ModularImageDestination;
-use jxlm_base::decoder::Decoder;
-use jxlm_base::error::Result;
+use jxlm_bits::decoder::Decoder;
+use jxlm_bits::error::Result;
 use jxlm_base::sample::Sample;
 use jxlm_groups::pass::{Pass, passes};
 use std::alloc::Global;

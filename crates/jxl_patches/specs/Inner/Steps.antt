@@ -1,9 +1,9 @@
 -- What calls and loops that read patches return.
 use Rattle.std.specs.Prelude.{◌≡◌, ℕ, ◌+◌, ◌*◌, ◌&&◌, nat_lt, nat_le, false, if◌then◌else◌, List, get_or, codes, Option, Some, None, is_some, Result, Ok, Err}
 use Rattle.std.specs.Option.{ok_or, option_and_then, option_map_or}
-use Rattle.jxlm_base.specs.Decoding.{Found, Meaning}
-use Rattle.jxlm_base.specs.ErrorKind.{BadEnum, BadProfile, ErrorAt, ErrorKind, UnlessMemory}
-use Rattle.jxlm_base.specs.Grammar.{Grammar, IsErrorAt, ◌>>=◌}
+use Rattle.jxlm_bits.specs.Decoding.{Found, Meaning}
+use Rattle.jxlm_bits.specs.ErrorKind.{BadEnum, BadProfile, ErrorAt, ErrorKind, UnlessMemory}
+use Rattle.jxlm_bits.specs.Grammar.{Grammar, IsErrorAt, ◌>>=◌}
 use Rattle.jxl_image_header.specs.Fields.{meant}
 use Rattle.jxl_image_header.specs.declared.size.Size.{Size}
 use Rattle.jxl_toc.specs.Tokens.{After, Tokens, called, token}

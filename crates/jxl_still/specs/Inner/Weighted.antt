@@ -1,9 +1,9 @@
 -- Whether a Modular header has a palette of the weighted predictor, as the code looks for it.
 use Rattle.std.specs.Prelude.{ℕ, List, Bool, ◌&&◌, true, false, Result, Ok, Err}
 use Rattle.std.specs.List.{list_any}
-use Rattle.jxlm_base.specs.Bits.{bytes_of, position_of}
-use Rattle.jxlm_base.specs.Decoding.{Found}
-use Rattle.jxlm_base.specs.ErrorKind.{ErrorAt}
+use Rattle.jxlm_bits.specs.Bits.{bytes_of, position_of}
+use Rattle.jxlm_bits.specs.Decoding.{Found}
+use Rattle.jxlm_bits.specs.ErrorKind.{ErrorAt}
 use Rattle.jxlm_transform.specs.Transforms.{Transform, OfPalette}
 use Rattle.jxlm_predictor.specs.declared.predictor.Predictor.{Predictor}
 use Rattle.jxlm_predictor.specs.declared.predictor.Predictor.TheVariants.{SelfCorrecting}

@@ -1,7 +1,7 @@
 -- Tables in memory, and sections as they stand.
 use Rattle.std.specs.Prelude.{◌≡◌, ℕ, ◌+◌, ◌/◌, ◌<◌, List, length, get_or, take, sum, slice_index}
-use Rattle.jxlm_base.specs.Grammar.{Grammar, u32, give, repeated, ◌>>=◌}
-use Rattle.jxlm_base.specs.declared.bits.U32Spec.TheVariants.{Offset}
+use Rattle.jxlm_bits.specs.Grammar.{Grammar, u32, give, repeated, ◌>>=◌}
+use Rattle.jxlm_bits.specs.declared.bits.U32Spec.TheVariants.{Offset}
 use Rattle.jxl_image_header.specs.Fields.{here, aligned}
 use Rattle.jxl_toc.specs.Tocs.{Table}
 use Rattle.jxl_toc.specs.declared.toc.Table.{Table as TableInMemory}

@@ -1,7 +1,7 @@
 -- The neighbours of a cell in its row and in the row above (ISO/IEC 18181-1, Modular: neighbouring samples).
 use Rattle.std.specs.Prelude.{ℕ, zero, suc, ℤ, pos, List, get_or}
 use Rattle.std.specs.Int.{w32, int_wrap}
-use Rattle.jxlm_base.specs.Numbers.{clamped_gradient}
+use Rattle.jxlm_bits.specs.Numbers.{clamped_gradient}
 
 -- the neighbours in column x of a row, from the row above (none above the first row) and the row
 module _ (above row : List ℤ) where

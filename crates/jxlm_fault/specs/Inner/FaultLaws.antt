@@ -2,10 +2,10 @@
 -- the decoder's impl names the last of them, and an impl can name no file of proofs/.
 use Rattle.std.specs.Prelude.{◌≡◌, ◌≢◌, ℕ, List, length, Contains, Bool, true, false, cond, ◌==◌, Result, Ok, Err, refl}
 use Rattle.std.proofs.Common.{ap}
-use Rattle.jxlm_base.specs.Decoding.{Found, Taken, Keeps, IsLawful}
-use Rattle.jxlm_base.specs.ErrorKind.{◌>>=◌}
-use Rattle.jxlm_base.specs.declared.decoder.DecoderError.{DecoderError}
-use Rattle.jxlm_base.specs.declared.decoder.DecoderError.TheVariants.{OutOfMemory}
+use Rattle.jxlm_bits.specs.Decoding.{Found, Taken, Keeps, IsLawful}
+use Rattle.jxlm_bits.specs.ErrorKind.{◌>>=◌}
+use Rattle.jxlm_bits.specs.declared.decoder.DecoderError.{DecoderError}
+use Rattle.jxlm_bits.specs.declared.decoder.DecoderError.TheVariants.{OutOfMemory}
 use Rattle.jxlm_plain.specs.Plain.{number_at, plain_parse, plain_begin, plain_read, plain}
 use Rattle.jxlm_plain.specs.contracts.plain.PlainDecoderDecoder.TheImpl.Laws as impl
 use Rattle.jxlm_fault.specs.Fault.{FaultState, fault_parse, fault_begin, fault_read, fault_finalize, fault_clusters, is_due, faulty}

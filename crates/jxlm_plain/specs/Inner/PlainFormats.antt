@@ -1,8 +1,8 @@
 -- The two plain formats, told apart by what is asked for.
 use Rattle.std.specs.Prelude.{ℕ, ◌+◌, List, Bool, Result, Ok}
-use Rattle.jxlm_base.specs.Decoding.{Found}
-use Rattle.jxlm_base.specs.ErrorKind.{◌>>=◌}
-use Rattle.jxlm_base.specs.declared.decoder.DecoderError.{DecoderError}
+use Rattle.jxlm_bits.specs.Decoding.{Found}
+use Rattle.jxlm_bits.specs.ErrorKind.{◌>>=◌}
+use Rattle.jxlm_bits.specs.declared.decoder.DecoderError.{DecoderError}
 use Rattle.jxlm_plain.specs.Plain.{PlainState, number_at, mode_at, items_at, cluster_at, code_at, code2_at, is_runs}
 use Rattle.jxlm_plain.specs.declared.plain.Code.{Code}
 use Rattle.jxlm_plain.specs.declared.plain.Format.{Format}

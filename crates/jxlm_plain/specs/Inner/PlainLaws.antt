@@ -2,14 +2,14 @@
 -- decoder's impl names the last of them, and an impl can name no file of proofs/.
 use Rattle.std.specs.Prelude.{◌≡◌, ◌≢◌, ℕ, zero, suc, ◌+◌, ◌-◌, ◌*◌, ◌<◌, List, length, Contains, Bool, true, false, cond, nat_lt, ◌==◌, ◌&&◌, ◌⊎◌, Some, None, Result, Ok, Err, refl}
 use Rattle.std.proofs.Common.{arith, ap, inl, inr}
-use Rattle.jxlm_base.specs.Bits.{bits_at}
-use Rattle.jxlm_base.specs.Decoding.{Found, Taken, Keeps, RunGives, IsLawful}
-use Rattle.jxlm_base.specs.ErrorKind.{◌>>=◌}
+use Rattle.jxlm_bits.specs.Bits.{bits_at}
+use Rattle.jxlm_bits.specs.Decoding.{Found, Taken, Keeps, RunGives, IsLawful}
+use Rattle.jxlm_bits.specs.ErrorKind.{◌>>=◌}
 use Rattle.jxlm_plain.specs.Plain.{PlainState, number_at, zeros_at, zeros_end, low_bits, gamma_at, own_at, mode_at, items_at, cluster_at, code_at, code2_at, code_of, run_at, first_of_run, is_runs, single_of, owed_in, last_in, next_mode, begin_mode, token_at, finalize_mode, plain_parse, plain_begin, plain_read, plain_finalize, plain_clusters, plain_single, plain_runs, plain_owed, plain_last, plain_next, plain, fields_at, plain2_parse, plain2}
-use Rattle.jxlm_base.specs.declared.decoder.DecoderError.{DecoderError}
-use Rattle.jxlm_base.specs.declared.decoder.DecoderError.TheVariants.{OutOfMemory}
-use Rattle.jxlm_base.specs.declared.decoder.RleToken.{RleToken}
-use Rattle.jxlm_base.specs.declared.decoder.RleToken.TheVariants.{Value, Repeat}
+use Rattle.jxlm_bits.specs.declared.decoder.DecoderError.{DecoderError}
+use Rattle.jxlm_bits.specs.declared.decoder.DecoderError.TheVariants.{OutOfMemory}
+use Rattle.jxlm_bits.specs.declared.decoder.RleToken.{RleToken}
+use Rattle.jxlm_bits.specs.declared.decoder.RleToken.TheVariants.{Value, Repeat}
 use Rattle.jxlm_plain.specs.declared.plain.Code.{Code}
 use Rattle.jxlm_plain.specs.declared.plain.Code.TheVariants.{Constant, Fixed, Gamma}
 use Rattle.jxlm_plain.specs.declared.plain.Mode.{Mode}

@@ -1,12 +1,12 @@
 -- What the reads of the plain decoder returned, by the mode that they began and ended in.
 use Rattle.std.specs.Prelude.{◌≡◌, ℕ, ◌-◌, ◌<◌, ◌⊎◌, List, Result, Ok, Err}
-use Rattle.jxlm_base.specs.Decoding.{Taken, TokensGive}
+use Rattle.jxlm_bits.specs.Decoding.{Taken, TokensGive}
 use Rattle.jxlm_plain.specs.Plain.{PlainState, code_of, last_in, owed_in, plain_read}
-use Rattle.jxlm_base.specs.declared.decoder.DecoderError.{DecoderError}
-use Rattle.jxlm_base.specs.declared.decoder.DecoderError.TheVariants.{UnexpectedEof, Invalid}
-use Rattle.jxlm_base.specs.declared.decoder.RleToken.{RleToken}
-use Rattle.jxlm_base.specs.declared.decoder.RleToken.TheVariants.{Value, Repeat}
-use Rattle.jxlm_base.specs.declared.decoder.TokensError.{TokensError}
+use Rattle.jxlm_bits.specs.declared.decoder.DecoderError.{DecoderError}
+use Rattle.jxlm_bits.specs.declared.decoder.DecoderError.TheVariants.{UnexpectedEof, Invalid}
+use Rattle.jxlm_bits.specs.declared.decoder.RleToken.{RleToken}
+use Rattle.jxlm_bits.specs.declared.decoder.RleToken.TheVariants.{Value, Repeat}
+use Rattle.jxlm_bits.specs.declared.decoder.TokensError.{TokensError}
 use Rattle.jxlm_plain.specs.declared.plain.Code.{Code}
 use Rattle.jxlm_plain.specs.declared.plain.Mode.{Mode}
 use Rattle.jxlm_plain.specs.declared.plain.Mode.TheVariants.{Runs}

@@ -1,7 +1,7 @@
 -- The steps of the weighted predictor: what the code makes of a cell, and how it goes on to the next.
 use Rattle.std.specs.Prelude.{◌≡◌, ℕ, zero, suc, ◌+◌, ◌*◌, ◌/◌, ◌%◌, ◌^◌, ◌<◌, ◌≤◌, ℤ, pos, ◌-ℤ◌, ◌*ℤ◌, unsigned_abs, nat_lt, Bool, if◌then◌else◌, List, [], ◌∷◌, length, map, slice_index, Option, Some, None}
 use Rattle.std.specs.Int.{w32, int_wrap, int_min, int_max}
-use Rattle.jxlm_base.specs.Numbers.{clamped}
+use Rattle.jxlm_bits.specs.Numbers.{clamped}
 use Rattle.jxlm_predictor.specs.Correcting.{Corrects, CorrectsBy}
 use Rattle.jxlm_predictor.specs.Neighbours.{Neighbours, neighbours}
 use Rattle.jxlm_predictor.specs.SelfCorrecting.{Errors, errors_above}

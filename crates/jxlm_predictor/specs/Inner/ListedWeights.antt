@@ -1,6 +1,6 @@
 -- The last four fields of weights that are listed.
 use Rattle.std.specs.Prelude.{◌<◌}
-use Rattle.jxlm_base.specs.Grammar.{Grammar, number, give, ◌>>=◌}
+use Rattle.jxlm_bits.specs.Grammar.{Grammar, number, give, ◌>>=◌}
 use Rattle.jxlm_predictor.specs.declared.predictor.WpHeader.{WpHeader}
 
 -- the weight of each sub-prediction: four numbers of 4 bits, in a header with the fields before them

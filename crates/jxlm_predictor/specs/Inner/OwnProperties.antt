@@ -1,7 +1,7 @@
 -- A cell's own properties: as the code makes them, and those of the definitions.
 use Rattle.std.specs.Prelude.{ℕ, ℤ, pos, ◌+ℤ◌, ◌-ℤ◌, List, [], ◌∷◌, map}
 use Rattle.std.specs.Int.{w32, int_wrap}
-use Rattle.jxlm_base.specs.Numbers.{absolute}
+use Rattle.jxlm_bits.specs.Numbers.{absolute}
 use Rattle.jxlm_predictor.specs.Neighbours.{Neighbours}
 use Rattle.jxlm_predictor.specs.Properties.{Surroundings, own_properties}
 

@@ -1,12 +1,12 @@
 -- How one cell of a part is read.
 use Rattle.std.specs.Prelude.{◌≡◌, ◌≢◌, ℕ, ◌+◌, ◌≤◌, ℤ, Bool, List, Result, Ok, Err}
 use Rattle.std.specs.Int.{Width}
-use Rattle.jxlm_base.specs.Bits.{bytes_of, position_of}
-use Rattle.jxlm_base.specs.Decoding.{Meaning, Taken}
+use Rattle.jxlm_bits.specs.Bits.{bytes_of, position_of}
+use Rattle.jxlm_bits.specs.Decoding.{Meaning, Taken}
 use Rattle.jxlm_base.specs.Grid.{Grid}
 use Rattle.jxlm_base.specs.Regions.{store_meanings}
-use Rattle.jxlm_base.specs.declared.decoder.DecoderError.{DecoderError}
-use Rattle.jxlm_base.specs.declared.decoder.DecoderError.TheVariants.{OutOfMemory}
+use Rattle.jxlm_bits.specs.declared.decoder.DecoderError.{DecoderError}
+use Rattle.jxlm_bits.specs.declared.decoder.DecoderError.TheVariants.{OutOfMemory}
 use Rattle.jxlm_tree.specs.FlatTree.{FlatTree, HasMultiplier, leaf_reached}
 use Rattle.jxlm_tree.specs.Tree.{StandsAtLeaf}
 use Rattle.jxlm_predictor.specs.Holding.{state_of, store_of, surroundings}

@@ -1,6 +1,6 @@
 -- Where the loops over rows and channels are.
 use Rattle.std.specs.Prelude.{◌≡◌, ℕ, ◌≤◌, ℤ, List, [], length, map, true, None}
-use Rattle.jxlm_base.specs.Decoding.{Meaning}
+use Rattle.jxlm_bits.specs.Decoding.{Meaning}
 use Rattle.jxlm_base.specs.Grid.{Grid}
 use Rattle.jxlm_tree.specs.Paths.{Gives, steps_on}
 use Rattle.jxlm_tree.specs.declared.paths.Path.{Path}

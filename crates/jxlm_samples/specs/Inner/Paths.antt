@@ -1,9 +1,9 @@
 -- How the rows of a channel are read, and the cells of a row.
 use Rattle.std.specs.Prelude.{◌≡◌, ℕ, zero, suc, ◌+◌, ◌≤◌, ℤ, pos, ◌+ℤ◌, ◌-ℤ◌, FitsSigned, List, [], length, map, get_or, Bool, true, false, Contains}
 use Rattle.std.specs.Int.{Width, w32, int_wrap}
-use Rattle.jxlm_base.specs.Decoding.{Meaning}
+use Rattle.jxlm_bits.specs.Decoding.{Meaning}
 use Rattle.jxlm_base.specs.Grid.{Grid, row as grid_row}
-use Rattle.jxlm_base.specs.Numbers.{clamped_gradient}
+use Rattle.jxlm_bits.specs.Numbers.{clamped_gradient}
 use Rattle.jxlm_tree.specs.ClusterTables.{IsTableOf, table_leaf}
 use Rattle.jxlm_tree.specs.FlatTree.{FlatTree}
 use Rattle.jxlm_tree.specs.Paths.{Gives, IsLeafOf, IsOnGradient, IsPlainGradient, steps_on}

@@ -1,13 +1,13 @@
 -- How far the decoding of a part has come: what its loops over channels, rows and columns keep.
 use Rattle.std.specs.Prelude.{◌≡◌, ◌≢◌, ℕ, suc, ◌+◌, ◌*◌, ◌<◌, ◌≤◌, ℤ, List, take, drop, Result, Ok, Err}
 use Rattle.std.specs.Int.{Width}
-use Rattle.jxlm_base.specs.Bits.{bytes_of, position_of}
-use Rattle.jxlm_base.specs.Decoding.{Meaning}
+use Rattle.jxlm_bits.specs.Bits.{bytes_of, position_of}
+use Rattle.jxlm_bits.specs.Decoding.{Meaning}
 use Rattle.jxlm_base.specs.Grid.{Grid}
 use Rattle.jxlm_base.specs.Outside.{KeepsOutside}
 use Rattle.jxlm_base.specs.Regions.{grids_in, store_meanings}
-use Rattle.jxlm_base.specs.declared.decoder.DecoderError.{DecoderError}
-use Rattle.jxlm_base.specs.declared.decoder.DecoderError.TheVariants.{OutOfMemory}
+use Rattle.jxlm_bits.specs.declared.decoder.DecoderError.{DecoderError}
+use Rattle.jxlm_bits.specs.declared.decoder.DecoderError.TheVariants.{OutOfMemory}
 use Rattle.jxlm_base.specs.declared.subgrid.Region.{Region}
 use Rattle.jxlm_transform.specs.Channels.{AreGridsOf}
 use Rattle.jxlm_samples.specs.Coded.{part_rule, IsCoded}

@@ -1,7 +1,7 @@
 -- How a tree comes from the end of its listing by a queue: a leaf goes to the back, and a decision takes its right and
 -- then its left tree from the front.
 use Rattle.std.specs.Prelude.{◌≡◌, ◌⊎◌, ℕ, ◌<◌, max, List, [], ◌∷◌, ◌++◌, Option, None, Some, codes}
-use Rattle.jxlm_base.specs.ErrorKind.{ErrorKind, BadProfile, NoMemory}
+use Rattle.jxlm_bits.specs.ErrorKind.{ErrorKind, BadProfile, NoMemory}
 use Rattle.jxlm_tree.specs.Tree.{Shape, leaf, decision, Node, leaf_node, decision_node, depth, levels}
 
 module _ {L : Type 0} where

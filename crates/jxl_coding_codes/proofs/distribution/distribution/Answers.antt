@@ -1,4 +1,4 @@
-use Rattle.jxlm_base.specs.Bits.{bytes_of, position_of}
+use Rattle.jxlm_bits.specs.Bits.{bytes_of, position_of}
 use Rattle.jxl_coding_codes.proofs.DistributionSums.{each_count}
 use Rattle.jxl_coding_codes.proofs.distribution.distribution.Goals as goal
 

@@ -1,5 +1,5 @@
 use Rattle.std.proofs.Common.{◌≡◌, ◌-◌}
-use Rattle.jxlm_base.specs.Bits.{bytes_of, position_of}
+use Rattle.jxlm_bits.specs.Bits.{bytes_of, position_of}
 use Rattle.jxl_coding_codes.specs.Reading.{steps}
 use Rattle.jxl_coding_codes.specs.Distributions.{widths_step, no_widths}
 use Rattle.jxl_coding_codes.specs.Inner.Seen.{widths_seen}

@@ -1,4 +1,4 @@
-use Rattle.jxlm_base.specs.Bits.{bytes_of, position_of}
+use Rattle.jxlm_bits.specs.Bits.{bytes_of, position_of}
 use Rattle.jxl_image_header.specs.Images.{image_of}
 use Rattle.jxl_front.proofs.Fronts.{begins}
 use Rattle.jxl_front.proofs.front.read_begin.Goals as goal

@@ -1,5 +1,5 @@
 use Rattle.std.proofs.Common.{◌≡◌, ◌∙◌, sym, true, false}
-use Rattle.jxlm_base.specs.Bits.{bytes_of, position_of}
+use Rattle.jxlm_bits.specs.Bits.{bytes_of, position_of}
 use Rattle.jxl_image_header.specs.Images.{image_of}
 use Rattle.jxl_picture.specs.Limits.{Allow}
 use Rattle.jxl_front.proofs.Fronts.{image_fails, image_refused, image_stands, too_large}

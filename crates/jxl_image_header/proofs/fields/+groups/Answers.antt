@@ -1,8 +1,8 @@
 use Rattle.std.proofs.Common.{◌≡◌, ◌-◌, ◌∙◌, Ok, Some, true, rules, arith}
 use Rattle.std.proofs.lemmas.Result.{err_from_is_err_and}
-use Rattle.jxlm_base.specs.Bits.{bytes_of, position_of}
-use Rattle.jxlm_base.specs.ErrorKind.{bitstream_kind}
-use Rattle.jxlm_base.specs.Grammar.{flag, number}
+use Rattle.jxlm_bits.specs.Bits.{bytes_of, position_of}
+use Rattle.jxlm_bits.specs.ErrorKind.{bitstream_kind}
+use Rattle.jxlm_bits.specs.Grammar.{flag, number}
 use Rattle.jxl_image_header.proofs.GroupLaws.{no_group, no_rest, all_groups, none_there, no_flag, last_group, bound_some, bound_before, bound_most}
 use Rattle.jxl_image_header.proofs.fields.+groups.Goals as goal
 

@@ -1,7 +1,7 @@
 use Rattle.std.proofs.Common.{◌≡◌, rules, arith, Some}
 use Rattle.std.proofs.lemmas.Result.{err_from_is_err_and}
-use Rattle.jxlm_base.specs.Bits.{bytes_of, position_of}
-use Rattle.jxlm_base.specs.ErrorKind.{bitstream_kind}
+use Rattle.jxlm_bits.specs.Bits.{bytes_of, position_of}
+use Rattle.jxlm_bits.specs.ErrorKind.{bitstream_kind}
 use Rattle.jxl_image_header.specs.Fields.{long}
 use Rattle.jxl_image_header.proofs.SummedLoop.{adds, stops_adding, added, sizes_added}
 use Rattle.jxl_image_header.proofs.fields.extension_bits.Goals as goal

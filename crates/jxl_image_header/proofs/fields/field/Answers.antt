@@ -1,4 +1,4 @@
-use Rattle.jxlm_base.specs.Bits.{bytes_of, position_of}
+use Rattle.jxlm_bits.specs.Bits.{bytes_of, position_of}
 use Rattle.jxl_image_header.proofs.FieldRanges.{at_most}
 use Rattle.jxl_image_header.proofs.fields.field.Goals as goal
 

@@ -1,6 +1,6 @@
 use Rattle.std.proofs.Common.{◌∙◌, ℕ, List, subst, ◌==◌, ◌/◌, ◌%◌}
-use Rattle.jxlm_base.specs.Bits.{position_of}
-use Rattle.jxlm_base.specs.Grammar.{Reads}
+use Rattle.jxlm_bits.specs.Bits.{position_of}
+use Rattle.jxlm_bits.specs.Grammar.{Reads}
 use Rattle.jxl_image_header.specs.Images.{matrices}
 use Rattle.jxl_image_header.specs.Inner.Groups.{weights}
 use Rattle.jxl_image_header.proofs.image.matrices.Goals as goal

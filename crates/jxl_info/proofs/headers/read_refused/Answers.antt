@@ -1,5 +1,5 @@
 use Rattle.std.proofs.Common.{ℕ, List, subst}
-use Rattle.jxlm_base.specs.Bits.{bytes_of, position_of}
+use Rattle.jxlm_bits.specs.Bits.{bytes_of, position_of}
 use Rattle.jxl_image_header.specs.Images.{image_header, image_of}
 use Rattle.jxl_front.specs.Fronts.{StandsAt}
 use Rattle.jxl_info.proofs.headers.read_refused.Goals as goal

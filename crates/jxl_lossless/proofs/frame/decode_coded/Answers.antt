@@ -1,6 +1,6 @@
 use Rattle.std.proofs.Common.{◌≡◌, ◌∙◌, ◌+◌, length, pos, refl, rules, subst}
 use Rattle.std.specs.Option.{option_copied}
-use Rattle.jxlm_base.specs.Bits.{bytes_of, position_of}
+use Rattle.jxlm_bits.specs.Bits.{bytes_of, position_of}
 use Rattle.jxlm_transform.specs.Channels.{AreGridsOf, ChannelList, image_list}
 use Rattle.jxl_image_header.specs.Images.{image_of}
 use Rattle.jxl_modular.specs.Image.{image_grids}

@@ -4,7 +4,7 @@ use Rattle.std.proofs.Common.{ℕ, ℤ, pos, ◌≡◌, ◌∙◌, List, length,
 use Rattle.std.specs.Option.{option_map}
 use Rattle.std.proofs.lemmas.List.{with_items_is}
 use Rattle.std.proofs.lemmas.Result.{err_from_is_err_and}
-use Rattle.jxlm_base.specs.Bits.{bytes_of, position_of}
+use Rattle.jxlm_bits.specs.Bits.{bytes_of, position_of}
 use Rattle.jxlm_base.specs.Grid.{Grid}
 use Rattle.jxl_image_header.specs.Images.{image_of}
 use Rattle.jxl_image_header.specs.declared.size.Size.{Size}

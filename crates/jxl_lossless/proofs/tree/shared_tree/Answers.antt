@@ -1,5 +1,5 @@
 use Rattle.std.proofs.Common.{◌≡◌, Some, true, refl, rules, subst}
-use Rattle.jxlm_base.specs.Bits.{bytes_of, position_of}
+use Rattle.jxlm_bits.specs.Bits.{bytes_of, position_of}
 use Rattle.jxl_toc.specs.Starts.{section_start}
 use Rattle.jxl_front.specs.Fronts.{StandsAt}
 use Rattle.jxl_lossless.proofs.Trees.{a_tree}

@@ -1,7 +1,7 @@
 use Rattle.std.proofs.Common.{pos, sym, ◌∙◌}
 use Rattle.std.specs.Option.{option_copied}
 use Rattle.std.proofs.lemmas.Result.{err_from_is_err_and}
-use Rattle.jxlm_base.specs.Bits.{bytes_of, position_of}
+use Rattle.jxlm_bits.specs.Bits.{bytes_of, position_of}
 use Rattle.jxlm_transform.specs.Channels.{image_list}
 use Rattle.jxl_modular.proofs.PictureLaws.{fails_read, image_read, fails_filling, steps_within, picture_read, picture_sides}
 use Rattle.jxl_modular.proofs.picture.decode_picture.Goals as goal

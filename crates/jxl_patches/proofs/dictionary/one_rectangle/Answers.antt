@@ -1,6 +1,6 @@
 use Rattle.std.proofs.Common.{◌≡◌, ◌*◌, Ok, arith}
 use Rattle.std.proofs.Math.Nat.{mul_comm}
-use Rattle.jxlm_base.specs.Bits.{bytes_of, position_of}
+use Rattle.jxlm_bits.specs.Bits.{bytes_of, position_of}
 use Rattle.jxl_toc.proofs.TocLaws.{exact-chained}
 use Rattle.jxl_toc.specs.Tokens.{After}
 use Rattle.jxl_toc.specs.Turns.{chained}

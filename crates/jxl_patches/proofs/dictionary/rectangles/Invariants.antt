@@ -1,6 +1,6 @@
 use Rattle.std.proofs.Common.{◌≡◌, ◌-◌, length}
 use Rattle.std.specs.List.{sum_by}
-use Rattle.jxlm_base.specs.Bits.{bytes_of, position_of}
+use Rattle.jxlm_bits.specs.Bits.{bytes_of, position_of}
 use Rattle.jxl_toc.specs.Turns.{chained}
 use Rattle.jxl_patches.specs.Patches.{one_rectangle}
 use Rattle.jxl_patches.specs.Dictionaries.{area, patches_of}

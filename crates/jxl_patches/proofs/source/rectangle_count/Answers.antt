@@ -1,7 +1,7 @@
 use Rattle.std.proofs.Common.{◌≡◌, Some, false, refl, arith}
 use Rattle.std.specs.Prelude.{nat_le}
 use Rattle.std.proofs.lemmas.Bool.{lt-leb}
-use Rattle.jxlm_base.specs.Bits.{position_of}
+use Rattle.jxlm_bits.specs.Bits.{position_of}
 use Rattle.jxl_patches.specs.Patches.{most_rectangles}
 use Rattle.jxl_patches.proofs.source.rectangle_count.Goals as goal
 

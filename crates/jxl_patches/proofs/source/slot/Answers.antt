@@ -1,6 +1,6 @@
 use Rattle.std.proofs.Common.{◌≡◌, None, Some, false, get_or, refl, rules}
 use Rattle.std.specs.Prelude.{is_some}
-use Rattle.jxlm_base.specs.Bits.{position_of}
+use Rattle.jxlm_bits.specs.Bits.{position_of}
 use Rattle.jxl_patches.proofs.source.slot.Goals as goal
 
 pub returns-else-is_some-clause-gives : goal.returns-else-is_some-clause-gives

@@ -2,7 +2,7 @@ use Rattle.std.proofs.Common.{pos, List, ap, ◌∙◌, refl, sym, subst}
 use Rattle.std.specs.List.{list_any}
 use Rattle.std.specs.Option.{option_copied}
 use Rattle.std.proofs.lemmas.Result.{err_from_is_err_and}
-use Rattle.jxlm_base.specs.Bits.{bytes_of, position_of}
+use Rattle.jxlm_bits.specs.Bits.{bytes_of, position_of}
 use Rattle.jxlm_transform.specs.Channels.{image_list}
 use Rattle.jxl_modular.specs.Image.{Image, image_grids}
 use Rattle.jxl_modular.specs.Sections.{AreDecoded, IsComplete, SectionsFit}

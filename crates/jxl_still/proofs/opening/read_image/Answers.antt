@@ -1,5 +1,5 @@
 use Rattle.std.proofs.Common.{pos}
-use Rattle.jxlm_base.specs.Bits.{bytes_of, position_of}
+use Rattle.jxlm_bits.specs.Bits.{bytes_of, position_of}
 use Rattle.jxl_still.proofs.Headers.{not_opened, opened_as}
 use Rattle.jxl_still.proofs.opening.read_image.Goals as goal
 

@@ -1,5 +1,5 @@
 use Rattle.std.proofs.Common.{◌≡◌, ◌-◌, [], length}
-use Rattle.jxlm_base.specs.Bits.{bytes_of, position_of}
+use Rattle.jxlm_bits.specs.Bits.{bytes_of, position_of}
 use Rattle.jxl_toc.specs.Turns.{chained}
 use Rattle.jxl_toc.specs.Orders.{one_more}
 use Rattle.jxl_toc.specs.Inner.Counts.{AreDigits}

@@ -1,8 +1,8 @@
 use Rattle.std.proofs.Common.{◌≡◌, ℕ, List, ◌∷◌, ◌%◌, ◌∙◌, length, Ok, refl, ap, sym, arith}
 use Rattle.std.proofs.lemmas.Result.{err_from_is_err_and}
-use Rattle.jxlm_base.specs.Bits.{bytes_of, position_of}
-use Rattle.jxlm_base.specs.ErrorKind.{kind_of, UnlessMemory}
-use Rattle.jxlm_base.specs.Grammar.{IsErrorAt, give}
+use Rattle.jxlm_bits.specs.Bits.{bytes_of, position_of}
+use Rattle.jxlm_bits.specs.ErrorKind.{kind_of, UnlessMemory}
+use Rattle.jxlm_bits.specs.Grammar.{IsErrorAt, give}
 use Rattle.jxl_toc.specs.Profiles.{context_of, one_byte}
 use Rattle.jxl_toc.specs.Tokens.{told}
 use Rattle.jxl_toc.proofs.Chains.{chain_step, chain_fails, chain_ends}

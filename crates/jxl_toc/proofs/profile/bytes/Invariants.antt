@@ -1,6 +1,6 @@
 use Rattle.std.proofs.Common.{◌≡◌, ◌-◌, ℕ, List, [], length}
 use Rattle.std.specs.Prelude.{slice_index}
-use Rattle.jxlm_base.specs.Bits.{bytes_of, position_of}
+use Rattle.jxlm_bits.specs.Bits.{bytes_of, position_of}
 use Rattle.jxl_toc.specs.Turns.{chained}
 use Rattle.jxl_toc.specs.Profiles.{one_byte}
 use Rattle.jxl_toc.proofs.profile.bytes.Given as goal

@@ -1,8 +1,8 @@
 use Rattle.std.proofs.Common.{◌≡◌, ◌∙◌, [], Ok}
 use Rattle.std.proofs.lemmas.Result.{err_from_is_err_and}
-use Rattle.jxlm_base.specs.Bits.{bytes_of, position_of}
-use Rattle.jxlm_base.specs.ErrorKind.{kind_of, UnlessMemory}
-use Rattle.jxlm_base.specs.Grammar.{IsErrorAt}
+use Rattle.jxlm_bits.specs.Bits.{bytes_of, position_of}
+use Rattle.jxlm_bits.specs.ErrorKind.{kind_of, UnlessMemory}
+use Rattle.jxlm_bits.specs.Grammar.{IsErrorAt}
 use Rattle.jxl_toc.specs.Inner.Steps.{decoder}
 use Rattle.jxl_toc.specs.Turns.{chained}
 use Rattle.jxl_toc.specs.Profiles.{one_byte}

@@ -1,8 +1,8 @@
 use Rattle.std.proofs.Common.{◌≡◌, ◌++◌, ◌∷◌, [], refl, rules, Some, arith}
 use Rattle.std.proofs.lemmas.List.{length-append}
 use Rattle.std.proofs.lemmas.Result.{err_from_is_err_and}
-use Rattle.jxlm_base.specs.Bits.{bytes_of, position_of}
-use Rattle.jxlm_base.specs.ErrorKind.{bitstream_kind}
+use Rattle.jxlm_bits.specs.Bits.{bytes_of, position_of}
+use Rattle.jxlm_bits.specs.ErrorKind.{bitstream_kind}
 use Rattle.jxl_toc.specs.Inner.Entries.{entry_size}
 use Rattle.jxl_image_header.proofs.RepeatedLoop.{goes_on, stops}
 use Rattle.jxl_image_header.proofs.UnlessMemory.{unless_no_memory}

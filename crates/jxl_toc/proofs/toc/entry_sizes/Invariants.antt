@@ -1,6 +1,6 @@
 use Rattle.std.proofs.Common.{◌≡◌, ◌-◌, length}
-use Rattle.jxlm_base.specs.Bits.{bytes_of, position_of}
-use Rattle.jxlm_base.specs.Grammar.{repeated}
+use Rattle.jxlm_bits.specs.Bits.{bytes_of, position_of}
+use Rattle.jxlm_bits.specs.Grammar.{repeated}
 use Rattle.jxl_image_header.proofs.RepeatedLoop.{with_front}
 use Rattle.jxl_toc.specs.Inner.Entries.{entry_size}
 use Rattle.jxl_toc.proofs.toc.entry_sizes.Given as goal

@@ -1,7 +1,7 @@
 use Rattle.std.proofs.Common.{◌+ℤ◌, ◌*ℤ◌, ◌∙◌, sym}
 use Rattle.std.specs.Int.{w16, int_wrap}
 use Rattle.std.proofs.lemmas.Int.{int_wrap-add_left, int_wrap-add_right, int_wrap-add_same, int_wrap-mul_left}
-use Rattle.jxlm_base.specs.Numbers.{unpack}
+use Rattle.jxlm_bits.specs.Numbers.{unpack}
 use Rattle.jxlm_base.specs.Inner.SampleLaws.{int_wrap-narrow}
 use Rattle.jxlm_base.proofs.laws.narrow_samples_are_wide_ones_reduced.Goals as goal
 

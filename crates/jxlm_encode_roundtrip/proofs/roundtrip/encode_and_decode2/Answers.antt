@@ -1,5 +1,5 @@
 use Rattle.std.proofs.Common.{ℕ, List, map, subst}
-use Rattle.jxlm_base.specs.ErrorKind.{kind_of}
+use Rattle.jxlm_bits.specs.ErrorKind.{kind_of}
 use Rattle.jxlm_base.specs.Regions.{store_meanings}
 use Rattle.jxlm_plain.specs.Plain.{plain2}
 use Rattle.jxlm_encode_write.specs.Headers.{transform_of}

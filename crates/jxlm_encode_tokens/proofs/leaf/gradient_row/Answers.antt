@@ -1,5 +1,5 @@
 use Rattle.std.proofs.Common.{rules, map, pos, get_or, arith, refl, sym, ap, ◌∙◌, subst, w32, to_z, of_z, FitsSigned}
-use Rattle.jxlm_base.specs.Numbers.{clamped_gradient}
+use Rattle.jxlm_bits.specs.Numbers.{clamped_gradient}
 use Rattle.std.proofs.lemmas.Int.{to_z-of_z}
 use Rattle.jxlm_encode_tokens.specs.Tokens.{IsSampleToken}
 use Rattle.jxlm_encode_tokens.specs.Inner.Neighbours.{gradient_in, west_in}

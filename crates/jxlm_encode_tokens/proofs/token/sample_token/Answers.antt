@@ -1,7 +1,7 @@
 use Rattle.std.proofs.Common.{rules, ◌≡◌, ◌-ℤ◌, ap, ◌∙◌, w32, to_z, of_z, FitsSigned}
 use Rattle.std.specs.Int.{int_wrap}
 use Rattle.std.proofs.lemmas.Int.{to_z-of_z}
-use Rattle.jxlm_base.specs.Numbers.{unpack}
+use Rattle.jxlm_bits.specs.Numbers.{unpack}
 use Rattle.jxlm_encode_write.proofs.TreeLaws.{unpack_packed}
 use Rattle.jxlm_encode_tokens.proofs.OneToken.{is_token, reduced_at_once}
 use Rattle.jxlm_encode_tokens.proofs.token.sample_token.Goals as goal

@@ -1,7 +1,7 @@
 use Rattle.std.proofs.Common.{rules, ◌≡◌, ◌<◌, ◌^◌, ℤ, pos, ◌-ℤ◌, ◌*ℤ◌, refl, ap, ◌∙◌, w32, to_z, of_z, FitsSigned}
 use Rattle.std.specs.Int.{cast_signed, int_wrap}
 use Rattle.std.proofs.lemmas.Int.{to_z-of_z}
-use Rattle.jxlm_base.specs.Numbers.{unpack}
+use Rattle.jxlm_bits.specs.Numbers.{unpack}
 use Rattle.jxlm_encode_write.proofs.TreeLaws.{unpack_packed}
 use Rattle.jxlm_encode_tokens.proofs.Inverse.{is_only_token, read_as_signed}
 use Rattle.jxlm_encode_tokens.proofs.token.token_of.Goals as goal

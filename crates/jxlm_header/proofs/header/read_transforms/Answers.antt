@@ -2,9 +2,9 @@ use Rattle.std.proofs.Common.{List, ◌≡◌, ◌++◌, ◌∷◌, [], ◌∙�
 use Rattle.std.proofs.lemmas.List.{map_push}
 use Rattle.std.proofs.lemmas.List.Elements.{All-push}
 use Rattle.std.proofs.lemmas.Result.{err_from_is_err_and}
-use Rattle.jxlm_base.specs.Bits.{bytes_of, position_of}
-use Rattle.jxlm_base.specs.ErrorKind.{kind_of, UnlessNoMemory}
-use Rattle.jxlm_base.specs.Grammar.{IsErrorAt, repeated}
+use Rattle.jxlm_bits.specs.Bits.{bytes_of, position_of}
+use Rattle.jxlm_bits.specs.ErrorKind.{kind_of, UnlessNoMemory}
+use Rattle.jxlm_bits.specs.Grammar.{IsErrorAt, repeated}
 use Rattle.jxlm_transform.proofs.Failures.{unless_so}
 use Rattle.jxlm_transform.proofs.RepeatedLoop.{goes_on, stops}
 use Rattle.jxlm_transform.specs.Transforms.{IsTransform, KeepsWeights, transform_by, transform_of}

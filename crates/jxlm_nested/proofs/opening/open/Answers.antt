@@ -1,7 +1,7 @@
 use Rattle.std.proofs.Common.{◌≡◌, ◌∙◌, ap, List, map, refl, Ok}
 use Rattle.std.proofs.lemmas.Result.{err_from_is_err_and}
-use Rattle.jxlm_base.specs.Bits.{bytes_of, position_of}
-use Rattle.jxlm_base.specs.ErrorKind.{kind_of}
+use Rattle.jxlm_bits.specs.Bits.{bytes_of, position_of}
+use Rattle.jxlm_bits.specs.ErrorKind.{kind_of}
 use Rattle.jxlm_transform.proofs.Failures.{unless_no_memory}
 use Rattle.jxlm_transform.proofs.SideBounds.{narrow_coded}
 use Rattle.jxlm_transform.specs.Channels.{infos, tables_for}

@@ -1,5 +1,5 @@
 use Rattle.std.proofs.Common.{◌-◌, arith}
-use Rattle.jxlm_base.specs.Bits.{bytes_of, position_of}
+use Rattle.jxlm_bits.specs.Bits.{bytes_of, position_of}
 use Rattle.jxlm_plain.proofs.GammaBits.{all_read, none_read, fewer_left}
 use Rattle.jxlm_plain.proofs.gamma.last_bits.Goals as goal
 

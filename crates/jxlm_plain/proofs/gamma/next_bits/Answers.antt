@@ -1,4 +1,4 @@
-use Rattle.jxlm_base.specs.Bits.{bytes_of, position_of}
+use Rattle.jxlm_bits.specs.Bits.{bytes_of, position_of}
 use Rattle.jxlm_plain.proofs.GammaBits.{all_is, fewer_left}
 use Rattle.jxlm_plain.proofs.gamma.next_bits.Goals as goal
 

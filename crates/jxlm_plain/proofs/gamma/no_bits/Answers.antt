@@ -1,5 +1,5 @@
 use Rattle.std.proofs.Common.{◌≡◌, ◌<◌, sym, ◌∙◌, arith}
-use Rattle.jxlm_base.specs.Bits.{bytes_of, position_of}
+use Rattle.jxlm_bits.specs.Bits.{bytes_of, position_of}
 use Rattle.jxlm_plain.specs.Inner.GammaReads.{next_at}
 use Rattle.jxlm_plain.proofs.GammaBits.{low_some, low_none, low_zero}
 use Rattle.jxlm_plain.proofs.gamma.no_bits.Goals as goal

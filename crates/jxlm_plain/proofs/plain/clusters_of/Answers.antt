@@ -1,7 +1,7 @@
 use Rattle.std.proofs.Common.{rules, ◌<◌}
 use Rattle.std.proofs.lemmas.Result.{err_from_is_err_and}
 use Rattle.std.proofs.lemmas.List.Elements.{All-push}
-use Rattle.jxlm_base.specs.Bits.{bytes_of, position_of}
+use Rattle.jxlm_bits.specs.Bits.{bytes_of, position_of}
 use Rattle.jxlm_plain.specs.Plain.{cluster_at}
 use Rattle.jxlm_plain.proofs.ItemLoop.{goes_on, refused}
 use Rattle.jxlm_plain.proofs.plain.clusters_of.Goals as goal

@@ -1,5 +1,5 @@
 use Rattle.std.proofs.Common.{◌≡◌, ◌<◌, ◌-◌, All}
-use Rattle.jxlm_base.specs.Bits.{bytes_of, position_of}
+use Rattle.jxlm_bits.specs.Bits.{bytes_of, position_of}
 use Rattle.jxlm_plain.specs.Plain.{cluster_at, items_at}
 use Rattle.jxlm_plain.proofs.ItemLoop.{with_front}
 use Rattle.jxlm_plain.proofs.plain.clusters_of.Given as goal

@@ -1,7 +1,7 @@
 use Rattle.std.proofs.Common.{◌≡◌, ◌<◌, ◌∙◌, Err, Ok, arith, length, rules, subst}
-use Rattle.jxlm_base.specs.Bits.{bytes_of, position_of}
-use Rattle.jxlm_base.specs.Decoding.{ReadGives, TakesTokens}
-use Rattle.jxlm_base.proofs.DecodingLaws.{rest_more, takes_more}
+use Rattle.jxlm_bits.specs.Bits.{bytes_of, position_of}
+use Rattle.jxlm_bits.specs.Decoding.{ReadGives, TakesTokens}
+use Rattle.jxlm_bits.proofs.DecodingLaws.{rest_more, takes_more}
 use Rattle.jxlm_plain.specs.Plain.{plain_read, token_at}
 use Rattle.jxlm_plain.proofs.PlainGives.{read_given, state}
 use Rattle.jxlm_plain.proofs.plain.each_token.Goals as goal

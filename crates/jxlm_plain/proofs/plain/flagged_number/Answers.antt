@@ -1,4 +1,4 @@
-use Rattle.jxlm_base.specs.Bits.{bytes_of, position_of}
+use Rattle.jxlm_bits.specs.Bits.{bytes_of, position_of}
 use Rattle.jxlm_plain.proofs.PlainReads.{flagged_end, flagged_run, flagged_token}
 use Rattle.jxlm_plain.proofs.plain.flagged_number.Goals as goal
 

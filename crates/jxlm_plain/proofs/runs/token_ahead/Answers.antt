@@ -1,6 +1,6 @@
 use Rattle.std.proofs.Common.{arith, ◌+◌, ◌%◌, ◌≡◌}
 use Rattle.std.proofs.lemmas.Nat.{one_shl}
-use Rattle.jxlm_base.specs.Bits.{bytes_of, position_of}
+use Rattle.jxlm_bits.specs.Bits.{bytes_of, position_of}
 use Rattle.jxlm_plain.proofs.RunsAhead.{next_of_run, next_token}
 use Rattle.jxlm_plain.proofs.runs.token_ahead.Goals as goal
 

@@ -1,7 +1,7 @@
 use Rattle.std.proofs.Common.{◌≡◌, ◌+◌, ◌<◌, Ok, arith, length, refl, rules, subst}
-use Rattle.jxlm_base.specs.Bits.{bytes_of, position_of}
-use Rattle.jxlm_base.specs.Decoding.{TakesTokens}
-use Rattle.jxlm_base.proofs.DecodingLaws.{takes_more}
+use Rattle.jxlm_bits.specs.Bits.{bytes_of, position_of}
+use Rattle.jxlm_bits.specs.Decoding.{TakesTokens}
+use Rattle.jxlm_bits.proofs.DecodingLaws.{takes_more}
 use Rattle.jxlm_plain.specs.Plain.{plain_read}
 use Rattle.jxlm_plain.specs.declared.plain.Code.TheVariants.{Fixed}
 use Rattle.jxlm_plain.specs.declared.plain.Mode.TheVariants.{Runs}

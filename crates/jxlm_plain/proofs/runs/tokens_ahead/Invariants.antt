@@ -1,6 +1,6 @@
 use Rattle.std.proofs.Common.{◌≡◌, ℕ, ◌+◌, ◌*◌, ◌≤◌, List, length}
-use Rattle.jxlm_base.specs.Bits.{bytes_of, position_of}
-use Rattle.jxlm_base.specs.Decoding.{TakesTokens}
+use Rattle.jxlm_bits.specs.Bits.{bytes_of, position_of}
+use Rattle.jxlm_bits.specs.Decoding.{TakesTokens}
 use Rattle.jxlm_plain.specs.Plain.{code_of, plain_read}
 use Rattle.jxlm_plain.specs.declared.plain.Code.{Code}
 use Rattle.jxlm_plain.specs.declared.plain.Code.TheVariants.{Fixed}

@@ -1,5 +1,5 @@
 use Rattle.std.proofs.Common.{◌≡◌, ◌∙◌, bit_or, arith}
-use Rattle.jxlm_base.specs.Numbers.{floor_log2}
+use Rattle.jxlm_bits.specs.Numbers.{floor_log2}
 use Rattle.jxlm_predictor.proofs.Ranges.{log_of_odd, log_narrow}
 use Rattle.jxlm_predictor.proofs.self_correcting.floor_log2.Goals as goal
 

@@ -1,6 +1,6 @@
 use Rattle.std.proofs.Common.{◌≡◌, ◌<◌, Ok, map, length, arith, refl, subst, ◌∙◌}
 use Rattle.std.proofs.lemmas.List.{length-map}
-use Rattle.jxlm_base.specs.Bits.{bytes_of}
+use Rattle.jxlm_bits.specs.Bits.{bytes_of}
 use Rattle.jxlm_samples.specs.Inner.Rows.{CellsGive, FailsCell, ReadsCell, rule_on}
 use Rattle.jxlm_samples.specs.Reading.{cost_of}
 use Rattle.jxlm_samples.proofs.RowReads.{cell_fails, cell_more}

@@ -1,7 +1,7 @@
 use Rattle.std.proofs.Common.{rules, ℤ, pos, ◌≡◌, ◌+ℤ◌, ◌*ℤ◌, ap, ◌∙◌, w32, to_z, of_z, FitsSigned}
 use Rattle.std.specs.Int.{Width, int_wrap}
 use Rattle.std.proofs.lemmas.Int.{int_wrap-add_left, int_wrap-add_right, int_wrap-add_same, int_wrap-mul_left, to_z-of_z}
-use Rattle.jxlm_base.specs.Numbers.{unpack}
+use Rattle.jxlm_bits.specs.Numbers.{unpack}
 use Rattle.jxlm_samples.proofs.cell.sample_from.Goals as goal
 
 -- wrapping on the way changes nothing

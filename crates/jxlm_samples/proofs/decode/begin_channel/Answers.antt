@@ -1,5 +1,5 @@
 use Rattle.std.proofs.Common.{◌≡◌, ◌≤◌, [], true, false, sym, subst, ◌∙◌}
-use Rattle.jxlm_base.specs.Decoding.{Meaning}
+use Rattle.jxlm_bits.specs.Decoding.{Meaning}
 use Rattle.jxlm_tree.specs.FlatTree.{FlatTree}
 use Rattle.jxlm_tree.specs.Paths.{Gives, IsNamed, steps_on}
 use Rattle.jxlm_tree.specs.Steps.{most_steps}

@@ -1,5 +1,5 @@
 use Rattle.std.proofs.Common.{false, ◌≡◌, ◌-◌, ◌≤◌, map, length}
-use Rattle.jxlm_base.specs.Bits.{bytes_of}
+use Rattle.jxlm_bits.specs.Bits.{bytes_of}
 use Rattle.jxlm_samples.specs.Inner.Paths.{gradient_rule}
 use Rattle.jxlm_samples.specs.Inner.Rows.{ReadsCells}
 use Rattle.jxlm_samples.specs.declared.gradient.Leaves.TheVariants.{One}

@@ -1,5 +1,5 @@
 use Rattle.std.proofs.Common.{◌≡◌, ◌-◌, ◌≤◌, map, length}
-use Rattle.jxlm_base.specs.Bits.{bytes_of}
+use Rattle.jxlm_bits.specs.Bits.{bytes_of}
 use Rattle.jxlm_samples.specs.Inner.Paths.{zero_rule}
 use Rattle.jxlm_samples.specs.Inner.Rows.{ReadsCells}
 use Rattle.jxlm_samples.proofs.zeros.zero_cells.Given as goal

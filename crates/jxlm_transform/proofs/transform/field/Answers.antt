@@ -1,4 +1,4 @@
-use Rattle.jxlm_base.specs.Bits.{bytes_of, position_of}
+use Rattle.jxlm_bits.specs.Bits.{bytes_of, position_of}
 use Rattle.jxlm_transform.proofs.FieldRanges.{at_least, at_most}
 use Rattle.jxlm_transform.proofs.transform.field.Goals as goal
 

@@ -1,6 +1,6 @@
 use Rattle.std.proofs.Common.{◌≡◌, ◌≤◌, ◌∷◌, ◌++◌, [], ap, ◌∙◌, arith, rules}
 use Rattle.std.proofs.lemmas.List.{map-append}
-use Rattle.jxlm_base.specs.ErrorKind.{kind_of}
+use Rattle.jxlm_bits.specs.ErrorKind.{kind_of}
 use Rattle.jxlm_tree.specs.Inner.Building.{listed_of, trees_in}
 use Rattle.jxlm_tree.specs.Inner.Queue.{IsErrorInQueue, deepest, taken_up}
 use Rattle.jxlm_tree.specs.Tree.{depth}

@@ -1,13 +1,13 @@
 use Rattle.std.proofs.Common.{◌≡◌, ◌≢◌, ◌∙◌, ℕ, None, Result, Ok, Err, IfErr, refl, ap, sym, subst}
 use Rattle.std.specs.Result.{IsErr, IsErrAnd}
-use Rattle.jxlm_base.specs.Bits.{bytes_of, position_of}
-use Rattle.jxlm_base.specs.Decoding.{Fails, Meaning}
-use Rattle.jxlm_base.specs.ErrorKind.{NoMemory, OfDecoder, kind_of}
-use Rattle.jxlm_base.specs.declared.bits.Bitstream.{Bitstream}
-use Rattle.jxlm_base.specs.declared.decoder.DecoderError.{DecoderError}
-use Rattle.jxlm_base.specs.declared.decoder.DecoderError.TheVariants.{Invalid, OutOfMemory, UnexpectedEof}
-use Rattle.jxlm_base.specs.declared.error.Error.{Error}
-use Rattle.jxlm_base.specs.declared.error.Error.TheVariants.{Decoder}
+use Rattle.jxlm_bits.specs.Bits.{bytes_of, position_of}
+use Rattle.jxlm_bits.specs.Decoding.{Fails, Meaning}
+use Rattle.jxlm_bits.specs.ErrorKind.{NoMemory, OfDecoder, kind_of}
+use Rattle.jxlm_bits.specs.declared.bits.Bitstream.{Bitstream}
+use Rattle.jxlm_bits.specs.declared.decoder.DecoderError.{DecoderError}
+use Rattle.jxlm_bits.specs.declared.decoder.DecoderError.TheVariants.{Invalid, OutOfMemory, UnexpectedEof}
+use Rattle.jxlm_bits.specs.declared.error.Error.{Error}
+use Rattle.jxlm_bits.specs.declared.error.Error.TheVariants.{Decoder}
 use Rattle.jxlm_tree.specs.Inner.DraftReading.{DecoderGives}
 use Rattle.jxlm_tree.specs.TreeReading.{through}
 use Rattle.jxlm_tree.proofs.ma.parse_decoder.Goals as goal

@@ -1,6 +1,6 @@
 use Rattle.std.proofs.Common.{◌≡◌, ◌∙◌, ◌≤◌, ◌<◌, ◌^◌, ◌+◌, ℕ, codes, nat_lt, true, false, ap, arith}
 use Rattle.std.proofs.lemmas.Bool.Decides.{nat_tests}
-use Rattle.jxlm_base.specs.ErrorKind.{BadProfile, BadTree, kind_of}
+use Rattle.jxlm_bits.specs.ErrorKind.{BadProfile, BadTree, kind_of}
 use Rattle.jxlm_tree.specs.TreeReading.{limit_error, max_nodes}
 use Rattle.jxlm_tree.proofs.nodes.check_room.Goals as goal
 

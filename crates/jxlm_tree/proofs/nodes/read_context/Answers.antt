@@ -1,8 +1,8 @@
 use Rattle.std.proofs.Common.{◌∙◌, ℕ, List, Some, Err, ap, sym}
 use Rattle.std.proofs.lemmas.List.Elements.{Contains-get_or}
-use Rattle.jxlm_base.specs.Bits.{position_of}
-use Rattle.jxlm_base.specs.ErrorKind.{OfDecoder}
-use Rattle.jxlm_base.specs.declared.error.Error.TheVariants.{Decoder}
+use Rattle.jxlm_bits.specs.Bits.{position_of}
+use Rattle.jxlm_bits.specs.ErrorKind.{OfDecoder}
+use Rattle.jxlm_bits.specs.declared.error.Error.TheVariants.{Decoder}
 use Rattle.jxlm_tree.specs.TreeReading.{read_context, through}
 use Rattle.jxlm_tree.proofs.StepErrors.{no_value, step_fails}
 use Rattle.jxlm_tree.proofs.nodes.read_context.Goals as goal

@@ -1,6 +1,6 @@
 use Rattle.std.proofs.Common.{suc, ◌≡◌, ◌<◌, ◌+◌, ◌-◌, ◌∷◌, ◌++◌, [], length, map, ap, ◌∙◌, arith, rules}
 use Rattle.std.proofs.lemmas.List.{length-append, map-append}
-use Rattle.jxlm_base.specs.Bits.{bytes_of, position_of}
+use Rattle.jxlm_bits.specs.Bits.{bytes_of, position_of}
 use Rattle.jxlm_tree.specs.Inner.DraftReading.{node_of}
 use Rattle.jxlm_tree.specs.TreeReading.{children, limit_error, max_nodes}
 use Rattle.jxlm_tree.proofs.Accumulated.{node_more, node_fails, no_room, all_read, children_few, drafts_more}

@@ -1,5 +1,5 @@
 use Rattle.std.proofs.Common.{◌≡◌, ◌≤◌, length, map, ◌+◌, ◌-◌}
-use Rattle.jxlm_base.specs.Bits.{bytes_of, position_of}
+use Rattle.jxlm_bits.specs.Bits.{bytes_of, position_of}
 use Rattle.jxlm_tree.specs.Inner.DraftReading.{AllDrafts, node_of}
 use Rattle.jxlm_tree.specs.TreeReading.{limit_error, max_nodes, nodes_at}
 use Rattle.jxlm_tree.proofs.Accumulated.{with_front}

@@ -1,4 +1,4 @@
-use Rattle.jxlm_base.specs.declared.error.Error.TheVariants.{Bitstream}
+use Rattle.jxlm_bits.specs.declared.error.Error.TheVariants.{Bitstream}
 use Rattle.jxlm_tree.specs.TreeReading.{predictor_at}
 use Rattle.jxlm_predictor.specs.declared.predictor.Predictor.{Predictor}
 use Rattle.jxlm_tree.proofs.StepErrors.{no_value, step_fails}

@@ -1,5 +1,5 @@
 use Rattle.std.proofs.Common.{◌∙◌, refl}
-use Rattle.jxlm_base.specs.Bits.{bytes_of, position_of}
+use Rattle.jxlm_bits.specs.Bits.{bytes_of, position_of}
 use Rattle.jxl_coding.proofs.AnyMultiplier.{any_multiplier}
 use Rattle.jxl_coding.proofs.decoder.EntropyDecoderDecoder.read_varint_clustered.Goals as goal
 

@@ -1,5 +1,5 @@
 use Rattle.std.proofs.Common.{◌≡◌, ◌≤◌, refl, arith}
-use Rattle.jxlm_base.specs.Bits.{bytes_of, position_of}
+use Rattle.jxlm_bits.specs.Bits.{bytes_of, position_of}
 use Rattle.jxl_coding_codes.proofs.LookupEntries.{read_tells}
 use Rattle.jxl_coding_codes.proofs.lookup.Lookup.read_entry.Goals as goal
 

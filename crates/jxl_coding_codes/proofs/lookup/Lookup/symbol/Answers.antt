@@ -1,5 +1,5 @@
 use Rattle.std.proofs.Common.{rules}
-use Rattle.jxlm_base.specs.Bits.{bytes_of, position_of}
+use Rattle.jxlm_bits.specs.Bits.{bytes_of, position_of}
 use Rattle.jxl_coding_codes.proofs.LookupEntries.{told}
 use Rattle.jxl_coding_codes.proofs.lookup.Lookup.symbol.Goals as goal
 

@@ -1,6 +1,6 @@
 use Rattle.std.proofs.Common.{ℕ, ◌-◌, List, length, length-drop, drop, arith, subst}
 use Rattle.std.proofs.lemmas.List.{take_all}
-use Rattle.jxlm_base.specs.Bits.{position_of}
+use Rattle.jxlm_bits.specs.Bits.{position_of}
 use Rattle.jxl_image_header.specs.Images.{image_of}
 use Rattle.jxl_frame_header.specs.Frames.{frame_of}
 use Rattle.jxl_toc.specs.Tocs.{IsFirstTruncated}

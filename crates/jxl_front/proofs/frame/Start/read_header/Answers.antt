@@ -1,5 +1,5 @@
 use Rattle.std.proofs.Common.{◌≡◌, ◌∙◌, sym, subst, true, false}
-use Rattle.jxlm_base.specs.Bits.{bytes_of, position_of}
+use Rattle.jxlm_bits.specs.Bits.{bytes_of, position_of}
 use Rattle.jxl_image_header.specs.Images.{image_of}
 use Rattle.jxl_image_header.specs.declared.size.Size.{Size}
 use Rattle.jxl_frame_header.specs.Frames.{frame_of}

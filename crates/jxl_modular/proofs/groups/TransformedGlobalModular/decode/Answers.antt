@@ -1,5 +1,5 @@
 use Rattle.std.proofs.Common.{◌<◌, ◌∙◌, refl}
-use Rattle.jxlm_base.specs.Bits.{bytes_of, position_of}
+use Rattle.jxlm_bits.specs.Bits.{bytes_of, position_of}
 use Rattle.jxlm_samples.specs.Part.{cell_count}
 use Rattle.jxl_modular.specs.GroupParts.{channels_of}
 use Rattle.jxl_modular.proofs.GroupLaws.{empty_gives, full_gives, not_empty, others_kept}

@@ -2,8 +2,8 @@ use Rattle.std.specs.Prelude.{pos}
 use Rattle.std.specs.Option.{option_copied}
 use Rattle.std.proofs.Common.{ap, refl, ◌∙◌}
 use Rattle.std.proofs.lemmas.Result.{err_from_is_err_and}
-use Rattle.jxlm_base.specs.Bits.{bytes_of, position_of}
-use Rattle.jxlm_base.specs.ErrorKind.{kind_of}
+use Rattle.jxlm_bits.specs.Bits.{bytes_of, position_of}
+use Rattle.jxlm_bits.specs.ErrorKind.{kind_of}
 use Rattle.jxl_modular.proofs.GroupLaws.{nested_refused, nested_same, nested_whole, others_kept}
 use Rattle.jxl_modular.proofs.OtherParts.{others_stay}
 use Rattle.jxl_modular.proofs.TurnLaws.{same_here}

@@ -2,7 +2,7 @@ use Rattle.std.specs.Prelude.{pos}
 use Rattle.std.specs.Option.{option_copied}
 use Rattle.std.proofs.Common.{◌≡◌, ◌∙◌, length}
 use Rattle.std.proofs.lemmas.Result.{err_from_is_err_and}
-use Rattle.jxlm_base.specs.Bits.{bytes_of, position_of}
+use Rattle.jxlm_bits.specs.Bits.{bytes_of, position_of}
 use Rattle.jxlm_chain.proofs.ShapeLaws.{shape_kept}
 use Rattle.jxl_modular.proofs.Laid.{coded_sizes, same_but_store, still_laid}
 use Rattle.jxl_modular.proofs.NestedImage.{nested_ends, nested_fills, nested_gives, nested_narrow, nested_outside, not_begun}

@@ -1,5 +1,5 @@
 use Rattle.std.proofs.lemmas.Result.{err_from_is_err_and}
-use Rattle.jxlm_base.specs.Bits.{position_of}
+use Rattle.jxlm_bits.specs.Bits.{position_of}
 use Rattle.jxl_modular.proofs.TurnLaws.{plain_err, plain_ok}
 use Rattle.jxl_modular.proofs.image.ModularImageDestination.decode_plain.Goals as goal
 

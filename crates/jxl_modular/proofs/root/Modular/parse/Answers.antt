@@ -1,7 +1,7 @@
 use Rattle.std.proofs.Common.{arith, sym, ◌≡◌, ◌<◌, pos, List, [], length, map, rules, Err, Ok, ap, ◌∙◌, subst}
 use Rattle.std.specs.Option.{option_copied}
 use Rattle.std.specs.Prelude.{Bool, is_some}
-use Rattle.jxlm_base.specs.Bits.{bytes_of, position_of}
+use Rattle.jxlm_bits.specs.Bits.{bytes_of, position_of}
 use Rattle.jxlm_chain.specs.declared.placed.PlacedChannels.{PlacedChannels}
 use Rattle.jxlm_nested.specs.Opened.{IsOpened, TreeOfGives, opened_of}
 use Rattle.jxl_modular.specs.Parsing.{ParseGives}
@@ -11,7 +11,7 @@ use Rattle.jxlm_header.specs.declared.header.ModularHeader.{ModularHeader}
 use Rattle.jxl_modular.proofs.ParsingLaws.{image_stands, tree_fails, not_zero, gives_image, gives_error}
 use Rattle.jxlm_nested.proofs.StartLaws.{lent_some}
 use Rattle.jxl_modular.proofs.root.Modular.parse.Goals as goal
-use Rattle.jxlm_base.specs.ErrorKind.{kind_of}
+use Rattle.jxlm_bits.specs.ErrorKind.{kind_of}
 use Rattle.jxlm_transform.specs.Channels.{Channel, ChannelList, IsNarrow, image_channel, image_list}
 use Rattle.jxlm_transform.specs.Lists.{list_of}
 use Rattle.jxlm_transform.specs.Layout.{first_layout}

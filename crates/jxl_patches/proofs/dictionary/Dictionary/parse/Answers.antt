@@ -1,4 +1,4 @@
-use Rattle.jxlm_base.specs.Bits.{bytes_of, position_of}
+use Rattle.jxlm_bits.specs.Bits.{bytes_of, position_of}
 use Rattle.jxl_patches.proofs.Bounding.{cells_bounded}
 use Rattle.jxl_patches.proofs.Fitting.{patches_fit}
 use Rattle.jxl_patches.proofs.PatchLaws.{exact-dictionary}

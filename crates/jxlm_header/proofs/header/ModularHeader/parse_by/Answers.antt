@@ -1,9 +1,9 @@
 use Rattle.std.proofs.Common.{◌≡◌, ◌∙◌, Ok}
 use Rattle.std.proofs.lemmas.Result.{err_from_is_err_and}
-use Rattle.jxlm_base.specs.Bits.{bytes_of, position_of}
-use Rattle.jxlm_base.specs.ErrorKind.{kind_of, UnlessNoMemory}
-use Rattle.jxlm_base.specs.Grammar.{IsErrorAt, repeated, u32}
-use Rattle.jxlm_base.specs.declared.bits.U32Spec.TheVariants.{Const, Offset}
+use Rattle.jxlm_bits.specs.Bits.{bytes_of, position_of}
+use Rattle.jxlm_bits.specs.ErrorKind.{kind_of, UnlessNoMemory}
+use Rattle.jxlm_bits.specs.Grammar.{IsErrorAt, repeated, u32}
+use Rattle.jxlm_bits.specs.declared.bits.U32Spec.TheVariants.{Const, Offset}
 use Rattle.jxlm_transform.specs.Transforms.{transform_by}
 use Rattle.jxlm_predictor.specs.WeightsHeader.{wp_header}
 use Rattle.jxlm_header.proofs.HeaderLaws.{listed_fails}

@@ -1,6 +1,6 @@
 use Rattle.std.proofs.Common.{◌≡◌, ◌∙◌, ◌++◌, ap, length, pos, refl, take}
 use Rattle.std.proofs.lemmas.List.{with_items_is}
-use Rattle.jxlm_base.specs.Bits.{bytes_of, position_of}
+use Rattle.jxlm_bits.specs.Bits.{bytes_of, position_of}
 use Rattle.jxlm_chain.specs.Placed.{sides_in}
 use Rattle.jxlm_nested.specs.Zeros.{zeros}
 use Rattle.jxlm_nested.specs.NestedParts.{with_own_tables}

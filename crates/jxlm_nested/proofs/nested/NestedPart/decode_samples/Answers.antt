@@ -1,6 +1,6 @@
 use Rattle.std.proofs.Common.{ap, refl}
 use Rattle.std.proofs.lemmas.Result.{err_from_is_err_and}
-use Rattle.jxlm_base.specs.Bits.{bytes_of, position_of}
+use Rattle.jxlm_bits.specs.Bits.{bytes_of, position_of}
 use Rattle.jxlm_transform.specs.Channels.{infos, regions}
 use Rattle.jxlm_nested.proofs.NestedFills.{decoded_err, decoded_ok, nested_lies}
 use Rattle.jxlm_nested.proofs.nested.NestedPart.decode_samples.Goals as goal

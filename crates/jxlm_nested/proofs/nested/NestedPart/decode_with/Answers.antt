@@ -1,6 +1,6 @@
 use Rattle.std.proofs.Common.{rules, ◌≡◌, ◌<◌, List, ◌++◌, take, drop, length, sym, ap, ◌∙◌, subst, arith}
 use Rattle.std.proofs.lemmas.Grind.{common_steps}
-use Rattle.jxlm_base.specs.Bits.{bytes_of, position_of}
+use Rattle.jxlm_bits.specs.Bits.{bytes_of, position_of}
 use Rattle.jxlm_samples.specs.Part.{cell_count}
 use Rattle.jxlm_transform.specs.Channels.{infos}
 use Rattle.jxlm_transform.specs.declared.channels.PlacedChannel.{PlacedChannel}

@@ -1,4 +1,4 @@
-use Rattle.jxlm_base.specs.Bits.{bytes_of, position_of}
+use Rattle.jxlm_bits.specs.Bits.{bytes_of, position_of}
 use Rattle.jxlm_nested.proofs.NestedFills.{can_fill_kept, shape_decoded}
 use Rattle.jxlm_nested.proofs.nested.NestedPart.fill.Goals as goal
 

@@ -1,4 +1,4 @@
-use Rattle.jxlm_base.specs.Bits.{bytes_of, position_of}
+use Rattle.jxlm_bits.specs.Bits.{bytes_of, position_of}
 use Rattle.jxlm_plain.proofs.PlainGives.{begin_given, begin_kept}
 use Rattle.jxlm_plain.proofs.plain.Machine.begin.Goals as goal
 

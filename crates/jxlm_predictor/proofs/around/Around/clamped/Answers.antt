@@ -2,7 +2,7 @@ use Rattle.std.proofs.Common.{◌<◌, ◌^◌, ℤ, pos, ◌*ℤ◌, unsigned_a
 use Rattle.std.specs.Int.{w32, w64, int_min, int_max}
 use Rattle.std.proofs.lemmas.Int.{to_z-of_z, ints}
 use Rattle.std.specs.Int.Signed.{lt_z}
-use Rattle.jxlm_base.specs.Numbers.{clamped}
+use Rattle.jxlm_bits.specs.Numbers.{clamped}
 use Rattle.jxlm_predictor.proofs.around.Around.clamped.Goals as goal
 
 pick : (b : Bool) (x y : ℤ) (m : ℕ) → unsigned_abs x < m → unsigned_abs y < m → unsigned_abs (cond b x y) < m

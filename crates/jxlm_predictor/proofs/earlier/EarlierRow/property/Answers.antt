@@ -1,7 +1,7 @@
 use Rattle.std.proofs.Common.{◌≡◌, ℤ, ◌-ℤ◌, FitsSigned, refl, sym, ◌∙◌, arith, rules, to_z, of_z, ◌+◌, ◌-◌, ◌%◌}
 use Rattle.std.specs.Int.{w32, w64, int_wrap}
 use Rattle.std.proofs.lemmas.Int.{int_wrap_fits, to_z-of_z, ints, wraps}
-use Rattle.jxlm_base.specs.Numbers.{absolute}
+use Rattle.jxlm_bits.specs.Numbers.{absolute}
 use Rattle.jxlm_predictor.proofs.earlier.EarlierRow.property.Goals as goal
 
 less : (a b : ℤ) → FitsSigned w32 a → FitsSigned w32 b → to_z w32 ((of_z w32 a + (4294967296 - of_z w32 b)) % 4294967296) ≡ int_wrap w32 (a -ℤ b)

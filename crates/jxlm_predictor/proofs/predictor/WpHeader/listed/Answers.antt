@@ -1,5 +1,5 @@
 use Rattle.std.proofs.Common.{false, ap, sym, refl, ◌∙◌}
-use Rattle.jxlm_base.specs.Bits.{position_of}
+use Rattle.jxlm_bits.specs.Bits.{position_of}
 use Rattle.jxlm_predictor.specs.Inner.ListedWeights.{last_weights}
 use Rattle.jxlm_predictor.specs.declared.predictor.WpHeader.{WpHeader}
 use Rattle.jxlm_predictor.proofs.ListedWeights.{after, ended, no_header, read_on, refused}

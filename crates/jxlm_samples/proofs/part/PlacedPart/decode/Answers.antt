@@ -1,5 +1,5 @@
 use Rattle.std.proofs.Common.{refl}
-use Rattle.jxlm_base.specs.Bits.{bytes_of, position_of}
+use Rattle.jxlm_bits.specs.Bits.{bytes_of, position_of}
 use Rattle.jxlm_transform.specs.Channels.{infos, regions}
 use Rattle.jxlm_samples.specs.Placed.{part_placed}
 use Rattle.jxlm_samples.proofs.PartAnswers.{answers, answers_empty, bytes_kept, ends_of, keeps_of, placed_coding, placed_roomy}

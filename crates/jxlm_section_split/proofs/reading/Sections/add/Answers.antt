@@ -1,7 +1,7 @@
 use Rattle.std.proofs.Common.{◌≡◌, ◌%◌, ◌^◌, ◌++◌, ◌∷◌, [], true, ap, refl, rules, length}
 use Rattle.jxl_modular.specs.GroupParts.{section_part}
 use Rattle.jxl_modular.specs.declared.sections.Section.{Section}
-use Rattle.jxlm_base.specs.Bits.{bytes_of}
+use Rattle.jxlm_bits.specs.Bits.{bytes_of}
 use Rattle.jxlm_section_split.specs.CutErrors.{IsSplit}
 use Rattle.jxlm_section_split.specs.Splitting.{IsOfGroup}
 use Rattle.jxlm_section_split.proofs.SectionRows.{one_added}

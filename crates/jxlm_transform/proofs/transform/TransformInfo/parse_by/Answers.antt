@@ -1,9 +1,9 @@
 use Rattle.std.proofs.Common.{◌≡◌, Ok, false, rules, tests}
 use Rattle.std.specs.Prelude.{◌==◌}
 use Rattle.std.proofs.lemmas.Result.{err_from_is_err_and}
-use Rattle.jxlm_base.specs.Bits.{bytes_of, position_of}
-use Rattle.jxlm_base.specs.ErrorKind.{kind_of}
-use Rattle.jxlm_base.specs.Grammar.{IsErrorAt, number}
+use Rattle.jxlm_bits.specs.Bits.{bytes_of, position_of}
+use Rattle.jxlm_bits.specs.ErrorKind.{kind_of}
+use Rattle.jxlm_bits.specs.Grammar.{IsErrorAt, number}
 use Rattle.jxlm_transform.proofs.Failures.{squeeze_error, kind_error, unless_so}
 use Rattle.jxlm_transform.specs.Transforms.{squeeze}
 use Rattle.jxlm_transform.proofs.transform.TransformInfo.parse_by.Goals as goal

@@ -1,7 +1,7 @@
 use Rattle.std.proofs.Common.{◌≡◌, pos, ◌*ℤ◌, ◌∙◌, rules, w32, to_z, FitsSigned}
 use Rattle.std.specs.Int.{int_wrap}
 use Rattle.std.proofs.lemmas.Int.{int_wrap-add_same, int_wrap-mul_left, to_z-of_z}
-use Rattle.jxlm_base.specs.Numbers.{unpack}
+use Rattle.jxlm_bits.specs.Numbers.{unpack}
 use Rattle.jxlm_tree.proofs.flat.Leaf.residual.Goals as goal
 
 pub returns : goal.returns

@@ -1,0 +1,4 @@
+pub mod BitsLemmas
+pub mod DecodingLaws
+pub mod GrammarLaws
+pub mod Tokens

@@ -1,0 +1,13 @@
+use Rattle.std.proofs.Common.{◌≡◌, ℕ, ◌+◌, ◌*◌, ◌<◌, ◌≤◌, length, slice_index}
+use Rattle.jxlm_bits.specs.Bits.{bytes_of, position_of, bits_at}
+use Rattle.jxlm_bits.proofs.bits.Bitstream.take_some.Given as goal
+
+abbrev pub invariant-loop-k : goal.invariant-loop-k
+invariant-loop-k l = record {
+  len : length l.numbers ≡ length l.fn.numbers;
+  values : (j : ℕ) → j < l.k → slice_index l.numbers j ≡ bits_at (bytes_of l.fn.self) (position_of l.fn.self + l.n * j) l.n;
+  rest : (j : ℕ) → l.k ≤ j → slice_index l.numbers j ≡ slice_index l.fn.numbers j;
+  fit : position_of l.fn.self + l.n * l.k ≤ 8 * length (bytes_of l.fn.self);
+  position : position_of l.self ≡ position_of l.fn.self + l.n * l.k;
+  bytes : bytes_of l.self ≡ bytes_of l.fn.self;
+}

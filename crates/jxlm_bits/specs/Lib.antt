@@ -1,0 +1,5 @@
+pub mod Bits
+pub mod Decoding
+pub mod ErrorKind
+pub mod Grammar
+pub mod Numbers
