@@ -5,8 +5,8 @@ use Rattle.jxlm_bits.specs.Decoding.{Meaning}
 use Rattle.jxl_container.specs.Files.{HasCodestream, UnlessMemory}
 use Rattle.jxl_image_header.specs.Images.{Image, image_header}
 use Rattle.jxl_picture.specs.declared.limits.Limits.{Limits}
-use Rattle.jxl_front.specs.Fronts.{FrameAt, FrontFails, FrontStands, StandsAt}
-use Rattle.jxl_front.specs.declared.error.FrontError.{FrontError}
+use Rattle.jxl_codestream.specs.Fronts.{FrameAt, FrontFails, FrontStands, StandsAt}
+use Rattle.jxl_codestream.specs.declared.error.FrontError.{FrontError}
 use Rattle.jxl_info.specs.Reasons.{is_refusal}
 use Rattle.jxl_info.specs.Texts.{info_text}
 use Rattle.jxl_info.specs.declared.headers.HeadersError.{HeadersError}

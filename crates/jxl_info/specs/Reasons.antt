@@ -5,8 +5,8 @@ use Rattle.jxl_image_header.specs.declared.refusal.Refusal.{Refusal as ImageRefu
 use Rattle.jxl_image_header.specs.declared.refusal.Refusal.TheVariants as images
 use Rattle.jxl_frame_header.specs.declared.refusal.Refusal.{Refusal as FrameRefusal}
 use Rattle.jxl_frame_header.specs.declared.refusal.Refusal.TheVariants as frames
-use Rattle.jxl_front.specs.declared.error.FrontError.{FrontError}
-use Rattle.jxl_front.specs.declared.error.FrontError.TheVariants as errors
+use Rattle.jxl_codestream.specs.declared.error.FrontError.{FrontError}
+use Rattle.jxl_codestream.specs.declared.error.FrontError.TheVariants as errors
 
 unfoldable pub image_reason : ImageRefusal → List ℕ
 image_reason images.Preview = codes "a preview"

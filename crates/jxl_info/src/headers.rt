@@ -2,15 +2,15 @@
 
 ghost use Rattle.std.specs.Prelude.{◌≡◌, true, IfErr, IfOk};
 ghost use Rattle.jxl_image_header.specs.Images.{image_of};
-ghost use Rattle.jxl_front.specs.Fronts.{FrontFails};
+ghost use Rattle.jxl_codestream.specs.Fronts.{FrontFails};
 ghost use Rattle.jxl_info.specs.Reasons.{is_refusal as the_is_refusal};
 ghost use Rattle.jxl_info.specs.Headers.{HeadersFail, HeadersOfFile, HeadersStand, is_boxed as the_is_boxed};
 
 use crate::reasons::is_refusal;
 use jxl_container::codestream::find_codestream;
 use jxl_container::error::FileError;
-use jxl_front::error::FrontError;
-use jxl_front::front::Front;
+use jxl_codestream::error::FrontError;
+use jxl_codestream::front::Front;
 use jxl_image_header::image::ImageHeader;
 use jxl_picture::limits::Limits;
 use jxlm_bits::bits::Bitstream;

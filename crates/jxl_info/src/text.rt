@@ -11,7 +11,7 @@ use crate::channels::{append_channels, append_depth, append_extras};
 use crate::colours::append_colour;
 use crate::names::orientation_name;
 use crate::reasons::append_reason;
-use jxl_front::error::FrontError;
+use jxl_codestream::error::FrontError;
 use jxl_image_header::colour::ColourEncoding;
 use jxl_image_header::image::{Animation, Display, ImageHeader};
 use jxl_image_header::size::Size;

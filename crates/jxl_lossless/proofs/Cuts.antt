@@ -6,8 +6,8 @@ use Rattle.std.specs.Option.{option_map}
 use Rattle.std.proofs.lemmas.List.{length-map}
 use Rattle.std.proofs.lemmas.Option.{slice_get-map, slice_get_read}
 use Rattle.std.proofs.lemmas.Bool.Decides.{nat_tests}
-use Rattle.jxl_toc.specs.Layouts.{Layout, section_count_of, lf_section_of, pass_section_of}
-use Rattle.jxl_toc.specs.declared.toc.TocEntry.{TocEntry}
+use Rattle.jxl_codestream.specs.Layouts.{Layout, section_count_of, lf_section_of, pass_section_of}
+use Rattle.jxl_codestream.specs.declared.toc.TocEntry.{TocEntry}
 use Rattle.jxl_still.specs.Places.{place_of}
 use Rattle.jxl_still.specs.declared.places.Places.{Places}
 use Rattle.jxl_lossless.specs.Inner.Cuts.{AreOfGroups, lent, sections_of}

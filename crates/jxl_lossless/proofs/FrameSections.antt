@@ -4,15 +4,15 @@ use Rattle.std.specs.Borrow.{Bor}
 use Rattle.std.proofs.lemmas.List.{length-map, take_all}
 use Rattle.std.proofs.lemmas.Option.{get_or_from_slice_get}
 use Rattle.jxl_image_header.specs.Images.{Image}
-use Rattle.jxl_toc.specs.LayoutParts.{parts_of}
-use Rattle.jxl_toc.specs.Layouts.{Layout, section_count_of}
-use Rattle.jxl_toc.specs.declared.toc.TocEntry.{TocEntry}
+use Rattle.jxl_codestream.specs.LayoutParts.{parts_of}
+use Rattle.jxl_codestream.specs.Layouts.{Layout, section_count_of}
+use Rattle.jxl_codestream.specs.declared.toc.TocEntry.{TocEntry}
 use Rattle.jxlm_groups.specs.declared.part.SectionPart.{SectionPart}
 use Rattle.jxl_still.specs.Places.{section_at}
 use Rattle.jxl_still.specs.declared.places.Places.{Places}
-use Rattle.jxl_front.specs.Fronts.{layout_in}
-use Rattle.jxl_front.specs.FrontParts.{frame_at}
-use Rattle.jxl_front.specs.declared.frame.FrameFront.{FrameFront}
+use Rattle.jxl_codestream.specs.Fronts.{layout_in}
+use Rattle.jxl_codestream.specs.FrontParts.{frame_at}
+use Rattle.jxl_codestream.specs.declared.frame.FrameFront.{FrameFront}
 use Rattle.jxl_lossless.specs.Sections.{section_of, sections_in}
 use Rattle.jxl_lossless.specs.Inner.Cuts.{AreOfGroups, lent, sections_of}
 use Rattle.jxl_lossless.proofs.Cuts.{first_of, same_count, some_sections}

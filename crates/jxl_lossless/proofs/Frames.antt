@@ -20,7 +20,7 @@ use Rattle.jxl_still.specs.Places.{own_passes, section_at}
 use Rattle.jxl_still.specs.Stills.{IsStill, StillFails}
 use Rattle.jxl_still.specs.declared.error.FrameError.{FrameError}
 use Rattle.jxl_still.specs.declared.places.Places.{Places}
-use Rattle.jxl_front.specs.Fronts.{FrameAt, layout_in}
+use Rattle.jxl_codestream.specs.Fronts.{FrameAt, layout_in}
 use Rattle.jxl_patches.specs.Patches.{Patches}
 use Rattle.jxl_patches.specs.Errors.{patch_kind}
 use Rattle.jxl_patches.specs.declared.error.PatchError.{PatchError}

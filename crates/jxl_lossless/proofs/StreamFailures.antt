@@ -7,7 +7,7 @@ use Rattle.jxl_container.specs.Files.{HasCodestream}
 use Rattle.jxl_image_header.specs.Images.{Image}
 use Rattle.jxl_picture.specs.declared.limits.Limits.{Limits}
 use Rattle.jxl_picture.specs.declared.picture.Picture.{Picture}
-use Rattle.jxl_front.specs.Fronts.{FrameAt, FrontStands}
+use Rattle.jxl_codestream.specs.Fronts.{FrameAt, FrontStands}
 use Rattle.jxl_lossless.specs.Pictures.{FileFails, HasFront, IsPictureOfFile}
 use Rattle.jxl_lossless.specs.Saved.{FramesFail}
 use Rattle.jxl_lossless.specs.Inner.Streams.{HasStarts, IsPictureOf, StreamFails}

@@ -10,8 +10,8 @@ use Rattle.jxlm_transform.specs.Channels.{ChannelList, image_list}
 use Rattle.jxlm_transform.specs.declared.param.ModularParams.{ModularParams}
 use Rattle.jxl_image_header.specs.Images.{Image}
 use Rattle.jxl_image_header.specs.declared.size.Size.{Size}
-use Rattle.jxl_toc.specs.Starts.{section_start, tree_limit}
-use Rattle.jxl_front.specs.Fronts.{StandsAt}
+use Rattle.jxl_codestream.specs.Starts.{section_start, tree_limit}
+use Rattle.jxl_codestream.specs.Fronts.{StandsAt}
 use Rattle.jxl_picture.specs.Limits.{channel_count}
 use Rattle.jxl_still.specs.Places.{own_passes, section_at}
 use Rattle.jxl_still.specs.Stills.{IsStill, StillFails}

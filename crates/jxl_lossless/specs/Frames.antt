@@ -17,14 +17,14 @@ use Rattle.jxl_image_header.specs.Images.{Image}
 use Rattle.jxl_image_header.specs.declared.size.Size.{Size}
 use Rattle.jxl_frame_header.specs.Frames.{frame_size}
 use Rattle.jxl_frame_header.specs.Passes.{shifts_held}
-use Rattle.jxl_toc.specs.Starts.{section_start, tree_limit}
+use Rattle.jxl_codestream.specs.Starts.{section_start, tree_limit}
 use Rattle.jxl_patches.specs.Errors.{patch_kind}
 use Rattle.jxl_patches.specs.Patches.{Patches}
 use Rattle.jxl_patches.specs.Slots.{ArePut, Slots, optional_patches}
 use Rattle.jxl_picture.specs.Limits.{channel_count}
 use Rattle.jxl_picture.specs.Pictures.{colour_count, shifts_of}
 use Rattle.jxl_still.specs.Stills.{IsStill, StillFails}
-use Rattle.jxl_front.specs.Fronts.{FailsAt, FrameAt, StandsAt, layout_in}
+use Rattle.jxl_codestream.specs.Fronts.{FailsAt, FrameAt, StandsAt, layout_in}
 use Rattle.jxl_lossless.specs.Sections.{section_of, sections_in}
 use Rattle.jxl_lossless.specs.declared.error.FileError.{FileError}
 use Rattle.jxl_lossless.specs.declared.error.FileError.TheVariants as errors

@@ -6,7 +6,7 @@ use Rattle.jxl_image_header.specs.Images.{Image}
 use Rattle.jxl_image_header.specs.declared.size.Size.{Size}
 use Rattle.jxl_frame_header.specs.Frames.{frame_size}
 use Rattle.jxl_picture.specs.Pictures.{AreChannels}
-use Rattle.jxl_front.specs.Fronts.{FrameAt}
+use Rattle.jxl_codestream.specs.Fronts.{FrameAt}
 use Rattle.jxl_patches.specs.Slots.{Slots, no_slots, saved_in}
 use Rattle.jxl_lossless.specs.Frames.{FrameFails, IsFrame}
 use Rattle.jxl_lossless.specs.declared.error.FileError.{FileError}

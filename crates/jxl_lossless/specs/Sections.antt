@@ -3,8 +3,8 @@ use Rattle.std.specs.Prelude.{ℕ, ◌+◌, ◌*◌, List, map, take, drop, nat_
 use Rattle.std.specs.Option.{option_map}
 use Rattle.jxlm_groups.specs.declared.part.SectionPart.{SectionPart}
 use Rattle.jxlm_groups.specs.declared.part.SectionPart.TheVariants as parts
-use Rattle.jxl_toc.specs.Layouts.{Layout}
-use Rattle.jxl_front.specs.Fronts.{FrameAt}
+use Rattle.jxl_codestream.specs.Layouts.{Layout}
+use Rattle.jxl_codestream.specs.Fronts.{FrameAt}
 
 -- the bytes of the sections of a frame of a codestream, by their numbers: they lie from the byte on at which the frame begins
 abbrev pub sections_in : List ℕ → FrameAt → List (List ℕ)

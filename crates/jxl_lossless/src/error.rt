@@ -3,7 +3,7 @@
 ghost use Rattle.std.specs.Prelude.{◌≡◌};
 
 use jxl_container::error::FileError as BoxError;
-use jxl_front::error::FrontError;
+use jxl_codestream::error::FrontError;
 use jxl_patches::error::PatchError;
 use jxl_still::error::FrameError;
 use jxlm_bits::error::Error;

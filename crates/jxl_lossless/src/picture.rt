@@ -4,7 +4,7 @@ ghost use Rattle.std.specs.Prelude.{List, [], ◌∷◌, ◌++◌, map, IfErr, I
 ghost use Rattle.jxl_coding.specs.Parse.{decoder_at};
 ghost use Rattle.jxl_coding.specs.Tokens.{entropy};
 ghost use Rattle.jxl_image_header.specs.Images.{image_of};
-ghost use Rattle.jxl_front.specs.FrontParts.{IsReady, frame_at};
+ghost use Rattle.jxl_codestream.specs.FrontParts.{IsReady, frame_at};
 ghost use Rattle.jxl_picture.specs.Pictures.{IsWhole};
 ghost use Rattle.jxl_lossless.specs.Saved.{AreDecoded, FramesFail};
 ghost use Rattle.jxl_lossless.specs.Pictures.{FileFails, IsPictureOfFile};
@@ -14,7 +14,7 @@ use crate::error::FileError;
 use crate::frame::decode_channels;
 use crate::saved::decode_saved;
 use jxl_container::codestream::find_codestream;
-use jxl_front::front::Front;
+use jxl_codestream::front::Front;
 use jxl_modular::sections::Progress;
 use jxl_picture::limits::Limits;
 use jxl_picture::picture::Picture;

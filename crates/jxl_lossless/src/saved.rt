@@ -2,14 +2,14 @@
 
 ghost use Rattle.std.specs.Prelude.{List, [], ◌∷◌, ◌++◌, map, IfErr, IfOk};
 ghost use Rattle.jxl_image_header.specs.Images.{image_of};
-ghost use Rattle.jxl_front.specs.FrontParts.{IsReady, frame_at};
+ghost use Rattle.jxl_codestream.specs.FrontParts.{IsReady, frame_at};
 ghost use Rattle.jxl_patches.specs.Slots.{no_slots};
 ghost use Rattle.jxl_lossless.specs.Saved.{AreSaved, FramesFail, HoldChannels};
 ghost use Rattle.jxl_patches.specs.SavedParts.{slots_of};
 
 use crate::error::FileError;
 use crate::frame::decode_channels;
-use jxl_front::front::Front;
+use jxl_codestream::front::Front;
 use jxl_modular::sections::Progress;
 use jxl_patches::slots::SavedFrames;
 use jxlm_bits::decoder::Decoder;

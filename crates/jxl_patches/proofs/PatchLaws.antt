@@ -7,7 +7,7 @@ use Rattle.jxlm_bits.specs.Grammar.{IsExact}
 use Rattle.jxlm_bits.proofs.GrammarLaws.{exact-give, exact-fail}
 use Rattle.jxl_image_header.proofs.HeaderLaws.{bind, exact-meant}
 use Rattle.jxl_image_header.specs.declared.size.Size.{Size}
-use Rattle.jxl_toc.proofs.TocLaws.{exact-token, exact-chained, exact-coded}
+use Rattle.jxl_codestream.proofs.TocLaws.{exact-token, exact-chained, exact-coded}
 use Rattle.jxl_patches.specs.Patches.{Patches, most_rectangles, source, checked, coordinate, mode_of, one_mode, one_place, one_rectangle, dictionary}
 use Rattle.jxl_patches.specs.declared.dictionary.Rectangle.{Rectangle}
 

@@ -3,8 +3,8 @@ use Rattle.std.specs.Prelude.{ℕ, List, ◌++◌, codes}
 use Rattle.std.specs.Fmt.{decimal}
 use Rattle.jxl_container.specs.declared.error.FileError.{FileError as BoxError}
 use Rattle.jxl_container.specs.declared.error.FileError.TheVariants as boxes
-use Rattle.jxl_front.specs.declared.error.FrontError.{FrontError}
-use Rattle.jxl_front.specs.declared.error.FrontError.TheVariants as fronts
+use Rattle.jxl_codestream.specs.declared.error.FrontError.{FrontError}
+use Rattle.jxl_codestream.specs.declared.error.FrontError.TheVariants as fronts
 use Rattle.jxl_info.specs.Reasons.{frame_reason, image_reason}
 use Rattle.jxl_patches.specs.declared.error.PatchError.{PatchError}
 use Rattle.jxl_patches.specs.declared.error.PatchError.TheVariants as patches

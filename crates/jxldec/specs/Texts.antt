@@ -10,7 +10,7 @@ use Rattle.jxl_picture.specs.declared.limits.Limits.{Limits}
 use Rattle.jxl_picture.specs.declared.picture.Picture.{Picture}
 use Rattle.jxl_info.specs.Headers.{HeadersOfFile, IsInfoOfFile}
 use Rattle.jxl_lossless.specs.Pictures.{FileFails, IsPictureOfFile}
-use Rattle.jxl_front.specs.declared.error.FrontError.TheVariants as fronts
+use Rattle.jxl_codestream.specs.declared.error.FrontError.TheVariants as fronts
 use Rattle.jxl_image_header.specs.declared.size.Size.{Size}
 use Rattle.jxldec.specs.Failures.{failure_line, is_of_output, subject}
 use Rattle.jxldec.specs.Warnings.{kinds_left_out, warnings}

@@ -13,7 +13,7 @@ use crate::failures::Failure;
 use crate::meter::Line;
 use crate::options::Options;
 use crate::warning::{LeftOut, warn};
-use jxl_front::error::FrontError;
+use jxl_codestream::error::FrontError;
 use jxl_image_header::image::ImageHeader;
 use jxl_info::headers::{Headers, HeadersError, is_boxed};
 use jxl_info::text::info_text;

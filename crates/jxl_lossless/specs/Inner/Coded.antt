@@ -8,7 +8,7 @@ use Rattle.jxlm_tree.specs.Tree.{Config}
 use Rattle.jxl_image_header.specs.Images.{Image}
 use Rattle.jxl_image_header.specs.declared.size.Size.{Size}
 use Rattle.jxl_frame_header.specs.Frames.{Frame, frame_size}
-use Rattle.jxl_toc.specs.Starts.{section_start}
+use Rattle.jxl_codestream.specs.Starts.{section_start}
 use Rattle.jxl_patches.specs.Errors.{patch_kind}
 use Rattle.jxl_patches.specs.Patches.{Patches}
 use Rattle.jxl_patches.specs.Slots.{ArePut, Slots, optional_patches}
@@ -18,7 +18,7 @@ use Rattle.jxl_still.specs.Places.{own_passes, section_at}
 use Rattle.jxl_still.specs.Stills.{IsStill, StillFails}
 use Rattle.jxl_still.specs.declared.error.FrameError.{FrameError}
 use Rattle.jxl_still.specs.declared.places.Places.{Places}
-use Rattle.jxl_front.specs.Fronts.{FailsAt, StandsAt}
+use Rattle.jxl_codestream.specs.Fronts.{FailsAt, StandsAt}
 use Rattle.jxl_lossless.specs.Frames.{SharedTree, TreeFails, channels_given}
 use Rattle.jxl_lossless.specs.declared.error.FileError.{FileError}
 use Rattle.jxl_lossless.specs.declared.error.FileError.TheVariants as errors

@@ -7,7 +7,7 @@ use Rattle.jxl_picture.specs.declared.limits.Limits.{Limits}
 use Rattle.jxl_picture.specs.declared.picture.Picture.{Picture}
 use Rattle.jxl_coding.specs.Parse.{decoder_at}
 use Rattle.jxl_coding.specs.Tokens.{entropy}
-use Rattle.jxl_front.specs.Fronts.{FrameAt, FrontFails, FrontStands}
+use Rattle.jxl_codestream.specs.Fronts.{FrameAt, FrontFails, FrontStands}
 use Rattle.jxl_lossless.specs.Saved.{AreDecoded, FramesFail}
 use Rattle.jxl_lossless.specs.declared.error.FileError.{FileError}
 use Rattle.jxl_lossless.specs.declared.error.FileError.TheVariants as errors

@@ -1,4 +1,4 @@
-use Rattle.jxl_front.proofs.Fronts.{image_before}
+use Rattle.jxl_codestream.proofs.Fronts.{image_before}
 use Rattle.jxl_info.proofs.headers.read_codestream.Goals as goal
 
 pub returns-in-Ok-clause-ok : goal.returns-in-Ok-clause-ok

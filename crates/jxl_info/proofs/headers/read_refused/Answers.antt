@@ -1,7 +1,7 @@
 use Rattle.std.proofs.Common.{ℕ, List, subst}
 use Rattle.jxlm_bits.specs.Bits.{bytes_of, position_of}
 use Rattle.jxl_image_header.specs.Images.{image_header, image_of}
-use Rattle.jxl_front.specs.Fronts.{StandsAt}
+use Rattle.jxl_codestream.specs.Fronts.{StandsAt}
 use Rattle.jxl_info.proofs.headers.read_refused.Goals as goal
 
 pub returns-in-Ok-clause-ok : goal.returns-in-Ok-clause-ok

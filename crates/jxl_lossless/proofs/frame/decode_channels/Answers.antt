@@ -2,8 +2,8 @@ use Rattle.std.proofs.Common.{◌≡◌, ◌∙◌, ◌<◌, ℕ, ℤ, List, len
 use Rattle.std.specs.Prelude.{IfErr, IfOk}
 use Rattle.std.specs.BTreeMap.{BTreeMap}
 use Rattle.jxl_image_header.specs.Images.{image_of}
-use Rattle.jxl_front.specs.Fronts.{layout_in}
-use Rattle.jxl_front.specs.FrontParts.{frame_at}
+use Rattle.jxl_codestream.specs.Fronts.{layout_in}
+use Rattle.jxl_codestream.specs.FrontParts.{frame_at}
 use Rattle.jxl_patches.specs.SavedParts.{slots_of}
 use Rattle.jxl_frame_header.specs.Frames.{frame_of}
 use Rattle.jxl_frame_header.specs.Passes.{passes_of, shifts_held}

@@ -1,5 +1,5 @@
 use Rattle.jxl_image_header.specs.Images.{image_of}
-use Rattle.jxl_front.specs.FrontParts.{frame_at}
+use Rattle.jxl_codestream.specs.FrontParts.{frame_at}
 use Rattle.std.proofs.Common.{◌≡◌, map, Err, rules}
 use Rattle.std.proofs.lemmas.Result.{err_from_is_err_and}
 use Rattle.jxl_lossless.proofs.Channels.{whole_upright}

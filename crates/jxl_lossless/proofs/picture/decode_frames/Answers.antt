@@ -3,7 +3,7 @@ use Rattle.jxl_coding.specs.Parse.{decoder_at}
 use Rattle.jxl_coding.specs.Tokens.{entropy}
 use Rattle.jxl_image_header.specs.Images.{image_of}
 use Rattle.jxl_frame_header.specs.Frames.{frame_of, frame_size}
-use Rattle.jxl_front.specs.FrontParts.{frame_at}
+use Rattle.jxl_codestream.specs.FrontParts.{frame_at}
 use Rattle.jxl_patches.specs.SavedParts.{slots_of}
 use Rattle.jxl_lossless.proofs.SavedFrames.{all_decoded, all_whole, last_fails}
 use Rattle.jxl_lossless.proofs.picture.decode_frames.Goals as goal

@@ -3,8 +3,8 @@ use Rattle.std.proofs.lemmas.List.{map_more}
 use Rattle.std.proofs.lemmas.Result.{err_from_is_err_and}
 use Rattle.jxl_image_header.specs.Images.{image_of}
 use Rattle.jxl_image_header.specs.declared.size.Size.{Size}
-use Rattle.jxl_front.specs.FrontParts.{frame_at}
-use Rattle.jxl_front.specs.declared.frame.FrameFront.{FrameFront}
+use Rattle.jxl_codestream.specs.FrontParts.{frame_at}
+use Rattle.jxl_codestream.specs.declared.frame.FrameFront.{FrameFront}
 use Rattle.jxl_patches.specs.SavedParts.{slots_of}
 use Rattle.jxl_patches.specs.Slots.{Slots, no_slots, saved_in}
 use Rattle.jxl_lossless.specs.Saved.{HoldChannels}

@@ -1,6 +1,6 @@
 use Rattle.std.proofs.Common.{map, take}
 use Rattle.jxl_image_header.specs.Images.{image_of}
-use Rattle.jxl_front.specs.FrontParts.{frame_at}
+use Rattle.jxl_codestream.specs.FrontParts.{frame_at}
 use Rattle.jxl_patches.specs.Slots.{no_slots}
 use Rattle.jxl_lossless.specs.Saved.{AreSaved, HoldChannels}
 use Rattle.jxl_patches.specs.SavedParts.{slots_of}

@@ -1,7 +1,7 @@
 use Rattle.std.proofs.Common.{◌≡◌, ◌≢◌, ◌+◌, ◌-◌, arith, ap, ◌∙◌, length}
 use Rattle.std.specs.Prelude.{slice_range}
-use Rattle.jxl_toc.specs.Layouts.{section_count_of}
-use Rattle.jxl_toc.specs.LayoutParts.{parts_of}
+use Rattle.jxl_codestream.specs.Layouts.{section_count_of}
+use Rattle.jxl_codestream.specs.LayoutParts.{parts_of}
 use Rattle.jxl_lossless.proofs.Cuts.{several}
 use Rattle.jxl_lossless.proofs.sections.of_groups.Goals as goal
 

@@ -1,7 +1,7 @@
 use Rattle.std.proofs.Common.{◌≡◌, Some, true, refl, rules, subst}
 use Rattle.jxlm_bits.specs.Bits.{bytes_of, position_of}
-use Rattle.jxl_toc.specs.Starts.{section_start}
-use Rattle.jxl_front.specs.Fronts.{StandsAt}
+use Rattle.jxl_codestream.specs.Starts.{section_start}
+use Rattle.jxl_codestream.specs.Fronts.{StandsAt}
 use Rattle.jxl_lossless.proofs.Trees.{a_tree}
 use Rattle.jxl_lossless.proofs.tree.shared_tree.Goals as goal
 

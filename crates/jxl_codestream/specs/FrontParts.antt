@@ -1,0 +1,56 @@
+-- What is known of what a codestream tells before its sections.
+use Rattle.std.specs.Prelude.{◌≡◌, ℕ, ◌≤◌, ◌^◌, ◌&&◌, List, length, drop, map, All, true, false}
+use Rattle.std.specs.List.{list_all}
+use Rattle.jxlm_bits.specs.Decoding.{Meaning}
+use Rattle.jxlm_transform.specs.Params.{IsGroupDim}
+use Rattle.jxl_image_header.specs.Images.{Image, image_of}
+use Rattle.jxl_frame_header.specs.Frames.{frame_of, frame_size, has_shifts}
+use Rattle.jxl_frame_header.specs.Passes.{IsPassCount}
+use Rattle.jxl_codestream.specs.Layouts.{section_count_of}
+use Rattle.jxl_codestream.specs.LayoutParts.{parts_of}
+use Rattle.jxl_codestream.specs.Tocs.{is_within}
+use Rattle.jxl_picture.specs.Limits.{channel_count}
+use Rattle.jxl_picture.specs.declared.limits.Limits.{Limits}
+use Rattle.jxl_codestream.specs.Fronts.{AreBefore, FrameAt, FrontStands, layout_in}
+use Rattle.jxl_codestream.specs.declared.frame.FrameFront.{FrameFront}
+use Rattle.jxl_codestream.specs.declared.front.Front.{Front}
+
+-- what was read of a frame, without its memory
+abbrev pub frame_at : FrameFront → FrameAt
+frame_at f = record { start = f.start; header = frame_of f.header; entries = f.toc.entries.items }
+
+-- the shifts of extra channels are at most 3
+abbrev pub HasLowShifts : Image → Type 0
+HasLowShifts image = All (λ c. c.shift ≤ 3) image.extra
+
+-- What decoding a frame needs of it: sides that an image may have, groups, passes, sections that lie in the codestream, and no
+-- patches where an extra channel has a size of its own.
+pub record IsReadyFrame (bytes : List ℕ) (image : Image) (f : FrameFront) : Type 0 where
+  pub inside : f.start ≤ length bytes
+  pub wide : (frame_size image.size (frame_of f.header)).width ≤ 2 ^ 30
+  pub high : (frame_size image.size (frame_of f.header)).height ≤ 2 ^ 30
+  pub dim : IsGroupDim f.header.group_dim
+  pub plain : (f.header.coding.flags.patches && has_shifts image) ≡ false
+  pub passes : IsPassCount f.header.passes.count
+  pub cut : parts_of f.layout ≡ layout_in image (frame_of f.header)
+  pub count : length f.toc.entries.items ≡ section_count_of (layout_in image (frame_of f.header))
+  pub within : list_all (is_within (length (drop f.start bytes))) f.toc.entries.items ≡ true
+
+-- What decoding the frames of an image needs: so is each of them, samples and channels are not too many, shifts are low, and
+-- the frame that is shown covers the picture.
+pub record IsReady (bytes : List ℕ) (front : Front) : Type 0 where
+  pub deep : front.image.samples.depth.bits ≤ 32
+  pub many : channel_count (image_of front.image) ≤ 2 ^ 20
+  pub low : HasLowShifts (image_of front.image)
+  pub saved : All (IsReadyFrame bytes (image_of front.image)) front.saved.items
+  pub shown : IsReadyFrame bytes (image_of front.image) front.shown
+  pub covers : frame_size front.image.size (frame_of front.shown.header) ≡ front.image.size
+
+-- a frame begins at this byte, after saved frames with so many cells
+abbrev pub IsNext : {D : Type 0} → Meaning D → Limits → List ℕ → Image → ℕ → ℕ → Type 0
+IsNext d limits bytes image start used = (saved : List FrameAt) × AreBefore d limits bytes image saved start used
+
+-- what was read stands there
+pub record IsFrontOf {D : Type 0} (d : Meaning D) (limits : Limits) (bytes : List ℕ) (front : Front) : Type 0 where
+  pub stands : FrontStands d limits bytes (image_of front.image) (map frame_at front.saved.items) (frame_at front.shown)
+  pub ready : IsReady bytes front

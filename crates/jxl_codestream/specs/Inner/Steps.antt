@@ -1,0 +1,38 @@
+-- What calls and loops that read tokens return.
+use Rattle.std.specs.Prelude.{◌≡◌, ℕ, ◌+◌, ◌*◌, nat_le, if◌then◌else◌, [], ◌∷◌, slice_index, codes, Result, Ok, Err}
+use Rattle.jxlm_bits.specs.Decoding.{Found, Meaning}
+use Rattle.jxlm_bits.specs.ErrorKind.{BadProfile, ErrorAt, UnlessMemory, kind_of}
+use Rattle.jxlm_bits.specs.Grammar.{Grammar, IsErrorAt, give, fail, either, ◌>>=◌}
+use Rattle.jxlm_bits.specs.declared.error.Error.{Error}
+use Rattle.jxl_image_header.specs.Fields.{long, meant}
+use Rattle.jxl_codestream.specs.Tokens.{After, Tokens, called, token}
+use Rattle.jxl_codestream.specs.Orders.{context_of}
+use Rattle.jxl_codestream.specs.Profiles as profiles
+
+-- What was read, seen by view, and the decoder's state s and the reader's position q after it, are what reading gives, unless it
+-- or the decoder is out of memory.
+abbrev pub TokensRead : {S X Y : Type 0} → (X → Y) → Result X Error → S → ℕ → Result (Found (After S Y)) ErrorAt → Type 0
+TokensRead view (Ok v) s q reading = reading ≡ Ok (record { value = record { value = view v; state = s }; position = q })
+TokensRead view (Err e) s q reading = UnlessMemory (kind_of e) (IsErrorAt reading (kind_of e) q)
+
+-- such a loop, which left the decoder in state s and the reader at q, read something with that state
+abbrev pub StateReads : {S X : Type 0} → Result (Unit {0}) Error → S → ℕ → Result (Found (After S X)) ErrorAt → Type 0
+StateReads {S} {X} (Ok u) s q reading = (x : X) × (reading ≡ Ok (record { value = record { value = x; state = s }; position = q }))
+StateReads (Err e) s q reading = UnlessMemory (kind_of e) (IsErrorAt reading (kind_of e) q)
+
+-- the decoder of so many contexts, at the begin of its tokens
+abbrev pub decoder : {S : Type 0} → Meaning S → ℕ → Grammar S
+decoder d contexts = called (λ bytes p. d.parse bytes p contexts) >>= λ s. called (λ bytes p. d.begin s bytes p)
+
+-- how many digits a code of n numbers has
+abbrev pub told_digits : {S : Type 0} → Meaning S → ℕ → Tokens S ℕ
+told_digits d n = token d (context_of n) (λ v. meant (codes "permutation") (nat_le v n) v)
+
+-- the context of byte i of a profile, after these two
+abbrev pub context_after : ℕ → ℕ → ℕ → ℕ
+context_after i last before = if nat_le i 128 then 0 else
+    1 + profiles.kind_of last + 8 * slice_index (0 ∷ 1 ∷ 2 ∷ 2 ∷ 2 ∷ 3 ∷ 3 ∷ 4 ∷ []) (profiles.kind_of before)
+
+-- how many bytes a profile has, at most this many
+abbrev pub length_in : ℕ → Grammar ℕ
+length_in limit = long >>= λ n. either (nat_le n limit) (give n) (fail (BadProfile (codes "the profile is too long")))

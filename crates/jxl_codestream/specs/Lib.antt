@@ -1,0 +1,12 @@
+pub mod Tokens
+pub mod Turns
+pub mod Reading
+pub mod Layouts
+pub mod LayoutParts
+pub mod Starts
+pub mod Orders
+pub mod Tocs
+pub mod Profiles
+pub mod Inner
+pub mod Fronts
+pub mod FrontParts

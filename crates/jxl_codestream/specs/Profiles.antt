@@ -1,0 +1,31 @@
+-- The profile between the image header and the first frame (ISO/IEC 18181-1, ICC profile: the stream of its bytes).
+use Rattle.std.specs.Prelude.{ℕ, ◌+◌, ◌*◌, ◌%◌, ◌==◌, ◌&&◌, ◌||◌, nat_lt, nat_le, if◌then◌else◌, List, [], ◌∷◌, length, slice_index, codes}
+use Rattle.jxlm_bits.specs.Decoding.{Meaning}
+use Rattle.jxlm_bits.specs.ErrorKind.{BadProfile}
+use Rattle.jxlm_bits.specs.Grammar.{Grammar, give, fail, either, ◌>>=◌}
+use Rattle.jxl_image_header.specs.Fields.{long}
+use Rattle.jxl_codestream.specs.Tokens.{Tokens, token, coded}
+use Rattle.jxl_codestream.specs.Turns.{chained}
+
+-- the kind of a byte: letters, what numbers are written with, and others by their size
+abbrev pub kind_of : ℕ → ℕ
+kind_of byte =
+    if nat_le 97 byte && nat_le byte 122 || nat_le 65 byte && nat_le byte 90 then 0 else
+    if nat_le 48 byte && nat_le byte 57 || (byte == 46) || (byte == 44) then 1 else if byte == 0 then 2 else
+    if byte == 1 then 3 else if nat_lt byte 16 then 4 else if byte == 255 then 6 else if nat_lt 240 byte then 5 else 7
+
+-- the context of the byte after these, of which the last is the first in the list: by the kinds of the last two
+abbrev pub context_of : List ℕ → ℕ
+context_of bytes = if nat_le (length bytes) 128 then 0 else
+    1 + kind_of (slice_index bytes 0) + 8 * slice_index (0 ∷ 1 ∷ 2 ∷ 2 ∷ 2 ∷ 3 ∷ 3 ∷ 4 ∷ []) (kind_of (slice_index bytes 1))
+
+-- one byte more: of a token its 8 lowest bits
+abbrev pub one_byte : {S : Type 0} → Meaning S → List ℕ → Tokens S (List ℕ)
+one_byte d bytes = token d (context_of bytes) (λ v. give (v % 256 ∷ bytes))
+
+-- The profile: how many bytes it has, at most this many, and these, by a decoder of 41 contexts.
+abbrev pub profile : {S : Type 0} → Meaning S → ℕ → Grammar ℕ
+profile d limit = do
+  n ← long >>= λ n. either (nat_le n limit) (give n) (fail (BadProfile (codes "the profile is too long")))
+  bytes ← coded d 41 (chained (one_byte d) n [])
+  give n

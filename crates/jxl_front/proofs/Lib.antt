@@ -1,2 +1,0 @@
-pub mod Dims
-pub mod Fronts

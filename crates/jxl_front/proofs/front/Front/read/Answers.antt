@@ -1,9 +1,0 @@
-use Rattle.std.proofs.Common.{ℕ, List, subst}
-use Rattle.std.proofs.lemmas.Result.{err_from_is_err_and}
-use Rattle.jxl_front.specs.Fronts.{FrontFails}
-use Rattle.jxl_front.proofs.front.Front.read.Goals as goal
-
-pub returns-in_err-image-clause-err : goal.returns-in_err-image-clause-err
-returns-in_err-image-clause-err g c =
-    let p = err_from_is_err_and c.from_residual.result c.from_residual.ensures.1 in
-    rw (p.1, p.2) (subst (λ (b : List ℕ). FrontFails g.D.Decoder.meaning c.args.limits.now b c.in_err-image.field-0.0) c.new-bits.ensures.bytes c.in_err-image.ensures.err)

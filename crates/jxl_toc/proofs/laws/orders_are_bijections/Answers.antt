@@ -1,5 +1,0 @@
-use Rattle.jxl_toc.proofs.Bijections.{is_bijection, one_order}
-use Rattle.jxl_toc.proofs.laws.orders_are_bijections.Goals as goal
-
-pub returns : goal.returns
-returns c = record { places = is_bijection; one = one_order }

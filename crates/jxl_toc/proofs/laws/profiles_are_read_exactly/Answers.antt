@@ -1,5 +1,0 @@
-use Rattle.jxl_toc.proofs.TocLaws.{exact-profile}
-use Rattle.jxl_toc.proofs.laws.profiles_are_read_exactly.Goals as goal
-
-pub returns : goal.returns
-returns g c = exact-profile g.D.Decoder.meaning
