@@ -6,7 +6,7 @@ use Rattle.std.proofs.lemmas.List.{length-take-le, length-append, take-append-le
 use Rattle.std.proofs.Math.ListN.{get_or-append}
 use Rattle.std.proofs.lemmas.List.Folds.{list_any_at}
 use Rattle.std.proofs.lemmas.Bool.{eqb-true, eqb-false, cases_lt}
-use Rattle.jxl_codestream.proofs.Cases.{trichotomy, less_or_same}
+use Rattle.jxlm_bits.proofs.Cases.{trichotomy, less_or_same}
 use Rattle.jxl_codestream.proofs.Free.{free_all, free_over, free_after, free_up_to, none_left, other_taken, equals_itself}
 use Rattle.jxl_codestream.proofs.Lefts.{leads_to, stands_at}
 use Rattle.jxl_codestream.specs.Orders.{IsOrder, IsBijection}

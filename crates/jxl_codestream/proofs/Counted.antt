@@ -5,7 +5,7 @@ use Rattle.std.proofs.Math.Nat.{pow-suc, pow-zero, mul_comm, mul_assoc, suc-mul,
 use Rattle.std.proofs.lemmas.Nat.{pow_pos, pow-add, shl-shr}
 use Rattle.std.proofs.lemmas.List.{get_or-set_same, get_or-set_other, get_or_push}
 use Rattle.std.proofs.Math.ListN.{get_or-append}
-use Rattle.jxl_codestream.proofs.Cases.{trichotomy, less_or_same}
+use Rattle.jxlm_bits.proofs.Cases.{trichotomy, less_or_same}
 use Rattle.jxl_codestream.proofs.Free.{free_all, free_up_to, free_over, free_same, free_after, free_none, is_found}
 use Rattle.jxl_codestream.specs.Inner.Free.{free_below, is_taken, IsNext}
 use Rattle.jxl_codestream.specs.Inner.Counts.{IsCounted, IsPartly, AreAllFree}

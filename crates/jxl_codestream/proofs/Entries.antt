@@ -4,7 +4,7 @@ use Rattle.std.specs.Prelude.{slice_index}
 use Rattle.std.proofs.lemmas.List.{get_or_push, get_or-map, length-map, ext_get_or}
 use Rattle.std.proofs.Math.ListN.{get_or-append}
 use Rattle.jxl_codestream.proofs.Bijections.{next_at}
-use Rattle.jxl_codestream.proofs.Cases.{less_or_same}
+use Rattle.jxlm_bits.proofs.Cases.{less_or_same}
 use Rattle.jxl_codestream.specs.Orders.{IsOrder}
 use Rattle.jxl_codestream.specs.Tocs.{IsToc}
 use Rattle.jxl_codestream.specs.Inner.Entries.{AreEntries, entry_at}

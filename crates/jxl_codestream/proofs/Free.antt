@@ -3,7 +3,7 @@ use Rattle.std.proofs.Common.{◌≡◌, ℕ, zero, suc, ◌+◌, ◌<◌, ◌�
 use Rattle.std.specs.Prelude.{if◌then◌else◌, ◌||◌, ◌==◌}
 use Rattle.std.proofs.lemmas.Bool.{eqb-true, eqb-false}
 use Rattle.std.proofs.lemmas.List.Folds.{list_any-append}
-use Rattle.jxl_codestream.proofs.Cases.{less_or_same}
+use Rattle.jxlm_bits.proofs.Cases.{less_or_same}
 use Rattle.jxl_codestream.specs.Inner.Free.{free_below, is_taken}
 
 pub free_step : (taken : List ℕ) (v : ℕ) (b : Bool) → is_taken taken v ≡ b → free_below taken (suc v) ≡ free_below taken v + (if b then 0 else 1)

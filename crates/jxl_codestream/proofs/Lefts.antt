@@ -4,7 +4,7 @@ use Rattle.std.specs.Prelude.{not, slice_get, if◌then◌else◌}
 use Rattle.std.specs.List.{filter, range_with_len}
 use Rattle.std.proofs.lemmas.List.{length-append, append-nil}
 use Rattle.std.proofs.lemmas.List.Elements.{filter-append}
-use Rattle.jxl_codestream.proofs.Cases.{less_or_same}
+use Rattle.jxlm_bits.proofs.Cases.{less_or_same}
 use Rattle.jxl_codestream.proofs.Free.{free_none, free_step}
 use Rattle.jxl_codestream.specs.Orders.{left_of}
 use Rattle.jxl_codestream.specs.Inner.Free.{IsNext, free_below, is_taken}

@@ -1,15 +1,12 @@
-pub mod ReadSteps
-pub mod Cases
 pub mod Free
 pub mod Lefts
 pub mod Counted
 pub mod Bijections
-pub mod Chains
 pub mod TocLaws
 pub mod Groups
-pub mod Tokens
 pub mod Entries
 pub mod ProfileSteps
 pub mod TableSteps
 pub mod Dims
 pub mod Fronts
+pub mod ProfileBytes

@@ -3,8 +3,8 @@ use Rattle.std.proofs.Common.{◌≡◌, ℕ, List, [], Ok, refl}
 use Rattle.jxlm_bits.specs.Decoding.{Meaning}
 use Rattle.jxlm_bits.specs.ErrorKind.{ErrorKind, UnlessMemory}
 use Rattle.jxlm_bits.specs.Grammar.{IsErrorAt}
-use Rattle.jxl_codestream.proofs.ReadSteps.{unless_so}
-use Rattle.jxl_codestream.specs.Turns.{chained}
+use Rattle.jxlm_bits.proofs.ReadSteps.{unless_so}
+use Rattle.jxlm_bits.specs.Turns.{chained}
 use Rattle.jxl_codestream.specs.Profiles.{one_byte, profile}
 use Rattle.jxl_codestream.specs.Inner.Steps.{decoder, length_in}
 

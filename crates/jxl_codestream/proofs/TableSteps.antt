@@ -6,7 +6,7 @@ use Rattle.jxlm_bits.specs.Grammar.{IsErrorAt, flag}
 use Rattle.jxlm_bits.specs.declared.error.Error.{Error}
 use Rattle.jxl_image_header.specs.Fields.{when}
 use Rattle.jxl_image_header.specs.Reading.{Parses}
-use Rattle.jxl_codestream.proofs.ReadSteps.{unless_so, with_decoder}
+use Rattle.jxlm_bits.proofs.ReadSteps.{unless_so, with_decoder}
 use Rattle.jxl_codestream.specs.Reading.{Decodes}
 use Rattle.jxl_codestream.specs.Orders.{lehmer_code}
 use Rattle.jxl_codestream.specs.Tocs.{room, toc}

@@ -1,5 +1,3 @@
-pub mod Tokens
-pub mod Turns
 pub mod Reading
 pub mod Layouts
 pub mod LayoutParts

@@ -5,8 +5,8 @@ use Rattle.jxlm_bits.specs.Decoding.{Meaning}
 use Rattle.jxlm_bits.specs.ErrorKind.{BadEnum}
 use Rattle.jxlm_bits.specs.Grammar.{Grammar, give, fail, either}
 use Rattle.jxl_image_header.specs.Fields.{meant}
-use Rattle.jxl_codestream.specs.Tokens.{Tokens, token, coded}
-use Rattle.jxl_codestream.specs.Turns.{◌>>=◌, chained}
+use Rattle.jxlm_bits.specs.Tokens.{Tokens, token, coded}
+use Rattle.jxlm_bits.specs.Turns.{◌>>=◌, chained}
 
 -- the numbers below n that were not taken, in their order
 abbrev pub left_of : ℕ → List ℕ → List ℕ

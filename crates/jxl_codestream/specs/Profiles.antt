@@ -4,8 +4,8 @@ use Rattle.jxlm_bits.specs.Decoding.{Meaning}
 use Rattle.jxlm_bits.specs.ErrorKind.{BadProfile}
 use Rattle.jxlm_bits.specs.Grammar.{Grammar, give, fail, either, ◌>>=◌}
 use Rattle.jxl_image_header.specs.Fields.{long}
-use Rattle.jxl_codestream.specs.Tokens.{Tokens, token, coded}
-use Rattle.jxl_codestream.specs.Turns.{chained}
+use Rattle.jxlm_bits.specs.Tokens.{Tokens, token, coded}
+use Rattle.jxlm_bits.specs.Turns.{chained}
 
 -- the kind of a byte: letters, what numbers are written with, and others by their size
 abbrev pub kind_of : ℕ → ℕ

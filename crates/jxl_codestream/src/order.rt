@@ -3,8 +3,8 @@
 ghost use Rattle.std.specs.Prelude.{◌≡◌, ℕ, ◌+◌, ◌-◌, ◌*◌, ◌<◌, ◌≤◌, ◌^◌, List, [], ◌∷◌, ◌++◌, false, length, slice_index_or, IfOk, IfErr};
 ghost use Rattle.jxlm_bits.specs.Bits.{bytes_of, position_of};
 ghost use Rattle.jxlm_bits.specs.ErrorKind.{NoMemory, kind_of};
-ghost use Rattle.jxl_codestream.specs.Tokens.{told as the_told};
-ghost use Rattle.jxl_codestream.specs.Turns.{chained};
+ghost use Rattle.jxlm_bits.specs.Tokens.{told as the_told};
+ghost use Rattle.jxlm_bits.specs.Turns.{chained};
 ghost use Rattle.jxl_codestream.specs.Reading.{Decodes};
 ghost use Rattle.jxl_codestream.specs.Orders.{IsOrder, context_of as the_context_of, one_more, lehmer_code as the_lehmer_code};
 ghost use Rattle.jxl_codestream.specs.Inner.Free.{IsNext, free_below, is_taken};

@@ -4,7 +4,7 @@ ghost use Rattle.std.specs.Prelude.{◌≡◌, ◌<◌, List, [], ◌∷◌, IfO
 ghost use Rattle.jxlm_bits.specs.Bits.{bytes_of, position_of};
 ghost use Rattle.jxlm_bits.specs.Grammar.{Reads};
 ghost use Rattle.jxl_codestream.specs.Reading.{Decodes};
-ghost use Rattle.jxl_codestream.specs.Turns.{chained};
+ghost use Rattle.jxlm_bits.specs.Turns.{chained};
 ghost use Rattle.jxl_codestream.specs.Profiles.{kind_of as the_kind_of, one_byte, profile};
 ghost use Rattle.jxl_codestream.specs.Inner.Steps.{StateReads, context_after, length_in};
 

@@ -5,8 +5,8 @@ use Rattle.std.specs.Option.{option_map_or}
 use Rattle.jxlm_bits.specs.Grammar.{Grammar, IsExact}
 use Rattle.jxlm_bits.specs.Numbers.{unpack}
 use Rattle.jxlm_bits.specs.declared.bits.U32Spec.TheVariants.{Const, Offset}
-use Rattle.jxlm_bits.proofs.GrammarLaws.{exact-give, exact-number, exact-repeated, exact-flag, exact-u32}
-use Rattle.jxl_image_header.proofs.HeaderLaws.{bind, exact-checked, exact-extensions, exact-long, exact-name, exact-optional, exact-skipped, exact-told_if, exact-when}
+use Rattle.jxlm_bits.proofs.GrammarLaws.{bind, exact-give, exact-number, exact-repeated, exact-flag, exact-u32}
+use Rattle.jxl_image_header.proofs.HeaderLaws.{exact-checked, exact-extensions, exact-long, exact-name, exact-optional, exact-skipped, exact-told_if, exact-when}
 use Rattle.jxl_image_header.specs.Images.{Image}
 use Rattle.jxl_image_header.specs.declared.size.Size.{Size}
 use Rattle.jxl_image_header.specs.declared.image.Animation.{Animation}

@@ -5,21 +5,12 @@ use Rattle.jxlm_bits.specs.Decoding.{Found}
 use Rattle.jxlm_bits.specs.ErrorKind.{ErrorAt, BadEnum}
 use Rattle.jxlm_bits.specs.Grammar.{Grammar, IsExact, give, fail, ◌>>=◌}
 use Rattle.jxlm_bits.specs.declared.bits.U32Spec.TheVariants.{Const, Offset}
-use Rattle.jxlm_bits.proofs.GrammarLaws.{exact-give, exact-fail, exact-number, exact-bind, exact-either, exact-repeated, exact-flag, exact-part, exact-u32}
+use Rattle.jxlm_bits.proofs.GrammarLaws.{bind, found_same, none_found, exact-give, exact-fail, exact-number, exact-either, exact-repeated, exact-flag, exact-part, exact-u32}
 use Rattle.jxl_image_header.specs.Fields.{groups, long, when, optional, told_if, enumerated, meant, checked, skipped, extensions, name, here, aligned}
 use Rattle.jxl_image_header.specs.Sizes.{side, size, width_at}
 use Rattle.jxl_image_header.specs.Channels.{fits_float, bit_depth, extra_channel}
 use Rattle.jxl_image_header.specs.Colours.{coordinate, chromaticity, primary_colours, white, basis, transfer, colour_encoding, tone_mapping}
 use Rattle.jxl_image_header.specs.Images.{animation, matrices, image_header}
-
-pub bind : {X Y : Type 0} {field : Grammar X} {next : X → Grammar Y} → IsExact field → ((x : X) → IsExact (next x)) → IsExact (field >>= next)
-bind {field} {next} first rest = exact-bind field next first rest
-
-pub found_same : {X : Type 0} (a b : Found X) → ◌≡◌ {A = Result (Found X) ErrorAt} (Ok a) (Ok b) → a ≡ b
-found_same a b e = cc
-
-pub none_found : {X : Type 0} (e : ErrorAt) (found : Found X) → ◌≡◌ {A = Result (Found X) ErrorAt} (Err e) (Ok found) → ⊥
-none_found e found same = cc
 
 pub exact-when : {X : Type 0} {field : Grammar X} (there : Bool) (usual : X) → IsExact field → IsExact (when there field usual)
 exact-when {field} there usual exact = exact-either there field (give usual) exact (exact-give usual)

@@ -4,4 +4,3 @@ pub mod HeaderLaws
 pub mod Refusals
 pub mod RepeatedLoop
 pub mod SummedLoop
-pub mod UnlessMemory

@@ -8,8 +8,8 @@ use Rattle.std.proofs.Math.Nat.{suc-mul, mul_comm}
 use Rattle.jxlm_bits.specs.Decoding.{Meaning}
 use Rattle.jxlm_bits.specs.ErrorKind.{BadEnum, BadProfile, ErrorKind}
 use Rattle.jxl_image_header.specs.declared.size.Size.{Size}
-use Rattle.jxl_codestream.specs.Tokens.{After}
-use Rattle.jxl_codestream.specs.Turns.{chained}
+use Rattle.jxlm_bits.specs.Tokens.{After}
+use Rattle.jxlm_bits.specs.Turns.{chained}
 use Rattle.jxl_patches.proofs.Fitting.{token_ok}
 use Rattle.jxl_patches.specs.Patches.{Patches, most_rectangles, one_mode, one_place, one_rectangle, dictionary}
 use Rattle.jxl_patches.specs.Dictionaries.{area}

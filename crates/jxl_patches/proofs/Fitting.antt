@@ -8,9 +8,9 @@ use Rattle.std.proofs.Math.Nat.{suc-mul}
 use Rattle.jxlm_bits.specs.Decoding.{Meaning}
 use Rattle.jxlm_bits.specs.ErrorKind.{ErrorKind, BadEnum}
 use Rattle.jxl_image_header.specs.declared.size.Size.{Size}
-use Rattle.jxl_codestream.proofs.Cases.{less_or_same}
-use Rattle.jxl_codestream.specs.Tokens.{After, token}
-use Rattle.jxl_codestream.specs.Turns.{chained}
+use Rattle.jxlm_bits.proofs.Cases.{less_or_same}
+use Rattle.jxlm_bits.specs.Tokens.{After, token}
+use Rattle.jxlm_bits.specs.Turns.{chained}
 use Rattle.jxl_patches.specs.Patches.{Patches, checked, source, moved, nowhere, coordinate, one_mode, one_place, one_rectangle, dictionary}
 use Rattle.jxl_patches.specs.Dictionaries.{IsWithin, AreWithin}
 use Rattle.jxl_patches.specs.Inner.Steps.{inside}

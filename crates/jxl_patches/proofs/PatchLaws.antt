@@ -4,10 +4,10 @@ use Rattle.std.specs.Prelude.{nat_le, codes, is_some}
 use Rattle.jxlm_bits.specs.Decoding.{Meaning}
 use Rattle.jxlm_bits.specs.ErrorKind.{ErrorKind}
 use Rattle.jxlm_bits.specs.Grammar.{IsExact}
-use Rattle.jxlm_bits.proofs.GrammarLaws.{exact-give, exact-fail}
-use Rattle.jxl_image_header.proofs.HeaderLaws.{bind, exact-meant}
+use Rattle.jxlm_bits.proofs.GrammarLaws.{bind, exact-give, exact-fail}
+use Rattle.jxl_image_header.proofs.HeaderLaws.{exact-meant}
 use Rattle.jxl_image_header.specs.declared.size.Size.{Size}
-use Rattle.jxl_codestream.proofs.TocLaws.{exact-token, exact-chained, exact-coded}
+use Rattle.jxlm_bits.proofs.TokenLaws.{exact-token, exact-chained, exact-coded}
 use Rattle.jxl_patches.specs.Patches.{Patches, most_rectangles, source, checked, coordinate, mode_of, one_mode, one_place, one_rectangle, dictionary}
 use Rattle.jxl_patches.specs.declared.dictionary.Rectangle.{Rectangle}
 

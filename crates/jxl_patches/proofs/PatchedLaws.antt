@@ -2,7 +2,7 @@
 use Rattle.std.proofs.Common.{◌≡◌, ℕ, ℤ, zero, suc, ◌+◌, ◌*◌, ◌<◌, true, false, List, [], length, get_or, Option, ◌⊎◌, inl, inr, refl, ap, ◌∙◌, arith}
 use Rattle.jxl_image_header.specs.declared.size.Size.{Size}
 use Rattle.jxlm_base.specs.Grid.{Grid, grid}
-use Rattle.jxl_codestream.proofs.Cases.{less_or_same}
+use Rattle.jxlm_bits.proofs.Cases.{less_or_same}
 use Rattle.jxl_patches.specs.Dictionaries.{IsWithin, place_at}
 use Rattle.jxl_patches.specs.Patches.{Patches}
 use Rattle.jxl_patches.specs.Patched.{covers, laid, channel_of, kinds_of, mode_at, patched, PlaceFits, AreSaved, HaveSides, ReadPatchesFit}

@@ -7,8 +7,8 @@ use Rattle.jxlm_bits.specs.ErrorKind.{ErrorKind, BadEnum, BadProfile}
 use Rattle.jxlm_bits.specs.Grammar.{Grammar, give, fail}
 use Rattle.jxl_image_header.specs.Fields.{meant}
 use Rattle.jxl_image_header.specs.declared.size.Size.{Size}
-use Rattle.jxl_codestream.specs.Tokens.{Tokens, token, coded}
-use Rattle.jxl_codestream.specs.Turns.{◌>>=◌, chained}
+use Rattle.jxlm_bits.specs.Tokens.{Tokens, token, coded}
+use Rattle.jxlm_bits.specs.Turns.{◌>>=◌, chained}
 use Rattle.jxl_patches.specs.declared.dictionary.Rectangle.{Rectangle}
 use Rattle.jxl_patches.specs.declared.dictionary.Place.{Place}
 use Rattle.jxl_patches.specs.declared.dictionary.PatchMode.{PatchMode}

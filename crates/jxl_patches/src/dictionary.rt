@@ -3,7 +3,7 @@
 ghost use Rattle.std.specs.Prelude.{◌≡◌, ◌+◌, ◌<◌, ◌≤◌, ◌^◌, length, IfOk};
 ghost use Rattle.std.specs.List.{sum_by};
 ghost use Rattle.jxlm_bits.specs.Bits.{bytes_of, position_of};
-ghost use Rattle.jxl_codestream.specs.Turns.{chained};
+ghost use Rattle.jxlm_bits.specs.Turns.{chained};
 ghost use Rattle.jxl_patches.specs.Reading.{PatchesRead};
 ghost use Rattle.jxl_patches.specs.Patches.{one_rectangle as the_one_rectangle, dictionary as the_dictionary};
 ghost use Rattle.jxl_patches.specs.Inner.Steps.{StepRead};

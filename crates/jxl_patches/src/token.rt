@@ -2,7 +2,7 @@
 
 ghost use Rattle.std.specs.Prelude.{◌≡◌, ◌<◌, length, IfOk};
 ghost use Rattle.jxlm_bits.specs.Bits.{bytes_of, position_of};
-ghost use Rattle.jxl_codestream.specs.Tokens.{told};
+ghost use Rattle.jxlm_bits.specs.Tokens.{told};
 ghost use Rattle.jxl_patches.specs.Reading.{PatchesRead};
 ghost use Rattle.jxl_patches.specs.Inner.Steps.{TokenRead, decoder as the_decoder};
 

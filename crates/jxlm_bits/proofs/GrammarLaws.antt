@@ -10,10 +10,10 @@ use Rattle.jxlm_bits.specs.Grammar.{Grammar, IsExact, undone, number, give, fail
 use Rattle.jxlm_bits.specs.declared.bits.U32Spec.{U32Spec}
 use Rattle.jxlm_bits.specs.declared.bits.U32Spec.TheVariants.{Const, Offset}
 
-found_same : {X : Type 0} (a b : Found X) → ◌≡◌ {A = Result (Found X) ErrorAt} (Ok a) (Ok b) → a ≡ b
+pub found_same : {X : Type 0} (a b : Found X) → ◌≡◌ {A = Result (Found X) ErrorAt} (Ok a) (Ok b) → a ≡ b
 found_same a b e = cc
 
-none_found : {X : Type 0} (e : ErrorAt) (found : Found X) → ◌≡◌ {A = Result (Found X) ErrorAt} (Err e) (Ok found) → ⊥
+pub none_found : {X : Type 0} (e : ErrorAt) (found : Found X) → ◌≡◌ {A = Result (Found X) ErrorAt} (Err e) (Ok found) → ⊥
 none_found e found same = cc
 
 pub exact-give : {X : Type 0} (x : X) → IsExact (give x)
@@ -55,6 +55,9 @@ exact-bind field next first rest = record {
   stands_read = λ bytes p y q s.
       rw (first.stands_read bytes p s.0 s.1 s.2) ((rest s.0).stands_read bytes s.1 y q s.3);
 }
+
+pub bind : {X Y : Type 0} {field : Grammar X} {next : X → Grammar Y} → IsExact field → ((x : X) → IsExact (next x)) → IsExact (field >>= next)
+bind {field} {next} first rest = exact-bind field next first rest
 
 pub exact-either : {X : Type 0} (b : Bool) (f g : Grammar X) → IsExact f → IsExact g → IsExact (either b f g)
 exact-either true f g x y = record { read_stands = x.read_stands; stands_read = x.stands_read }

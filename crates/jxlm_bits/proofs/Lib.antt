@@ -2,3 +2,9 @@ pub mod BitsLemmas
 pub mod DecodingLaws
 pub mod GrammarLaws
 pub mod Tokens
+pub mod UnlessMemory
+pub mod ReadSteps
+pub mod TokenFields
+pub mod TokenLaws
+pub mod Chains
+pub mod Cases

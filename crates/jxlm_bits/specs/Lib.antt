@@ -3,3 +3,5 @@ pub mod Decoding
 pub mod ErrorKind
 pub mod Grammar
 pub mod Numbers
+pub mod Tokens
+pub mod Turns

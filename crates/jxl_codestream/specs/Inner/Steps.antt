@@ -5,7 +5,7 @@ use Rattle.jxlm_bits.specs.ErrorKind.{BadProfile, ErrorAt, UnlessMemory, kind_of
 use Rattle.jxlm_bits.specs.Grammar.{Grammar, IsErrorAt, give, fail, either, ◌>>=◌}
 use Rattle.jxlm_bits.specs.declared.error.Error.{Error}
 use Rattle.jxl_image_header.specs.Fields.{long, meant}
-use Rattle.jxl_codestream.specs.Tokens.{After, Tokens, called, token}
+use Rattle.jxlm_bits.specs.Tokens.{After, Tokens, called, token}
 use Rattle.jxl_codestream.specs.Orders.{context_of}
 use Rattle.jxl_codestream.specs.Profiles as profiles
 

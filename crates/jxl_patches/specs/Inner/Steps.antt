@@ -6,7 +6,7 @@ use Rattle.jxlm_bits.specs.ErrorKind.{BadEnum, BadProfile, ErrorAt, ErrorKind, U
 use Rattle.jxlm_bits.specs.Grammar.{Grammar, IsErrorAt, ◌>>=◌}
 use Rattle.jxl_image_header.specs.Fields.{meant}
 use Rattle.jxl_image_header.specs.declared.size.Size.{Size}
-use Rattle.jxl_codestream.specs.Tokens.{After, Tokens, called, token}
+use Rattle.jxlm_bits.specs.Tokens.{After, Tokens, called, token}
 use Rattle.jxl_patches.specs.Dictionaries.{patches_of}
 use Rattle.jxl_patches.specs.Errors.{patch_kind}
 use Rattle.jxl_patches.specs.Patches.{Patches, checked, most_rectangles}

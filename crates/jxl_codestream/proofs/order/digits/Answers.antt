@@ -4,7 +4,7 @@ use Rattle.jxlm_bits.specs.Bits.{bytes_of, position_of}
 use Rattle.jxlm_bits.specs.ErrorKind.{kind_of, UnlessMemory}
 use Rattle.jxlm_bits.specs.Grammar.{IsErrorAt}
 use Rattle.jxl_codestream.specs.Orders.{one_more}
-use Rattle.jxl_codestream.proofs.Chains.{chain_step, chain_fails, chain_ends}
+use Rattle.jxlm_bits.proofs.Chains.{chain_step, chain_fails, chain_ends}
 use Rattle.jxl_codestream.proofs.Bijections.{digits_more}
 use Rattle.jxl_codestream.proofs.order.digits.Goals as goal
 

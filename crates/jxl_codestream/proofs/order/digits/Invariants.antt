@@ -1,6 +1,6 @@
 use Rattle.std.proofs.Common.{◌≡◌, ◌-◌, [], length}
 use Rattle.jxlm_bits.specs.Bits.{bytes_of, position_of}
-use Rattle.jxl_codestream.specs.Turns.{chained}
+use Rattle.jxlm_bits.specs.Turns.{chained}
 use Rattle.jxl_codestream.specs.Orders.{one_more}
 use Rattle.jxl_codestream.specs.Inner.Counts.{AreDigits}
 use Rattle.jxl_codestream.proofs.order.digits.Given as goal

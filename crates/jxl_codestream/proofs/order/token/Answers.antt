@@ -1,7 +1,7 @@
 use Rattle.std.proofs.lemmas.List.Elements.{Contains-get_or}
 use Rattle.std.proofs.lemmas.Result.{err_from_is_err_and}
 use Rattle.jxlm_bits.specs.Bits.{position_of}
-use Rattle.jxl_codestream.proofs.Tokens.{token_ok, token_err}
+use Rattle.jxlm_bits.proofs.TokenFields.{token_ok, token_err}
 use Rattle.jxl_codestream.proofs.order.token.Goals as goal
 
 pub returns-in_err-read_varint-clause-gives : goal.returns-in_err-read_varint-clause-gives

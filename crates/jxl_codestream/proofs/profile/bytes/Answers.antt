@@ -4,9 +4,10 @@ use Rattle.jxlm_bits.specs.Bits.{bytes_of, position_of}
 use Rattle.jxlm_bits.specs.ErrorKind.{kind_of, UnlessMemory}
 use Rattle.jxlm_bits.specs.Grammar.{IsErrorAt, give}
 use Rattle.jxl_codestream.specs.Profiles.{context_of, one_byte}
-use Rattle.jxl_codestream.specs.Tokens.{told}
-use Rattle.jxl_codestream.proofs.Chains.{chain_step, chain_fails, chain_ends}
-use Rattle.jxl_codestream.proofs.Tokens.{byte_ok, token_refuses}
+use Rattle.jxlm_bits.specs.Tokens.{told}
+use Rattle.jxlm_bits.proofs.Chains.{chain_step, chain_fails, chain_ends}
+use Rattle.jxl_codestream.proofs.ProfileBytes.{byte_ok}
+use Rattle.jxlm_bits.proofs.TokenFields.{token_refuses}
 use Rattle.jxl_codestream.proofs.profile.bytes.Goals as goal
 
 pub returns-in_err-value-clause-gives : goal.returns-in_err-value-clause-gives

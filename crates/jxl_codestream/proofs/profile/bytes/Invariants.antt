@@ -1,7 +1,7 @@
 use Rattle.std.proofs.Common.{◌≡◌, ◌-◌, ℕ, List, [], length}
 use Rattle.std.specs.Prelude.{slice_index}
 use Rattle.jxlm_bits.specs.Bits.{bytes_of, position_of}
-use Rattle.jxl_codestream.specs.Turns.{chained}
+use Rattle.jxlm_bits.specs.Turns.{chained}
 use Rattle.jxl_codestream.specs.Profiles.{one_byte}
 use Rattle.jxl_codestream.proofs.profile.bytes.Given as goal
 

@@ -4,7 +4,7 @@ use Rattle.jxlm_bits.specs.Bits.{bytes_of, position_of}
 use Rattle.jxlm_bits.specs.ErrorKind.{kind_of, UnlessMemory}
 use Rattle.jxlm_bits.specs.Grammar.{IsErrorAt}
 use Rattle.jxl_codestream.specs.Inner.Steps.{decoder}
-use Rattle.jxl_codestream.specs.Turns.{chained}
+use Rattle.jxlm_bits.specs.Turns.{chained}
 use Rattle.jxl_codestream.specs.Profiles.{one_byte}
 use Rattle.jxl_codestream.proofs.ProfileSteps.{profile_fails}
 use Rattle.jxl_codestream.proofs.profile.skip_profile.Goals as goal

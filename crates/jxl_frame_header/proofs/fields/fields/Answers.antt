@@ -4,7 +4,7 @@ use Rattle.jxlm_bits.specs.Bits.{bytes_of, position_of}
 use Rattle.jxlm_bits.specs.ErrorKind.{bitstream_kind}
 use Rattle.jxlm_bits.specs.Grammar.{u32}
 use Rattle.jxl_image_header.proofs.RepeatedLoop.{goes_on, stops}
-use Rattle.jxl_image_header.proofs.UnlessMemory.{unless_no_memory}
+use Rattle.jxlm_bits.proofs.UnlessMemory.{unless_no_memory}
 use Rattle.jxl_frame_header.proofs.fields.fields.Goals as goal
 
 pub returns-in_err-value-clause-gives : goal.returns-in_err-value-clause-gives

@@ -1,9 +1,9 @@
 use Rattle.std.proofs.Common.{◌≡◌, ◌*◌, Ok, arith}
 use Rattle.std.proofs.Math.Nat.{mul_comm}
 use Rattle.jxlm_bits.specs.Bits.{bytes_of, position_of}
-use Rattle.jxl_codestream.proofs.TocLaws.{exact-chained}
-use Rattle.jxl_codestream.specs.Tokens.{After}
-use Rattle.jxl_codestream.specs.Turns.{chained}
+use Rattle.jxlm_bits.proofs.TokenLaws.{exact-chained}
+use Rattle.jxlm_bits.specs.Tokens.{After}
+use Rattle.jxlm_bits.specs.Turns.{chained}
 use Rattle.jxl_patches.specs.Dictionaries.{patches_of}
 use Rattle.jxl_patches.specs.Patches.{Patches, one_place}
 use Rattle.jxl_patches.proofs.Bounding.{places_add}

@@ -1,7 +1,7 @@
 use Rattle.std.proofs.Common.{◌≡◌, ◌-◌, length}
 use Rattle.std.specs.List.{sum_by}
 use Rattle.jxlm_bits.specs.Bits.{bytes_of, position_of}
-use Rattle.jxl_codestream.specs.Turns.{chained}
+use Rattle.jxlm_bits.specs.Turns.{chained}
 use Rattle.jxl_patches.specs.Patches.{one_rectangle}
 use Rattle.jxl_patches.specs.Dictionaries.{area, patches_of}
 use Rattle.jxl_patches.proofs.dictionary.rectangles.Given as goal

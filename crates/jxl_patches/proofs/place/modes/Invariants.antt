@@ -1,6 +1,6 @@
 use Rattle.std.proofs.Common.{◌≡◌, ◌-◌, length}
 use Rattle.jxlm_bits.specs.Bits.{bytes_of, position_of}
-use Rattle.jxl_codestream.specs.Turns.{chained}
+use Rattle.jxlm_bits.specs.Turns.{chained}
 use Rattle.jxl_patches.specs.Patches.{one_mode}
 use Rattle.jxl_patches.specs.Dictionaries.{patches_of}
 use Rattle.jxl_patches.proofs.place.modes.Given as goal

@@ -3,7 +3,7 @@ use Rattle.std.proofs.lemmas.Result.{err_from_is_err_and}
 use Rattle.jxlm_bits.specs.Bits.{bytes_of, position_of}
 use Rattle.jxlm_bits.specs.ErrorKind.{UnlessMemory}
 use Rattle.jxlm_bits.specs.Grammar.{IsErrorAt}
-use Rattle.jxl_codestream.proofs.Chains.{chain_step, chain_fails, chain_ends}
+use Rattle.jxlm_bits.proofs.Chains.{chain_step, chain_fails, chain_ends}
 use Rattle.jxl_patches.specs.Errors.{patch_kind}
 use Rattle.jxl_patches.specs.Patches.{one_place}
 use Rattle.jxl_patches.specs.Dictionaries.{patches_of}

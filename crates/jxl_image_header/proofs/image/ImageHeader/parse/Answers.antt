@@ -3,7 +3,7 @@ use Rattle.std.proofs.lemmas.Result.{err_from_is_err_and}
 use Rattle.jxlm_bits.specs.Bits.{position_of}
 use Rattle.jxlm_bits.specs.ErrorKind.{bitstream_kind, kind_of}
 use Rattle.jxl_image_header.specs.Images.{image_header}
-use Rattle.jxl_image_header.proofs.UnlessMemory.{fails_first, unless_no_memory}
+use Rattle.jxlm_bits.proofs.UnlessMemory.{fails_first, unless_no_memory}
 use Rattle.jxl_image_header.proofs.image.ImageHeader.parse.Goals as goal
 
 pub returns-in_err-extra-clause-gives : goal.returns-in_err-extra-clause-gives

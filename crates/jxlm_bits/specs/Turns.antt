@@ -2,7 +2,7 @@
 use Rattle.std.specs.Prelude.{ℕ, zero, suc}
 use Rattle.jxlm_bits.specs.Grammar as fields
 use Rattle.jxlm_bits.specs.Grammar.{give}
-use Rattle.jxl_codestream.specs.Tokens.{Tokens}
+use Rattle.jxlm_bits.specs.Tokens.{Tokens}
 
 infixl 10 ◌>>=◌
 abbrev pub ◌>>=◌ : {S X Y : Type 0} → Tokens S X → (X → Tokens S Y) → Tokens S Y

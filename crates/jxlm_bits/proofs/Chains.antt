@@ -2,9 +2,9 @@
 use Rattle.std.proofs.Common.{◌≡◌, ℕ, suc, ◌+◌, ◌-◌, ◌<◌, ◌≤◌, List, Ok, refl, arith}
 use Rattle.jxlm_bits.specs.ErrorKind.{ErrorKind, UnlessMemory}
 use Rattle.jxlm_bits.specs.Grammar.{IsErrorAt}
-use Rattle.jxl_codestream.proofs.ReadSteps.{unless_so}
-use Rattle.jxl_codestream.specs.Tokens.{Tokens}
-use Rattle.jxl_codestream.specs.Turns.{chained}
+use Rattle.jxlm_bits.proofs.ReadSteps.{unless_so}
+use Rattle.jxlm_bits.specs.Tokens.{Tokens}
+use Rattle.jxlm_bits.specs.Turns.{chained}
 
 module _ {S X : Type 0} (step : X → Tokens S X) (bytes : List ℕ) (n : ℕ) where
   -- one more step was read

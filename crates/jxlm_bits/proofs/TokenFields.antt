@@ -1,13 +1,12 @@
 -- Tokens as fields, and what a call that reads one returns.
-use Rattle.std.proofs.Common.{◌≡◌, ℕ, ◌%◌, List, ◌∷◌, Ok, Err, None, Result, refl}
+use Rattle.std.proofs.Common.{◌≡◌, ℕ, List, Ok, Err, None, Result, refl}
 use Rattle.std.specs.Result.{result_map_both}
 use Rattle.jxlm_bits.specs.Decoding.{Found, Taken, Meaning}
 use Rattle.jxlm_bits.specs.ErrorKind.{ErrorKind, ErrorAt, OfDecoder, UnlessMemory}
 use Rattle.jxlm_bits.specs.Grammar.{Grammar, IsErrorAt, give, ◌>>=◌}
 use Rattle.jxlm_bits.specs.declared.decoder.DecoderError.{DecoderError}
-use Rattle.jxl_codestream.proofs.ReadSteps.{always_so, first_refuses}
-use Rattle.jxl_codestream.specs.Tokens.{After, told, token}
-use Rattle.jxl_codestream.specs.Profiles.{context_of, one_byte}
+use Rattle.jxlm_bits.proofs.ReadSteps.{always_so, first_refuses}
+use Rattle.jxlm_bits.specs.Tokens.{After, told, token}
 
 -- what such a call is as a field
 abbrev pub of_decoder : {X : Type 0} → Result X DecoderError → Result X ErrorAt
@@ -28,12 +27,8 @@ module _ {X : Type 0} (r : Result (Found X) DecoderError) where
   pub call_err : (e : DecoderError) (q : ℕ) → r ≡ Err e → UnlessMemory (OfDecoder e) (IsErrorAt (of_decoder r) (OfDecoder e) q)
   call_err e q h = always_so (OfDecoder e) (record { place = None; refuses = rw h refl; stands = tt })
 
--- A token that fails, whatever it means; and a byte of a profile by its token.
+-- A token that fails, whatever it means.
 module _ {S : Type 0} (d : Meaning S) (bytes : List ℕ) (p q : ℕ) (s : S) where
   pub token_refuses : {X : Type 0} (context : ℕ) (means : ℕ → Grammar X) (error : ErrorKind) → UnlessMemory error (IsErrorAt ((told d context s).read bytes p) error q) →
       UnlessMemory error (IsErrorAt ((token d context means s).read bytes p) error q)
   token_refuses context means error h = first_refuses (told d context s) (λ t. means t.value >>= λ x. give (record { value = x; state = t.state })) bytes p error q h
-
-  pub byte_ok : (all : List ℕ) (v : ℕ) (t : S) → (told d (context_of all) s).read bytes p ≡ Ok (record { value = record { value = v; state = t }; position = q }) →
-      (one_byte d all s).read bytes p ≡ Ok (record { value = record { value = v % 256 ∷ all; state = t }; position = q })
-  byte_ok all v t h = rw h refl

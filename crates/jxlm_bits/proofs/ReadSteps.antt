@@ -3,7 +3,7 @@ use Rattle.std.proofs.Common.{◌≡◌, ℕ, List, Ok, refl}
 use Rattle.jxlm_bits.specs.ErrorKind.{ErrorKind, Eof, BadEnum, BadProfile, BadTree, NoGlobalTree, BadRct, BadPalette, BadSqueeze, OfDecoder, NoMemory, UnlessMemory, UnlessNoMemory}
 use Rattle.jxlm_bits.specs.Grammar.{Grammar, IsErrorAt, ◌>>=◌}
 use Rattle.jxlm_bits.specs.declared.decoder.DecoderError.TheVariants.{UnexpectedEof, Invalid, OutOfMemory}
-use Rattle.jxl_image_header.proofs.UnlessMemory as headers
+use Rattle.jxlm_bits.proofs.UnlessMemory as headers
 
 -- a fact leads to another one, with a decoder
 pub unless_so : (error : ErrorKind) {P Q : Type 0} → (P → Q) → UnlessMemory error P → UnlessMemory error Q
