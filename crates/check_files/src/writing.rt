@@ -3,7 +3,7 @@
 use crate::files::digits;
 use jxl_image_header::image::ImageHeader;
 use jxl_image_header::size::Size;
-use jxl_picture::format::Format;
+use jxl_netpbm::format::Format;
 use jxl_picture::picture::{Picture, colours};
 use check_rows::{bytes, signed, word};
 use jxlm_bits::bits::Bitstream;

@@ -5,7 +5,7 @@ use Rattle.std.specs.Fmt.{decimal}
 use Rattle.jxl_image_header.specs.Images.{Image}
 use Rattle.jxl_image_header.specs.declared.channel.BitDepth.{BitDepth}
 use Rattle.jxl_image_header.specs.declared.channel.ExtraChannel.{ExtraChannel}
-use Rattle.jxl_picture.specs.Formats.{line}
+use Rattle.jxl_text.specs.Printing.{line}
 use Rattle.jxl_picture.specs.Pictures.{has_alpha, is_grey}
 use Rattle.jxl_info.specs.Names.{kind_name}
 

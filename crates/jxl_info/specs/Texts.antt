@@ -5,7 +5,7 @@ use Rattle.jxl_image_header.specs.Images.{Image}
 use Rattle.jxl_image_header.specs.declared.image.Animation.{Animation}
 use Rattle.jxl_image_header.specs.declared.image.Display.{Display}
 use Rattle.jxl_image_header.specs.declared.size.Size.{Size}
-use Rattle.jxl_picture.specs.Formats.{line}
+use Rattle.jxl_text.specs.Printing.{line}
 use Rattle.jxl_codestream.specs.declared.error.FrontError.{FrontError}
 use Rattle.jxl_info.specs.Channels.{channels_text, depth_text, extra_lines}
 use Rattle.jxl_info.specs.Colours.{colour_text}

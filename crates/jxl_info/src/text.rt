@@ -4,7 +4,7 @@ ghost use Rattle.std.specs.Prelude.{◌≡◌, ◌++◌, IfErr, IfOk, OnOk, stri
 ghost use Rattle.jxlm_bits.specs.Decoding.{Meaning};
 ghost use Rattle.jxl_image_header.specs.Images.{image_of};
 ghost use Rattle.jxl_info.specs.Texts.{container_line, size_text, image_kind as the_image_kind, loss as the_loss, image_line, preview_line, flag_text as the_flag_text, rate_lines, animation_lines, intrinsic_line, display_lines, reason_line, info_text as the_info_text};
-ghost use Rattle.jxl_picture.specs.Formats.{line};
+ghost use Rattle.jxl_text.specs.Printing.{line};
 ghost use Rattle.jxl_info.specs.Colours.{colour_text};
 
 use crate::channels::{append_channels, append_depth, append_extras};

@@ -9,7 +9,7 @@ use Rattle.jxl_image_header.specs.Images.{Image}
 use Rattle.jxl_image_header.specs.declared.channel.ExtraChannel.{ExtraChannel}
 use Rattle.jxl_image_header.specs.declared.size.Size.{Size}
 use Rattle.jxl_picture.specs.Pictures.{AreChannels, IsWhole, colour_count}
-use Rattle.jxl_picture.specs.Inner.Sides.{HasShiftedSides, HasSides, HaveSides}
+use Rattle.jxl_picture.specs.Sides.{HasShiftedSides, HasSides, HaveSides}
 use Rattle.jxl_picture.proofs.Shifts.{shifted_none}
 
 -- a channel of this shift, in a frame of this size

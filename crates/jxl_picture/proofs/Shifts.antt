@@ -7,7 +7,7 @@ use Rattle.std.proofs.lemmas.Nat.{div_below}
 use Rattle.jxlm_base.specs.Grid.{Grid}
 use Rattle.jxl_image_header.specs.declared.channel.ExtraChannel.{ExtraChannel}
 use Rattle.jxl_image_header.specs.declared.size.Size.{Size}
-use Rattle.jxl_picture.specs.Inner.Sides.{HasShiftedSides, HasSides}
+use Rattle.jxl_picture.specs.Sides.{HasShiftedSides, HasSides}
 
 -- a side of so many samples in a channel of this shift
 abbrev pub shifted : ℕ → ℕ → ℕ

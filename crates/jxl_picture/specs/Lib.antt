@@ -1,6 +1,5 @@
 pub mod Pictures
 pub mod Orientations
 pub mod Limits
-pub mod Rasters
-pub mod Formats
+pub mod Sides
 pub mod Inner

@@ -1,9 +1,6 @@
-//! Pictures that were decoded from JPEG XL files, and their text in the formats PGM, PPM, PAM and PFM, and in decimal
-//! numbers.
+//! Pictures that were decoded from JPEG XL files: their channels, how they are shown upright, and how large they may be.
 #![tactic(auto)]
 
-pub mod format;
 pub mod limits;
 pub mod orientation;
 pub mod picture;
-mod raster;

@@ -4,7 +4,7 @@ ghost use Rattle.std.specs.Prelude.{◌≡◌, ◌^◌, ◌↔◌, IfOk, IsTrue,
 ghost use Rattle.std.specs.Int.{div_ceil};
 ghost use Rattle.std.specs.List.{AllZip};
 ghost use Rattle.jxl_image_header.specs.Images.{image_of};
-ghost use Rattle.jxl_picture.specs.Inner.Sides.{HasShiftedSides, HasSides};
+ghost use Rattle.jxl_picture.specs.Sides.{HasShiftedSides, HasSides};
 ghost use Rattle.jxl_picture.specs.Pictures.{IsWhole, colour_count, is_grey as colours_are_grey, has_alpha as there_is_alpha, has_full_alpha as there_is_full_alpha, is_full_alpha as the_full_alpha};
 ghost use Rattle.jxl_picture.specs.Orientations.{IsUpright};
 
@@ -49,7 +49,7 @@ pub fn has_alpha(header: &ImageHeader) -> bool
 }
 
 /// Whether a channel is alpha that is as large as the picture.
-pub(crate) fn is_full_alpha(channel: &ExtraChannel) -> bool
+pub fn is_full_alpha(channel: &ExtraChannel) -> bool
     ensures { result ≡ the_full_alpha channel.now }
 {
     channel.kind == 0 && channel.shift == 0

@@ -2,9 +2,9 @@
 use Rattle.std.proofs.Common.{◌≡◌, Bool, true, false, Option, Some, None, refl, subst}
 use Rattle.std.specs.Prelude.{if◌then◌else◌}
 use Rattle.jxl_image_header.specs.Images.{Image}
-use Rattle.jxl_picture.specs.Formats.{suits, usual, usual_whole}
-use Rattle.jxl_picture.specs.declared.format.Format.{Format}
-use Rattle.jxl_picture.specs.declared.format.Format.TheVariants.{Pfm}
+use Rattle.jxl_netpbm.specs.Formats.{suits, usual, usual_whole}
+use Rattle.jxl_netpbm.specs.declared.format.Format.{Format}
+use Rattle.jxl_netpbm.specs.declared.format.Format.TheVariants.{Pfm}
 use Rattle.jxldec.specs.Texts.{chosen}
 
 if_some : {X : Type 0} (b : Bool) (x y : X) → (if b then Some x else None) ≡ Some y → (b ≡ true) × (x ≡ y)

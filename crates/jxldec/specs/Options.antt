@@ -1,8 +1,8 @@
 -- What the command line asks for.
 use Rattle.std.specs.Prelude.{◌≡◌, ℕ, List, map, codes}
 use Rattle.std.specs.Char.{to_ascii_lowercase}
-use Rattle.jxl_picture.specs.declared.format.Format.{Format}
-use Rattle.jxl_picture.specs.declared.format.Format.TheVariants as formats
+use Rattle.jxl_netpbm.specs.declared.format.Format.{Format}
+use Rattle.jxl_netpbm.specs.declared.format.Format.TheVariants as formats
 
 -- the name of a format, which is the ending of its files, too
 abbrev pub format_word : Format → List ℕ

@@ -4,8 +4,8 @@ use Rattle.std.specs.Io.KnownBytes.{Appends, Consumes, IsAtEnd}
 use Rattle.jxl_coding.specs.Parse.{decoder_at}
 use Rattle.jxl_coding.specs.Tokens.{entropy}
 use Rattle.jxl_image_header.specs.Images.{Image, image_of}
-use Rattle.jxl_picture.specs.Formats.{suits, text_of, usual}
-use Rattle.jxl_picture.specs.declared.format.Format.{Format}
+use Rattle.jxl_netpbm.specs.Formats.{suits, text_of, usual}
+use Rattle.jxl_netpbm.specs.declared.format.Format.{Format}
 use Rattle.jxl_picture.specs.declared.limits.Limits.{Limits}
 use Rattle.jxl_picture.specs.declared.picture.Picture.{Picture}
 use Rattle.jxl_info.specs.Headers.{HeadersOfFile, IsInfoOfFile}

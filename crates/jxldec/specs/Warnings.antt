@@ -4,8 +4,8 @@ use Rattle.std.specs.List.{flat_map}
 use Rattle.jxl_image_header.specs.declared.channel.ExtraChannel.{ExtraChannel}
 use Rattle.jxl_info.specs.Names.{kind_name}
 use Rattle.jxl_picture.specs.Pictures.{is_full_alpha}
-use Rattle.jxl_picture.specs.declared.format.Format.{Format}
-use Rattle.jxl_picture.specs.declared.format.Format.TheVariants as formats
+use Rattle.jxl_netpbm.specs.declared.format.Format.{Format}
+use Rattle.jxl_netpbm.specs.declared.format.Format.TheVariants as formats
 use Rattle.jxldec.specs.Failures.{line_about}
 
 -- the kinds of channels, each after a space

@@ -6,7 +6,7 @@ ghost use Rattle.std.specs.Path.{path_extension};
 ghost use Rattle.jxldec.specs.Options.{IsNoFormat, IsWordOf};
 
 use clap::{Arg, ArgAction, ArgMatches, Command};
-use jxl_picture::format::Format;
+use jxl_netpbm::format::Format;
 use jxl_picture::limits::Limits;
 use std::alloc::{AllocError, Global};
 use std::path::Path;

@@ -10,7 +10,7 @@ ghost use Rattle.jxldec.specs.Inner.Kinds.{rest_kinds};
 use jxl_image_header::channel::ExtraChannel;
 use jxl_image_header::image::ImageHeader;
 use jxl_info::names::kind_name;
-use jxl_picture::format::Format;
+use jxl_netpbm::format::Format;
 use jxlm_base::grid::OutOfMemory;
 use std::alloc::Global;
 use std::io::Write;

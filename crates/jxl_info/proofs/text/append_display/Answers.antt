@@ -1,6 +1,6 @@
 use Rattle.std.proofs.Common.{◌≡◌, ◌∷◌, ◌++◌, [], ◌∙◌, ap, List, ℕ, string_bytes, codes}
 use Rattle.std.specs.Fmt.{decimal}
-use Rattle.jxl_picture.specs.Formats.{line}
+use Rattle.jxl_text.specs.Printing.{line}
 use Rattle.jxl_info.specs.Names.{orientation_name}
 use Rattle.jxl_info.specs.Texts.{animation_lines, display_lines, intrinsic_line, preview_line}
 use Rattle.jxl_info.proofs.TextPieces.{ended_five, four}

@@ -1,6 +1,6 @@
 use Rattle.std.proofs.Common.{◌≡◌, ◌∷◌, ◌++◌, [], ◌∙◌, ap, List, ℕ, string_bytes, codes}
 use Rattle.std.specs.Fmt.{decimal}
-use Rattle.jxl_picture.specs.Formats.{line}
+use Rattle.jxl_text.specs.Printing.{line}
 use Rattle.jxl_info.specs.Texts.{flag_text, rate_lines}
 use Rattle.jxl_info.proofs.TextPieces.{ended_four, ended_two, three}
 use Rattle.jxl_info.proofs.text.append_rate.Goals as goal

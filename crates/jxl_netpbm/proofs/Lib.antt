@@ -1,0 +1,4 @@
+pub mod Growing
+pub mod Pieces
+pub mod LayerLaws
+pub mod Numbers

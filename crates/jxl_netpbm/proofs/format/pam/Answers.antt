@@ -1,0 +1,15 @@
+use Rattle.std.proofs.Common.{◌≡◌, ◌∙◌, ap, subst, List, sym}
+use Rattle.jxl_image_header.specs.Images.{image_of}
+use Rattle.jxl_netpbm.specs.Formats.{pam_layers}
+use Rattle.jxl_netpbm.specs.Rasters.{Layer}
+use Rattle.jxl_netpbm.specs.Inner.Layers.{layers_of}
+use Rattle.std.specs.List.{All}
+use Rattle.jxl_netpbm.proofs.LayerLaws.{Cover, covers_held, pam_covers}
+use Rattle.jxl_netpbm.proofs.format.pam.Goals as goal
+
+pub with_raster-requires-clause-within : goal.with_raster-requires-clause-within
+with_raster-requires-clause-within c =
+    let image = image_of c.args.picture.now.header in
+    let same : layers_of c.deref.result.now ≡ pam_layers image c.args.picture.now.channels.items = ap layers_of c.deref.ensures.value ∙ c.in_ok-layers.ensures in
+    covers_held image.size.width image.size.height c.deref.result.now
+    (subst (λ (ls : List Layer). All (Cover image.size.width image.size.height) ls) (sym same) (pam_covers image c.args.picture.now.channels.items c.requires.whole c.requires.suits))

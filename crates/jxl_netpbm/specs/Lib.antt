@@ -1,0 +1,3 @@
+pub mod Rasters
+pub mod Formats
+pub mod Inner
