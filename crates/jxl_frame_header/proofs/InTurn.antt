@@ -3,7 +3,7 @@ use Rattle.std.proofs.Common.{◌≡◌, ℕ, suc, ◌-◌, ◌+◌, ◌<◌, Li
 use Rattle.jxlm_bits.specs.Decoding.{Found}
 use Rattle.jxlm_bits.specs.ErrorKind.{ErrorAt, ◌>>=◌}
 use Rattle.jxlm_bits.specs.Grammar.{Grammar}
-use Rattle.jxl_image_header.proofs.RepeatedLoop.{with_front}
+use Rattle.jxlm_bits.proofs.RepeatedLoop.{with_front}
 use Rattle.jxl_frame_header.specs.Passes.{in_turn}
 
 regroup : (front : List ℕ) (y : ℕ) (r : Result (Found (List ℕ)) ErrorAt) →

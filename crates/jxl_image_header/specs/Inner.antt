@@ -1,3 +1,2 @@
-pub mod FieldRanges
 pub mod Groups
 pub mod Sides

@@ -4,7 +4,7 @@ ghost use Rattle.std.specs.Prelude.{◌≡◌, ℕ, ◌+◌, ◌-◌, ◌*◌, �
 ghost use Rattle.jxlm_bits.specs.Bits.{bytes_of, position_of};
 ghost use Rattle.jxlm_bits.specs.Grammar.{FitsU32, Reads, flag, number as the_number, u32 as the_u32};
 ghost use Rattle.jxl_image_header.specs.Fields.{groups as the_groups, long as the_long, enumerated as the_enumerated, skipped, extensions as the_extensions, name as the_name, aligned, told_if as the_told_if, when};
-ghost use Rattle.jxl_image_header.specs.Inner.FieldRanges.{max_of};
+ghost use Rattle.jxlm_bits.specs.FieldRanges.{max_of};
 ghost use Rattle.jxl_image_header.specs.Inner.Groups.{group_bound, grouped as the_grouped, extension_bits as the_extension_bits, skipped_bits};
 
 use jxlm_bits::bits::{Bitstream, BitstreamError, U32Spec};

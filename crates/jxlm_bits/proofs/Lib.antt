@@ -8,3 +8,5 @@ pub mod TokenFields
 pub mod TokenLaws
 pub mod Chains
 pub mod Cases
+pub mod FieldRanges
+pub mod RepeatedLoop

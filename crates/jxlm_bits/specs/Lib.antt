@@ -5,3 +5,4 @@ pub mod Grammar
 pub mod Numbers
 pub mod Tokens
 pub mod Turns
+pub mod FieldRanges

@@ -1,7 +1,6 @@
 mod ChannelExamples
 pub mod CodedLists
 pub mod ColourRegions
-pub mod FieldRanges
 pub mod Halvings
 pub mod ImageChannels
 pub mod Lists
@@ -13,7 +12,6 @@ pub mod PaletteRows
 pub mod PaletteSteps
 pub mod Powers
 pub mod Failures
-pub mod RepeatedLoop
 pub mod ShiftBounds
 pub mod SideBounds
 pub mod SmallSides

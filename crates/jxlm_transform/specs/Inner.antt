@@ -1,3 +1,2 @@
 pub mod ColourRows
-pub mod FieldRanges
 pub mod PaletteSteps

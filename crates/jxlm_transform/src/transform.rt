@@ -6,7 +6,7 @@ ghost use Rattle.jxlm_bits.specs.Bits.{bytes_of, position_of};
 ghost use Rattle.jxlm_bits.specs.Grammar.{FitsU32, IsExact, Reads, number, repeated, u32 as the_u32};
 ghost use Rattle.jxlm_predictor.specs.WeightsHeader.{GivesExactly};
 ghost use Rattle.jxlm_transform.specs.DefaultSqueeze.{LeavesSmallSides, TakesFewestSteps};
-ghost use Rattle.jxlm_transform.specs.Inner.FieldRanges.{min_of, max_of};
+ghost use Rattle.jxlm_bits.specs.FieldRanges.{min_of, max_of};
 ghost use Rattle.jxlm_transform.specs.Params.{columns};
 ghost use Rattle.jxlm_transform.specs.Kinds.{is_palette as the_palettes, is_squeeze as the_squeezes};
 ghost use Rattle.jxlm_transform.specs.Transforms.{OfPalette, transform_of, begin_channel as the_begin_channel, rct, predictor, weights_for, palette, palette_by, squeeze_params, squeeze, transform, transform_by, IsRct, IsPalette, IsSqueezeParams, IsSqueeze, IsTransform, HasChannels, KeepsWeights, IsPaletteTransform, IsSqueezeTransform, Parses};

@@ -2,7 +2,7 @@ use Rattle.std.proofs.Common.{◌≡◌, ◌++◌, ◌∷◌, [], refl, rules, S
 use Rattle.std.proofs.lemmas.Result.{err_from_is_err_and}
 use Rattle.jxlm_bits.specs.Bits.{bytes_of, position_of}
 use Rattle.jxlm_bits.specs.ErrorKind.{bitstream_kind}
-use Rattle.jxl_image_header.proofs.RepeatedLoop.{goes_on, stops}
+use Rattle.jxlm_bits.proofs.RepeatedLoop.{goes_on, stops}
 use Rattle.jxlm_bits.proofs.UnlessMemory.{unless_no_memory}
 use Rattle.jxl_frame_header.specs.Blendings.{blending_info}
 use Rattle.jxl_frame_header.proofs.blending.read_infos.Goals as goal

@@ -1,7 +1,7 @@
 use Rattle.std.proofs.Common.{◌≡◌, ◌-◌, true}
 use Rattle.jxlm_bits.specs.Bits.{bytes_of, position_of}
 use Rattle.jxlm_bits.specs.Grammar.{repeated}
-use Rattle.jxl_image_header.proofs.RepeatedLoop.{with_front}
+use Rattle.jxlm_bits.proofs.RepeatedLoop.{with_front}
 use Rattle.jxl_frame_header.specs.Blendings.{blending_info}
 use Rattle.jxl_frame_header.proofs.blending.read_infos.Given as goal
 

@@ -1,7 +1,7 @@
 use Rattle.std.proofs.Common.{◌≡◌, ◌-◌}
 use Rattle.jxlm_bits.specs.Bits.{bytes_of, position_of}
 use Rattle.jxlm_bits.specs.Grammar.{repeated, u32}
-use Rattle.jxl_image_header.proofs.RepeatedLoop.{with_front}
+use Rattle.jxlm_bits.proofs.RepeatedLoop.{with_front}
 use Rattle.jxl_frame_header.proofs.fields.fields.Given as goal
 
 abbrev pub invariant-loop : goal.invariant-loop

@@ -1,6 +1,6 @@
 use Rattle.std.proofs.Common.{◌≡◌, ◌-◌, None}
 use Rattle.jxlm_bits.specs.Bits.{bytes_of, position_of}
-use Rattle.jxl_image_header.proofs.RepeatedLoop.{with_front}
+use Rattle.jxlm_bits.proofs.RepeatedLoop.{with_front}
 use Rattle.jxl_frame_header.specs.Inner.Checked.{next}
 use Rattle.jxl_frame_header.specs.Passes.{in_turn}
 use Rattle.jxl_frame_header.proofs.passes.in_turn.Given as goal

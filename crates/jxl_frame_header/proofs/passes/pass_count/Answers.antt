@@ -4,7 +4,7 @@ use Rattle.jxlm_bits.specs.Bits.{bytes_of, position_of}
 use Rattle.jxlm_bits.specs.Grammar.{Reads, u32}
 use Rattle.jxlm_bits.specs.declared.bits.BitstreamError.{BitstreamError}
 use Rattle.jxlm_bits.specs.declared.bits.U32Spec.TheVariants.{Const, Offset}
-use Rattle.jxl_image_header.proofs.FieldRanges.{u32-between}
+use Rattle.jxlm_bits.proofs.FieldRanges.{u32-between}
 use Rattle.jxl_frame_header.specs.Passes.{IsPassCount}
 use Rattle.jxl_frame_header.proofs.passes.pass_count.Goals as goal
 

@@ -1,5 +1,5 @@
 use Rattle.jxlm_bits.specs.Bits.{bytes_of, position_of}
-use Rattle.jxl_image_header.proofs.FieldRanges.{at_most}
+use Rattle.jxlm_bits.proofs.FieldRanges.{at_most}
 use Rattle.jxl_image_header.proofs.fields.field.Goals as goal
 
 pub returns-clause-maximum : goal.returns-clause-maximum

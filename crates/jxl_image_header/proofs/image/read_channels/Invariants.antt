@@ -1,7 +1,7 @@
 use Rattle.std.proofs.Common.{◌≡◌, ◌-◌}
 use Rattle.jxlm_bits.specs.Bits.{bytes_of, position_of}
 use Rattle.jxlm_bits.specs.Grammar.{repeated}
-use Rattle.jxl_image_header.proofs.RepeatedLoop.{with_front}
+use Rattle.jxlm_bits.proofs.RepeatedLoop.{with_front}
 use Rattle.jxl_image_header.specs.Channels.{extra_channel}
 use Rattle.jxl_image_header.proofs.image.read_channels.Given as goal
 

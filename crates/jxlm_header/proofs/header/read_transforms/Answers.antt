@@ -6,7 +6,7 @@ use Rattle.jxlm_bits.specs.Bits.{bytes_of, position_of}
 use Rattle.jxlm_bits.specs.ErrorKind.{kind_of, UnlessNoMemory}
 use Rattle.jxlm_bits.specs.Grammar.{IsErrorAt, repeated}
 use Rattle.jxlm_transform.proofs.Failures.{unless_so}
-use Rattle.jxlm_transform.proofs.RepeatedLoop.{goes_on, stops}
+use Rattle.jxlm_bits.proofs.RepeatedLoop.{goes_on, stops}
 use Rattle.jxlm_transform.specs.Transforms.{IsTransform, KeepsWeights, transform_by, transform_of}
 use Rattle.jxlm_transform.specs.declared.transform.TransformInfo.{TransformInfo}
 use Rattle.jxlm_header.proofs.header.read_transforms.Goals as goal

@@ -2,7 +2,7 @@ use Rattle.std.proofs.Common.{◌≡◌, ◌-◌, map}
 use Rattle.std.specs.List.{All}
 use Rattle.jxlm_bits.specs.Bits.{bytes_of, position_of}
 use Rattle.jxlm_bits.specs.Grammar.{repeated}
-use Rattle.jxlm_transform.proofs.RepeatedLoop.{with_front}
+use Rattle.jxlm_bits.proofs.RepeatedLoop.{with_front}
 use Rattle.jxlm_transform.specs.Transforms.{IsTransform, KeepsWeights, transform_by, transform_of}
 use Rattle.jxlm_header.proofs.header.read_transforms.Given as goal
 

@@ -1,5 +1,5 @@
 use Rattle.jxlm_bits.specs.Bits.{bytes_of, position_of}
-use Rattle.jxlm_transform.proofs.FieldRanges.{at_least, at_most}
+use Rattle.jxlm_bits.proofs.FieldRanges.{at_least, at_most}
 use Rattle.jxlm_transform.proofs.transform.field.Goals as goal
 
 pub returns-clause-minimum : goal.returns-clause-minimum

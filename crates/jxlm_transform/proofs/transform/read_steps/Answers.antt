@@ -4,7 +4,7 @@ use Rattle.std.proofs.lemmas.Result.{err_from_is_err_and}
 use Rattle.jxlm_bits.specs.Bits.{bytes_of, position_of}
 use Rattle.jxlm_bits.specs.ErrorKind.{bitstream_kind}
 use Rattle.jxlm_transform.proofs.Failures.{unless_no_memory}
-use Rattle.jxlm_transform.proofs.RepeatedLoop.{goes_on, stops}
+use Rattle.jxlm_bits.proofs.RepeatedLoop.{goes_on, stops}
 use Rattle.jxlm_transform.specs.Transforms.{squeeze_params, IsSqueezeParams}
 use Rattle.jxlm_transform.proofs.transform.read_steps.Goals as goal
 

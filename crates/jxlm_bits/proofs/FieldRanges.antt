@@ -8,7 +8,7 @@ use Rattle.jxlm_bits.specs.Grammar.{Grammar, Reads, either, part, u32}
 use Rattle.jxlm_bits.specs.declared.bits.BitstreamError.{BitstreamError}
 use Rattle.jxlm_bits.specs.declared.bits.U32Spec.{U32Spec}
 use Rattle.jxlm_bits.specs.declared.bits.U32Spec.TheVariants.{Const, Offset}
-use Rattle.jxlm_transform.specs.Inner.FieldRanges.{min_value, max_value, min_of, max_of}
+use Rattle.jxlm_bits.specs.FieldRanges.{min_value, max_value, min_of, max_of}
 
 part-between : (d : U32Spec) (bytes : List ℕ) (p v q : ℕ) → (part d).Stands bytes p v q → (min_value d ≤ v) × (v ≤ max_value d)
 part-between (Const n) bytes p v q s = (omega (arith, s.0), omega (arith, s.0))
