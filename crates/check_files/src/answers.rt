@@ -2,9 +2,9 @@
 
 use crate::names::name;
 use check_rows::{bytes, number, numbers, text_sum, word};
+use jxl_coding::decoder::EntropyDecoder;
 use jxlm_bits::bits::Bitstream;
 use jxlm_bits::decoder::{Decoder, DecoderError};
-use jxl_coding::decoder::EntropyDecoder;
 use std::alloc::Global;
 
 /// A decoder, its reader, and the multiplier that its tokens are read under.

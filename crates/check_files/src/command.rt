@@ -12,13 +12,13 @@
 
 use crate::streams::{BrokenReader, SmallWriter};
 use check_rows::{number, repeated, word};
+use jxl_text::reading::TextError;
+use jxlm_base::grid::OutOfMemory;
 use jxlm_bits::decoder::DecoderError;
 use jxlm_bits::error::Error;
-use jxlm_base::grid::OutOfMemory;
 use jxlm_encode::encode::EncodeError;
 use jxlmod_commands::refusal::Refusal;
 use jxlmod_commands::run::{Failure, report, run};
-use jxl_text::reading::TextError;
 use std::alloc::Global;
 use std::io::{Read, Write};
 

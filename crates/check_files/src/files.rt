@@ -1,7 +1,7 @@
 //! Files, and the codestreams that lie in them.
 
-use jxl_container::codestream::{Codestream, find_codestream};
 use check_rows::bytes;
+use jxl_container::codestream::{Codestream, find_codestream};
 use std::alloc::Global;
 
 /// Adds the digits of bytes, two for each.

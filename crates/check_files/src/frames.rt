@@ -4,6 +4,11 @@ ghost use Rattle.std.specs.Prelude.{◌≡◌, ◌*◌, ◌^◌, ◌<◌, IfOk, 
 ghost use Rattle.jxlm_bits.specs.Bits.{bytes_of};
 
 use crate::images::tell_error;
+use check_rows::bytes;
+use jxl_codestream::layout::Layout;
+use jxl_codestream::profile::skip_profile;
+use jxl_codestream::toc::Toc;
+use jxl_coding::decoder::EntropyDecoder;
 use jxl_frame_header::blending::{Blending, BlendingInfo, Ending};
 use jxl_frame_header::coding::Coding;
 use jxl_frame_header::frame::{Closing, FrameHeader};
@@ -11,13 +16,8 @@ use jxl_frame_header::passes::Passes;
 use jxl_frame_header::place::Place;
 use jxl_image_header::fields::align;
 use jxl_image_header::image::ImageHeader;
-use jxl_codestream::layout::Layout;
-use jxl_codestream::profile::skip_profile;
-use jxl_codestream::toc::Toc;
-use check_rows::bytes;
 use jxlm_bits::bits::Bitstream;
 use jxlm_bits::error::{Error, Result};
-use jxl_coding::decoder::EntropyDecoder;
 use std::alloc::Global;
 
 /// Adds numbers, with commas between.

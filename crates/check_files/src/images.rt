@@ -1,9 +1,9 @@
 //! Image headers, field by field.
 
+use check_rows::bytes;
 use jxl_image_header::channel::{BitDepth, ExtraChannel};
 use jxl_image_header::colour::ColourEncoding;
 use jxl_image_header::image::{Display, ImageHeader};
-use check_rows::bytes;
 use jxlm_bits::bits::{Bitstream, BitstreamError};
 use jxlm_bits::error::Error;
 use std::alloc::Global;

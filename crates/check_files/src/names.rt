@@ -1,7 +1,7 @@
 //! Errors by name.
 
-use jxlm_bits::decoder::DecoderError;
 use jxl_coding_codes::refusal::Refusal;
+use jxlm_bits::decoder::DecoderError;
 use std::alloc::{AllocError, Global};
 
 /// Every refusal.

@@ -1,9 +1,9 @@
 //! Files, decoded to pictures.
 
+use check_rows::{bytes, listed};
 use jxl_image_header::size::Size;
 use jxl_lossless::{Limits, Progress, Steps, decode_lossless, decode_lossless_with};
 use jxl_picture::picture::Picture;
-use check_rows::{bytes, listed};
 use jxlm_base::grid::AlignedGrid;
 use std::alloc::Global;
 

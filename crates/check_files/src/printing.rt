@@ -3,9 +3,9 @@
 
 use crate::command::add_lines;
 use check_rows::{numbers, signed, word};
+use jxl_text::printing::print_image;
 use jxlm_base::grid::AlignedGrid;
 use jxlm_base::sample::Sample;
-use jxl_text::printing::print_image;
 use std::alloc::Global;
 
 /// The grid of a channel.

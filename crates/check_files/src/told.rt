@@ -1,10 +1,10 @@
 //! What the headers of files tell.
 
+use check_rows::bytes;
+use jxl_coding::decoder::EntropyDecoder;
 use jxl_info::headers::{Headers, HeadersError, is_boxed};
 use jxl_info::text::info_text;
 use jxl_lossless::Limits;
-use check_rows::bytes;
-use jxl_coding::decoder::EntropyDecoder;
 use std::alloc::Global;
 
 /// Adds the lines that tell what a file is, each with a bar after it.

@@ -1,13 +1,13 @@
 //! Pictures, and their text in the formats in which they are written.
 
 use crate::files::digits;
+use check_rows::{bytes, signed, word};
 use jxl_image_header::image::ImageHeader;
 use jxl_image_header::size::Size;
 use jxl_netpbm::format::Format;
 use jxl_picture::picture::{Picture, colours};
-use check_rows::{bytes, signed, word};
-use jxlm_bits::bits::Bitstream;
 use jxlm_base::grid::AlignedGrid;
+use jxlm_bits::bits::Bitstream;
 use std::alloc::Global;
 
 fn format(name: &str) -> Option<Format> {

@@ -2,8 +2,8 @@
 //! it is 0: one number for both sides, two for each side its own, or four, each 0 or 1, for a channel of a JPEG picture;
 //! and after a star how many of these channels come, unless it is one.
 
-use jxl_modular::{ChannelShift, ModularChannelParams};
 use check_rows::{number, numbers};
+use jxl_modular::{ChannelShift, ModularChannelParams};
 use std::alloc::Global;
 
 fn shift(alloc: Global, text: &str) -> Option<ChannelShift> {

@@ -5,11 +5,11 @@
 //! has a header of its own, after a colon. A global tree is the limits of its nodes and of its depth, and its bytes, with
 //! a comma between; before it stands a p, where it is that of the parameters, or an s, where it is that of the sections.
 
+use check_rows::{bytes, number};
 use jxl_modular::bits::Bitstream;
 use jxl_modular::decoder::Decoder;
 use jxl_modular::sections::{Section, SectionPart};
 use jxl_modular::{MaConfig, MaConfigParams};
-use check_rows::{bytes, number};
 use std::alloc::Global;
 use std::collections::BTreeMap;
 

@@ -8,13 +8,13 @@ ghost use Rattle.std.specs.Prelude.{◌≡◌, None, IfSome};
 
 use crate::channel_words::channels;
 use crate::image_samples::samples;
+use check_rows::{listed, number, repeated, text_sum, word};
 use jxl_modular::bits::Bitstream;
 use jxl_modular::decoder::Decoder;
 use jxl_modular::error::Error;
 use jxl_modular::flat::Steps;
 use jxl_modular::image::ModularImageDestination;
 use jxl_modular::{Modular, ModularChannelParams, ModularParams, Sample, decode_picture};
-use check_rows::{listed, number, repeated, text_sum, word};
 use std::alloc::Global;
 
 /// What becomes of a picture: the error, if there is one; the samples; the reader's position; and whether the part was

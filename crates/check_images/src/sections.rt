@@ -12,6 +12,7 @@ use crate::channel_words::channels;
 use crate::image_samples::samples;
 use crate::input::{OwnedSection, global, owned_sections, passes, sections};
 use crate::parts::{counts, decode_by_parts};
+use check_rows::{bytes, listed, number, text_sum, word};
 use jxl_modular::bits::Bitstream;
 use jxl_modular::decoder::Decoder;
 use jxl_modular::error::Error;
@@ -19,7 +20,6 @@ use jxl_modular::flat::Steps;
 use jxl_modular::image::ModularImageDestination;
 use jxl_modular::sections::{Section, decode_sections, sections_fit};
 use jxl_modular::{MaConfig, Modular, ModularParams, Sample};
-use check_rows::{bytes, listed, number, text_sum, word};
 use std::alloc::Global;
 use std::collections::BTreeMap;
 

@@ -9,6 +9,7 @@ use crate::image_samples::samples_of;
 use crate::input::{owned_sections, passes, sections};
 use crate::reading::read;
 use crate::sections::{Fields, split};
+use check_rows::{bytes, listed};
 use jxl_modular::bits::Bitstream;
 use jxl_modular::decoder::Decoder;
 use jxl_modular::grid::AlignedGrid;
@@ -16,7 +17,6 @@ use jxl_modular::groups::{Part, TransformedGlobalModular};
 use jxl_modular::image::ModularImageDestination;
 use jxl_modular::sections::{Section, SectionPart};
 use jxl_modular::{MaConfig, Sample};
-use check_rows::{bytes, listed};
 use std::alloc::Global;
 
 /// Adds the samples that are shown.

@@ -11,6 +11,7 @@ ghost use Rattle.std.specs.Prelude.{◌≡◌, IfSome, IsTrue, None};
 ghost use Rattle.std.specs.List.{All};
 ghost use Rattle.jxl_modular.specs.Encoded.{IsSmall};
 
+use check_rows::{number, numbers, signed, word};
 use jxl_modular::bits::Bitstream;
 use jxl_modular::decoder::Decoder;
 use jxl_modular::encode::{EncodeNode, EncodeTransform, SqueezeStep, encode, encode2};
@@ -19,7 +20,6 @@ use jxl_modular::grid::AlignedGrid;
 use jxl_modular::plain::{PlainDecoder, PlainDecoder2};
 use jxl_modular::predictor::Predictor;
 use jxl_modular::{ModularChannelParams, ModularParams, Sample, decode_picture};
-use check_rows::{number, numbers, signed, word};
 use std::alloc::Global;
 
 /// The plain format that an image is encoded in.

@@ -1,13 +1,13 @@
 //! Images as they are read: their headers, their channels before the first sample, and their global parts.
 
+use check_images::{read, samples};
+use check_rows::{listed, number, repeated, word};
 use jxl_modular::bits::Bitstream;
 use jxl_modular::decoder::Decoder;
 use jxl_modular::error::Error;
 use jxl_modular::image::ModularImageDestination;
 use jxl_modular::plain::PlainDecoder;
 use jxl_modular::{Modular, Sample};
-use check_images::{read, samples};
-use check_rows::{listed, number, repeated, word};
 use std::alloc::Global;
 
 /// A row of a header asks with the channels, and after a bar the bytes. It gives the error, or that there is none, and

@@ -13,10 +13,10 @@ mod walks;
 mod within;
 
 use crate::encoded::Format;
-use jxl_modular::plain::{PlainDecoder, PlainDecoder2};
+use check_examples::bytewise::Bytewise;
 use check_images::{picture, sections, viewer};
 use check_rows::Row;
-use check_examples::bytewise::Bytewise;
+use jxl_modular::plain::{PlainDecoder, PlainDecoder2};
 use jxlm_fault::fault::FaultDecoder;
 use std::alloc::Global;
 use std::io;

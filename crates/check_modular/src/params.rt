@@ -1,10 +1,10 @@
 //! What an image is read by: single reads of bits, and the limits of parameters.
 
+use check_images::channels;
+use check_rows::{bytes, number, numbers};
 use jxl_modular::ModularParams;
 use jxl_modular::bits::{Bitstream, BitstreamError, U32Spec};
 use jxl_modular::plain::PlainDecoder;
-use check_images::channels;
-use check_rows::{bytes, number, numbers};
 use std::alloc::{AllocError, Global};
 
 /// What a word asks of the reader: a flag, a number of four choices, or so many bits.

@@ -6,11 +6,11 @@
 //! where the leaf to which the compiled tree leads at such a value is not the table's.
 
 use crate::tree::{Told, after, compiled, name, read};
+use check_rows::{number, repeated, word};
 use jxl_modular::bits::Bitstream;
 use jxl_modular::decoder::Decoder;
 use jxl_modular::flat::{FlatMaTree, Leaf, Steps};
 use jxl_modular::plain::PlainDecoder;
-use check_rows::{number, repeated, word};
 use jxlm_tree::paths::{ClusterTable, Path};
 use std::alloc::Global;
 

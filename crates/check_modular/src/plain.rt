@@ -1,8 +1,8 @@
 //! Decoders, by what is asked of them in turn.
 
+use check_rows::{bytes, number, word};
 use jxl_modular::bits::Bitstream;
 use jxl_modular::decoder::{Decoder, DecoderError};
-use check_rows::{bytes, number, word};
 use std::alloc::{AllocError, Global};
 
 /// The clusters of a decoder's contexts, whether its tokens come in runs, and the single token of each context.

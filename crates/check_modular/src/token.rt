@@ -3,10 +3,10 @@
 //! A row asks with the leaf's multiplier, which is odd, and its offset, the sample and the prediction. It gives the
 //! token.
 
+use check_rows::{number, word};
 use jxl_modular::encode::token_of;
 use jxl_modular::flat::Leaf;
 use jxl_modular::predictor::Predictor;
-use check_rows::{number, word};
 use std::alloc::Global;
 
 fn next(text: &str) -> Option<(i32, &str)> {

@@ -8,13 +8,13 @@
 ghost use Rattle.std.specs.Prelude.{IfSome};
 ghost use Rattle.jxlm_tree.specs.FlatTree.{ClustersStandIn};
 
+use check_rows::{listed, number, numbers, repeated, word};
 use jxl_modular::bits::Bitstream;
 use jxl_modular::decoder::Decoder;
 use jxl_modular::error::Error;
 use jxl_modular::flat::{FlatMaTree, Steps};
 use jxl_modular::plain::PlainDecoder;
 use jxl_modular::{MaConfig, MaConfigParams};
-use check_rows::{listed, number, numbers, repeated, word};
 use jxlm_tree::flat::{AskedProperty, PlaceProperties};
 use jxlm_tree::paths::Path;
 use std::alloc::Global;

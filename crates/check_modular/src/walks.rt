@@ -13,12 +13,12 @@ ghost use Rattle.std.specs.Prelude.{◌≡◌, IfSome};
 ghost use Rattle.jxlm_tree.specs.FlatTree.{ClustersStandIn};
 
 use crate::tree::{Told, after, compiled, read};
+use check_rows::{number, numbers, repeated, word};
 use jxl_modular::MaConfig;
 use jxl_modular::bits::Bitstream;
 use jxl_modular::decoder::Decoder;
 use jxl_modular::flat::{FlatMaTree, Leaf, Steps};
 use jxl_modular::plain::PlainDecoder;
-use check_rows::{number, numbers, repeated, word};
 use std::alloc::Global;
 
 /// The leaf, in the words of a row.

@@ -4,14 +4,14 @@
 //! global part's own; and those of a header within that part, with its samples, of 32 bits. It gives whether these are
 //! whole, and after a bar the image's samples; or an error.
 
+use check_images::{decode_by_header, read, samples};
+use check_rows::{bytes, listed};
 use jxl_modular::bits::Bitstream;
 use jxl_modular::decoder::Decoder;
 use jxl_modular::error::Error;
 use jxl_modular::image::{ModularImageDestination, RecursiveModularImage};
 use jxl_modular::plain::PlainDecoder;
 use jxl_modular::{MaConfig, Sample};
-use check_images::{decode_by_header, read, samples};
-use check_rows::{bytes, listed};
 use std::alloc::Global;
 
 /// Within a part that is read by a header, another header is read, and its samples are decoded: whether they are whole

@@ -14,13 +14,13 @@ ghost use Rattle.jxl_codestream.specs.Tocs.{is_within};
 ghost use Rattle.jxl_codestream.specs.Fronts.{ContentsStand, FrameGoesOn, FrameStands, FrontFails, end_of as the_end_of, layout_in};
 
 use crate::error::FrontError;
+use crate::layout::Layout;
+use crate::toc::{Toc, TocEntry};
 use jxl_frame_header::frame::FrameHeader;
 use jxl_image_header::image::ImageHeader;
 use jxl_image_header::size::Size;
 use jxl_picture::limits::Limits;
 use jxl_picture::picture::colours;
-use crate::layout::Layout;
-use crate::toc::{Toc, TocEntry};
 use jxlm_bits::bits::Bitstream;
 use jxlm_bits::decoder::Decoder;
 use std::alloc::Global;

@@ -9,14 +9,14 @@ ghost use Rattle.jxl_codestream.specs.Fronts.{AreBefore, FrontFails, ImageStands
 
 use crate::error::FrontError;
 use crate::frame::FrameFront;
+use crate::profile::skip_profile;
 use jxl_image_header::fields::align;
 use jxl_image_header::image::ImageHeader;
 use jxl_picture::limits::Limits;
-use crate::profile::skip_profile;
+use jxlm_base::grid::OutOfMemory;
 use jxlm_bits::bits::Bitstream;
 use jxlm_bits::decoder::Decoder;
 use jxlm_bits::error::Error;
-use jxlm_base::grid::OutOfMemory;
 use std::alloc::Global;
 
 /// What a codestream tells before the sections of its frames.

@@ -16,10 +16,10 @@ ghost use Rattle.jxl_coding_codes.specs.Reading.{StepGives};
 use crate::state::State;
 use crate::tables::Tables;
 use crate::tokens::{begin, finalize, read_token};
-use jxlm_bits::bits::Bitstream;
-use jxlm_bits::decoder::DecoderError;
 use jxl_coding_codes::fields::number;
 use jxl_coding_codes::refusal::Refusal;
+use jxlm_bits::bits::Bitstream;
+use jxlm_bits::decoder::DecoderError;
 use std::alloc::Global;
 
 /// The greatest cluster, and 0 if there is none.

@@ -10,12 +10,12 @@ ghost use Rattle.jxl_coding.specs.Symbols.{cluster_code as the_cluster_code, sym
 ghost use Rattle.jxl_coding.specs.Inner.Lookups.{AreLookups};
 
 use crate::codes::{ClusterCode, Coder, Lz77};
-use jxlm_bits::bits::Bitstream;
-use jxlm_bits::decoder::DecoderError;
 use jxl_coding_codes::ans::{Bucket, refilled, slot_of};
 use jxl_coding_codes::codeword::codeword;
 use jxl_coding_codes::config::IntegerConfig;
 use jxl_coding_codes::lookup::Lookup;
+use jxlm_bits::bits::Bitstream;
+use jxlm_bits::decoder::DecoderError;
 
 /// What parse settles: the cluster of each context, the rule of copies, and the codes of the clusters.
 #[derive(Drop)]

@@ -14,9 +14,9 @@ ghost use Rattle.jxl_frame_header.specs.Inner.Ended.{ended as the_ended};
 
 use crate::fields::fields as fields_of;
 use jxl_image_header::fields;
+use jxlm_base::grid::OutOfMemory;
 use jxlm_bits::bits::{Bitstream, BitstreamError, U32Spec};
 use jxlm_bits::error::Result;
-use jxlm_base::grid::OutOfMemory;
 use std::alloc::Global;
 use std::collections::BTreeMap;
 

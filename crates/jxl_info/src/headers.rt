@@ -7,10 +7,10 @@ ghost use Rattle.jxl_info.specs.Reasons.{is_refusal as the_is_refusal};
 ghost use Rattle.jxl_info.specs.Headers.{HeadersFail, HeadersOfFile, HeadersStand, is_boxed as the_is_boxed};
 
 use crate::reasons::is_refusal;
-use jxl_container::codestream::find_codestream;
-use jxl_container::error::FileError;
 use jxl_codestream::error::FrontError;
 use jxl_codestream::front::Front;
+use jxl_container::codestream::find_codestream;
+use jxl_container::error::FileError;
 use jxl_image_header::image::ImageHeader;
 use jxl_picture::limits::Limits;
 use jxlm_bits::bits::Bitstream;

@@ -3,8 +3,8 @@
 ghost use Rattle.std.specs.Prelude.{◌≡◌, ◌++◌, OnOk, IsTrue, string_bytes};
 ghost use Rattle.jxl_info.specs.Reasons.{image_reason as the_image_reason, frame_reason as the_frame_reason, is_refusal as the_is_refusal, reason_text};
 
-use jxl_frame_header::refusal::Refusal as FrameRefusal;
 use jxl_codestream::error::FrontError;
+use jxl_frame_header::refusal::Refusal as FrameRefusal;
 use jxl_image_header::refusal::Refusal as ImageRefusal;
 use jxlm_base::grid::OutOfMemory;
 

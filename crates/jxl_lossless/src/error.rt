@@ -2,12 +2,12 @@
 
 ghost use Rattle.std.specs.Prelude.{◌≡◌};
 
-use jxl_container::error::FileError as BoxError;
 use jxl_codestream::error::FrontError;
+use jxl_container::error::FileError as BoxError;
 use jxl_patches::error::PatchError;
 use jxl_still::error::FrameError;
-use jxlm_bits::error::Error;
 use jxlm_base::grid::OutOfMemory;
+use jxlm_bits::error::Error;
 
 /// Why a file is not decoded: the first reason in the order of its bits, but that what is not supported is told before
 /// what is wrong with samples.

@@ -21,8 +21,8 @@ ghost use Rattle.jxl_lossless.specs.Inner.Given.{in_file, of_file};
 use crate::error::FileError;
 use crate::sections::{of_groups, sections};
 use crate::tree::shared_tree;
-use jxl_frame_header::frame::FrameHeader;
 use jxl_codestream::frame::FrameFront;
+use jxl_frame_header::frame::FrameHeader;
 use jxl_image_header::channel::ExtraChannel;
 use jxl_image_header::image::ImageHeader;
 use jxl_image_header::size::Size;
@@ -33,14 +33,14 @@ use jxl_patches::slots::SavedFrames;
 use jxl_picture::picture::colours;
 use jxl_still::frame::decode_frame;
 use jxl_still::places::Places;
-use jxlm_bits::bits::Bitstream;
-use jxlm_bits::decoder::Decoder;
 use jxlm_base::grid::{AlignedGrid, OutOfMemory};
 use jxlm_base::sample::Sample;
-use jxlm_tree::flat::Steps;
+use jxlm_bits::bits::Bitstream;
+use jxlm_bits::decoder::Decoder;
 use jxlm_transform::param::{
     ChannelShift, GradientSums, ModularChannelParams, ModularParams, PaletteTables,
 };
+use jxlm_tree::flat::Steps;
 use std::alloc::Global;
 
 // A channel of this shift in a frame of this size, with the tables of palettes and the sums that files hold.

@@ -13,13 +13,13 @@ ghost use Rattle.jxl_lossless.specs.Inner.Streams.{IsPictureOf, StreamFails};
 use crate::error::FileError;
 use crate::frame::decode_channels;
 use crate::saved::decode_saved;
-use jxl_container::codestream::find_codestream;
 use jxl_codestream::front::Front;
+use jxl_coding::decoder::EntropyDecoder;
+use jxl_container::codestream::find_codestream;
 use jxl_modular::sections::Progress;
 use jxl_picture::limits::Limits;
 use jxl_picture::picture::Picture;
 use jxlm_base::grid::AlignedGrid;
-use jxl_coding::decoder::EntropyDecoder;
 use jxlm_tree::flat::Steps;
 use std::alloc::Global;
 

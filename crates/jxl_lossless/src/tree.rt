@@ -6,8 +6,8 @@ ghost use Rattle.jxl_lossless.specs.Frames.{SharedTree};
 ghost use Rattle.jxl_lossless.specs.Inner.Coded.{StartFails};
 
 use crate::error::FileError;
-use jxl_image_header::size::Size;
 use jxl_codestream::start::{section_start, tree_limit};
+use jxl_image_header::size::Size;
 use jxlm_bits::bits::Bitstream;
 use jxlm_bits::decoder::Decoder;
 use jxlm_bits::error::Error;

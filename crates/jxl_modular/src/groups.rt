@@ -10,11 +10,11 @@ ghost use Rattle.jxlm_samples.specs.Part.{cell_count};
 
 use crate::image::ModularImageDestination;
 use crate::recursive::{NestedHeader, RecursiveModularImage};
+use jxlm_base::grid::{AlignedGrid, OutOfMemory};
+use jxlm_base::sample::Sample;
 use jxlm_bits::bits::Bitstream;
 use jxlm_bits::decoder::Decoder;
 use jxlm_bits::error::Result;
-use jxlm_base::grid::{AlignedGrid, OutOfMemory};
-use jxlm_base::sample::Sample;
 use jxlm_groups::part::{Kind, SectionPart};
 use jxlm_groups::pass::{Pass, passes};
 use jxlm_tree::flat::Steps;

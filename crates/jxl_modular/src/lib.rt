@@ -86,13 +86,13 @@ pub mod transform {
     pub use jxlm_transform::transform::{Palette, Rct, Squeeze, SqueezeParams, TransformInfo};
 }
 
-pub use jxlm_bits::error::{Error, Result};
 pub use jxlm_base::sample::Sample;
-pub use jxlm_tree::flat::FlatMaTree;
-pub use jxlm_tree::ma::{MaConfig, MaConfigParams};
+pub use jxlm_bits::error::{Error, Result};
 pub use jxlm_transform::channels::ModularChannelInfo;
 pub use jxlm_transform::param::{
     ChannelShift, GradientSums, ModularChannelParams, ModularParams, PaletteTables,
 };
+pub use jxlm_tree::flat::FlatMaTree;
+pub use jxlm_tree::ma::{MaConfig, MaConfigParams};
 pub use picture::decode_picture;
 pub use root::Modular;

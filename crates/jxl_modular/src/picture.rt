@@ -14,12 +14,12 @@ ghost use Rattle.jxl_modular.specs.Picture.{IsPictureRead, PictureFails, StepsWi
 
 use crate::image::ModularImageDestination;
 use crate::root::Modular;
+use jxlm_base::sample::Sample;
 use jxlm_bits::bits::Bitstream;
 use jxlm_bits::decoder::Decoder;
 use jxlm_bits::error::Result;
-use jxlm_base::sample::Sample;
-use jxlm_tree::flat::Steps;
 use jxlm_transform::param::ModularParams;
+use jxlm_tree::flat::Steps;
 use std::alloc::Global;
 
 /// Decodes all samples of an image that was read, and undoes its transforms.

@@ -8,16 +8,16 @@ ghost use Rattle.jxlm_samples.specs.Part.{cell_count};
 ghost use Rattle.jxl_modular.specs.Layers.{StandsIn};
 
 use crate::image::ModularImageDestination;
+use jxlm_base::grid::AlignedGrid;
+use jxlm_base::sample::Sample;
 use jxlm_bits::bits::Bitstream;
 use jxlm_bits::decoder::Decoder;
 use jxlm_bits::error::Result;
-use jxlm_base::grid::AlignedGrid;
-use jxlm_base::sample::Sample;
-use jxlm_tree::flat::Steps;
-use jxlm_tree::ma::MaConfig;
 use jxlm_nested::nested::NestedPart;
 use jxlm_samples::channels::have_samples;
 use jxlm_transform::channels::PlacedChannel;
+use jxlm_tree::flat::Steps;
+use jxlm_tree::ma::MaConfig;
 use std::alloc::Global;
 use std::marker::Model;
 

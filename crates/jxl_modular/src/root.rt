@@ -10,10 +10,10 @@ ghost use Rattle.jxlm_transform.specs.Params.{IsValidParams};
 ghost use Rattle.jxl_modular.specs.Parsing.{ParseGives, image_of};
 
 use crate::image::ModularImageDestination;
+use jxlm_base::sample::Sample;
 use jxlm_bits::bits::Bitstream;
 use jxlm_bits::decoder::Decoder;
 use jxlm_bits::error::Result;
-use jxlm_base::sample::Sample;
 use jxlm_chain::placed::PlacedChannels;
 use jxlm_nested::opening::{open, tree_of};
 use jxlm_transform::channels::image_channels;

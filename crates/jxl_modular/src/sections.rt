@@ -14,10 +14,10 @@ mod turns;
 
 use crate::image::ModularImageDestination;
 pub use fit::sections_fit;
+use jxlm_base::sample::Sample;
 use jxlm_bits::bits::Bitstream;
 use jxlm_bits::decoder::Decoder;
 use jxlm_bits::error::Result;
-use jxlm_base::sample::Sample;
 pub use jxlm_groups::area::{Area, PartArea};
 pub use jxlm_groups::part::SectionPart;
 use jxlm_groups::pass::passes;

@@ -12,9 +12,9 @@ use crate::dictionary::Dictionary;
 use crate::error::PatchError;
 use crate::slots::SavedFrames;
 use jxl_image_header::size::Size;
+use jxlm_base::grid::AlignedGrid;
 use jxlm_bits::bits::Bitstream;
 use jxlm_bits::decoder::Decoder;
-use jxlm_base::grid::AlignedGrid;
 use std::alloc::Global;
 
 // How many cells the patches of a frame of this size may put.

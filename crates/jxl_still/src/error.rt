@@ -2,8 +2,8 @@
 
 ghost use Rattle.std.specs.Prelude.{◌≡◌};
 
-use jxlm_bits::error::Error;
 use jxlm_base::grid::OutOfMemory;
+use jxlm_bits::error::Error;
 use std::alloc::AllocFailed;
 
 /// Why a frame is not decoded: the first reason in the order of its bits, but that the parser looks for palettes with the

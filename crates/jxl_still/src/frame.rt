@@ -18,12 +18,12 @@ use crate::opening::{begin_weighted, open_image};
 use crate::places::Places;
 use jxl_modular::image::ModularImageDestination;
 use jxl_modular::sections::{Progress, Section, decode_sections_with};
+use jxlm_base::sample::Sample;
 use jxlm_bits::bits::Bitstream;
 use jxlm_bits::decoder::Decoder;
-use jxlm_base::sample::Sample;
+use jxlm_transform::param::ModularParams;
 use jxlm_tree::flat::Steps;
 use jxlm_tree::ma::MaConfig;
-use jxlm_transform::param::ModularParams;
 use std::alloc::Global;
 use std::collections::BTreeMap;
 

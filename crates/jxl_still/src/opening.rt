@@ -14,15 +14,15 @@ use crate::error::FrameError;
 use jxl_modular::Modular;
 use jxl_modular::image::ModularImageDestination;
 use jxl_modular::sections::Section;
+use jxlm_base::grid::OutOfMemory;
+use jxlm_base::sample::Sample;
 use jxlm_bits::bits::Bitstream;
 use jxlm_bits::decoder::Decoder;
 use jxlm_bits::error::Error;
-use jxlm_base::grid::OutOfMemory;
-use jxlm_base::sample::Sample;
 use jxlm_header::header::ModularHeader;
+use jxlm_predictor::predictor::Predictor;
 use jxlm_transform::param::ModularParams;
 use jxlm_transform::transform::TransformInfo;
-use jxlm_predictor::predictor::Predictor;
 use std::alloc::Global;
 
 // Whether the predictor is the weighted one.

@@ -13,8 +13,8 @@ use jxl_modular::flat::Steps;
 use jxl_modular::image::ModularImageDestination;
 use jxl_modular::sample::Sample;
 use jxl_modular::{ModularChannelParams, decode_picture};
-use jxlmod_commands::picture::without_tree;
 use jxlm_section_split::decode_cut_picture;
+use jxlmod_commands::picture::without_tree;
 use std::alloc::Global;
 use std::time::{Clock, Instant};
 

@@ -5,8 +5,8 @@ ghost use Rattle.jxldec.specs.Reasons.{box_text as the_box_text, front_text, pat
 
 use crate::cause::Cause;
 use crate::codes::decoder_text;
-use jxl_container::error::FileError as BoxError;
 use jxl_codestream::error::FrontError;
+use jxl_container::error::FileError as BoxError;
 use jxl_info::reasons::{frame_reason, image_reason};
 use jxl_lossless::FileError;
 use jxl_patches::error::PatchError;

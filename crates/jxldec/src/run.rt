@@ -14,12 +14,12 @@ use crate::meter::Line;
 use crate::options::Options;
 use crate::warning::{LeftOut, warn};
 use jxl_codestream::error::FrontError;
+use jxl_coding::decoder::EntropyDecoder;
 use jxl_image_header::image::ImageHeader;
 use jxl_info::headers::{Headers, HeadersError, is_boxed};
 use jxl_info::text::info_text;
 use jxl_lossless::{FileError, Limits, Picture, Steps, decode_lossless_with};
 use jxl_netpbm::format::Format;
-use jxl_coding::decoder::EntropyDecoder;
 use std::alloc::Global;
 use std::io::{Read, Write};
 

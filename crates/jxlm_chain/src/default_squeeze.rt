@@ -6,8 +6,8 @@ ghost use Rattle.jxlm_transform.specs.Channels.{HasItsMeta, infos};
 ghost use Rattle.jxlm_transform.specs.Lists.{list_of};
 ghost use Rattle.jxlm_transform.specs.ChannelSteps.{StepsGive, default_of_all, default_of_chroma, halvings, in_turn, one_size, step_of_all as the_step_of_all, step_of_chroma as the_step_of_chroma, steps_of_squeeze};
 
-use jxlm_bits::error::{Error, Result};
 use jxlm_base::grid::OutOfMemory;
+use jxlm_bits::error::{Error, Result};
 use jxlm_transform::channels::{ModularChannels, PlacedChannel};
 use jxlm_transform::transform::{Squeeze, SqueezeParams};
 

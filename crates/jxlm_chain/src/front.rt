@@ -12,8 +12,8 @@ ghost use Rattle.jxlm_transform.specs.Lists.{list_of};
 ghost use Rattle.jxlm_transform.specs.ChannelSteps.{ListGives, SqueezeStep, list_after, list_after_all};
 
 use crate::placed::PlacedChannels;
-use jxlm_bits::error::{Error, Result};
 use jxlm_base::grid::OutOfMemory;
+use jxlm_bits::error::{Error, Result};
 use jxlm_transform::channels::ModularChannels;
 use jxlm_transform::transform::SqueezeParams;
 use std::alloc::Global;

@@ -9,11 +9,11 @@ ghost use Rattle.jxlm_chain.specs.Undoings.{SuitsWeights, undo_of_code, undos_of
 ghost use Rattle.jxlm_predictor.specs.SelfCorrecting.{IsHeader};
 
 use crate::undo::Undoing;
-use jxlm_bits::error::Result;
 use jxlm_base::grid::{OutOfMemory, Region};
 use jxlm_base::sample::Sample;
-use jxlm_transform::rct::RctScratch;
+use jxlm_bits::error::Result;
 use jxlm_predictor::predictor::{PredictorState, WpHeader};
+use jxlm_transform::rct::RctScratch;
 use std::alloc::Global;
 
 /// Room for what the undoing of one transform after another needs beside the samples.

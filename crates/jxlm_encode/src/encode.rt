@@ -28,18 +28,18 @@ use jxlm_base::grid::{AlignedGrid, OutOfMemory};
 use jxlm_base::sample::Sample;
 use jxlm_chain::placed::PlacedChannels;
 use jxlm_chain::undo::Undoing;
-use jxlm_tree::ma::MaConfig;
-use jxlm_samples::part::PlacedPart;
-use jxlm_plain::plain::PlainDecoder;
-use jxlm_encode_transform::redo::redo_all;
 use jxlm_encode_tokens::part::sample_tokens;
 pub use jxlm_encode_tokens::token::token_of;
-use jxlm_predictor::predictor::WpHeader;
+use jxlm_encode_transform::redo::redo_all;
 use jxlm_encode_write::header::write_header;
 pub use jxlm_encode_write::header::{EncodeTransform, SqueezeStep};
 use jxlm_encode_write::plain::{width_of, write_gamma_tokens, write_tokens};
 pub use jxlm_encode_write::tree::EncodeNode;
 use jxlm_encode_write::writer::BitWriter;
+use jxlm_plain::plain::PlainDecoder;
+use jxlm_predictor::predictor::WpHeader;
+use jxlm_samples::part::PlacedPart;
+use jxlm_tree::ma::MaConfig;
 use std::alloc::{AllocError, Global};
 
 /// The same grids, in their order.

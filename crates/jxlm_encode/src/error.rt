@@ -5,9 +5,9 @@ ghost use Rattle.jxlm_bits.specs.ErrorKind.{kind_of};
 ghost use Rattle.jxlm_encode.specs.Inner.Errors.{IsNotMemory};
 ghost use Rattle.jxlm_encode.specs.declared.error.EncodeError.TheVariants.{OutOfMemory as Memory};
 
+use jxlm_base::grid::OutOfMemory;
 use jxlm_bits::decoder::DecoderError;
 use jxlm_bits::error::Error;
-use jxlm_base::grid::OutOfMemory;
 use std::alloc::{AllocError, AllocFailed};
 
 /// Why an image is not encoded.

@@ -9,15 +9,15 @@ ghost use Rattle.jxlm_encode.specs.Inner.Listing.{IsNotGiven, IsNotRead, IsTreeR
 
 use crate::error::{EncodeError, unless_memory};
 use jxlm_bits::bits::Bitstream;
-use jxlm_header::opening::{DEPTH_LIMIT, node_limit};
-use jxlm_tree::ma::{MaConfig, MaConfigParams, each_tree_is_read_exactly};
-use jxlm_plain::plain::PlainDecoder;
-use jxlm_transform::channels::PlacedChannel;
 use jxlm_encode_write::plain::{
     width_of, write_decoder, write_gamma_decoder, write_gamma_tokens, write_tokens,
 };
 use jxlm_encode_write::tree::{EncodeNode, has_tokens, tokens_of};
 use jxlm_encode_write::writer::BitWriter;
+use jxlm_header::opening::{DEPTH_LIMIT, node_limit};
+use jxlm_plain::plain::PlainDecoder;
+use jxlm_transform::channels::PlacedChannel;
+use jxlm_tree::ma::{MaConfig, MaConfigParams, each_tree_is_read_exactly};
 use std::alloc::{AllocError, Global};
 
 /// How many nodes are missing after a node, of some that were.

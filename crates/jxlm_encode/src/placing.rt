@@ -14,10 +14,10 @@ use crate::error::{EncodeError, unless_memory};
 use jxlm_base::grid::AlignedGrid;
 use jxlm_base::sample::{Sample, Sealed};
 use jxlm_chain::placed::PlacedChannels;
+use jxlm_encode_write::header::{EncodeTransform, SqueezeStep};
 use jxlm_transform::channels::ModularChannelInfo;
 use jxlm_transform::param::ModularChannelParams;
 use jxlm_transform::transform::{Rct, Squeeze, SqueezeParams, TransformInfo};
-use jxlm_encode_write::header::{EncodeTransform, SqueezeStep};
 use std::alloc::{AllocError, Global};
 
 /// The maximum number of transforms.

@@ -3,9 +3,9 @@
 ghost use Rattle.jxlm_encode_roundtrip.specs.Pictures.{Encoded2IsPicture, EncodedIsPicture, PicturesAreOne};
 
 use jxlm_bits::decoder::Decoder;
-use jxlm_tree::ma::each_tree_is_read_exactly;
 use jxlm_plain::plain::PlainDecoder;
 use jxlm_plain::plain2::PlainDecoder2;
+use jxlm_tree::ma::each_tree_is_read_exactly;
 
 /// What is encoded is a picture, at any bit depth: its grids are the only ones that the header's transforms turn into
 /// the samples that are coded.

@@ -14,17 +14,17 @@ ghost use Rattle.jxlm_encode_roundtrip.specs.Inner.Decoded.{IsDecoded, IsNotDeco
 ghost use Rattle.jxlm_encode_roundtrip.specs.RoundTrip.{IsReadBack, RoundTripFails};
 
 use jxl_modular::decode_picture;
+use jxlm_base::grid::{AlignedGrid, OutOfMemory};
+use jxlm_base::sample::Sample;
 use jxlm_bits::bits::Bitstream;
 use jxlm_bits::decoder::Decoder;
 use jxlm_bits::error::Error;
-use jxlm_base::grid::{AlignedGrid, OutOfMemory};
-use jxlm_base::sample::Sample;
 use jxlm_encode::encode::{EncodeError, EncodeNode, EncodeTransform, encode, encode2};
-use jxlm_tree::flat::Steps;
-use jxlm_tree::ma::each_tree_is_read_exactly;
 use jxlm_plain::plain::PlainDecoder;
 use jxlm_plain::plain2::PlainDecoder2;
 use jxlm_transform::param::{ModularChannelParams, ModularParams};
+use jxlm_tree::flat::Steps;
+use jxlm_tree::ma::each_tree_is_read_exactly;
 use std::alloc::Global;
 
 /// Why an image did not come back.

@@ -16,17 +16,17 @@ ghost use Rattle.jxlm_encode_tokens.specs.Inner.Walks.{AreFirstTokens, AreRowTok
 use crate::leaf::{gradient_row, zero_row};
 use crate::rows::walked_row;
 use crate::start::start_channel;
-use jxlm_bits::decoder::Decoder;
-use jxlm_bits::error::Result;
 use jxlm_base::grid::{AlignedGrid, OutOfMemory};
 use jxlm_base::region::region_row;
 use jxlm_base::sample::Sample;
-use jxlm_tree::flat::{FlatMaTree, Leaf, Steps};
+use jxlm_bits::decoder::Decoder;
+use jxlm_bits::error::Result;
+use jxlm_predictor::predictor::{Predictor, PredictorState};
 use jxlm_samples::channels::{max_width, sampled_width};
 use jxlm_samples::coding::{ChannelTree, PartCoding, PartState, flat_trees, roomy_state};
 use jxlm_samples::part::PlacedPart;
 use jxlm_transform::channels::PlacedChannel;
-use jxlm_predictor::predictor::{Predictor, PredictorState};
+use jxlm_tree::flat::{FlatMaTree, Leaf, Steps};
 use std::alloc::Global;
 
 /// The only leaf of a tree, where rows need no state of the predictors: it predicts by 0 or by the clamped gradient.

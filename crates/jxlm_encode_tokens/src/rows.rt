@@ -15,15 +15,15 @@ ghost use Rattle.jxlm_encode_tokens.specs.Tokens.{MultipliesByOne};
 ghost use Rattle.jxlm_encode_tokens.specs.Inner.Walks.{AreInner, AreRowTokens, HasRow, IsInChannel, IsNextToken};
 
 use crate::token::sample_token;
-use jxlm_bits::decoder::Decoder;
 use jxlm_base::grid::AlignedGrid;
 use jxlm_base::region::region_row;
 use jxlm_base::sample::{Sample, Sealed};
-use jxlm_tree::flat::{FlatMaTree, Leaf, Steps};
-use jxlm_samples::coding::PartCoding;
-use jxlm_samples::number::Number;
+use jxlm_bits::decoder::Decoder;
 use jxlm_predictor::earlier::{EarlierRow, EarlierRows};
 use jxlm_predictor::predictor::{PredictorState, Properties};
+use jxlm_samples::coding::PartCoding;
+use jxlm_samples::number::Number;
+use jxlm_tree::flat::{FlatMaTree, Leaf, Steps};
 
 /// The leaf to which this tree leads at the cell of these properties. With `clamped` the tree asks for property 9 alone,
 /// which is clamped.

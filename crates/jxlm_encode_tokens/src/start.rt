@@ -7,11 +7,11 @@ ghost use Rattle.jxlm_predictor.specs.Standing.{Setting, StandsAt, earlier_count
 ghost use Rattle.jxlm_samples.specs.Reading.{IsCodingOf, regions_of};
 ghost use Rattle.jxlm_encode_tokens.specs.Inner.Channels.{HasRoom, IsAfterChannel, StandsAfter, all_alike, region_at};
 
-use jxlm_bits::decoder::Decoder;
 use jxlm_base::sample::{Sample, Sealed};
+use jxlm_bits::decoder::Decoder;
+use jxlm_predictor::predictor::PredictorState;
 use jxlm_samples::coding::PartCoding;
 use jxlm_transform::channels::ModularChannelInfo;
-use jxlm_predictor::predictor::PredictorState;
 
 /// Whether two channels have equal sizes and shifts.
 fn is_alike(a: &ModularChannelInfo, b: &ModularChannelInfo) -> bool

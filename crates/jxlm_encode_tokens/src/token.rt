@@ -6,8 +6,8 @@ ghost use Rattle.jxlm_samples.specs.Token.{IsTokenOf};
 ghost use Rattle.jxlm_encode_tokens.specs.Tokens.{IsSampleToken, MultipliesByOne};
 
 use jxlm_base::sample::{Sample, Sealed};
-use jxlm_tree::flat::Leaf;
 use jxlm_encode_write::tree::pack;
+use jxlm_tree::flat::Leaf;
 
 /// By what an odd number is to be multiplied to give 1, modulo 2^32: found bit by bit.
 fn inverse(odd: u32) -> u32

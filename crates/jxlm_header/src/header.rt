@@ -7,12 +7,12 @@ ghost use Rattle.jxlm_transform.specs.Kinds.{is_palette, is_squeeze};
 ghost use Rattle.jxlm_bits.specs.Grammar.{repeated};
 ghost use Rattle.jxlm_transform.specs.Transforms.{IsTransform, KeepsWeights, Parses, transform_by, transform_of};
 
+use jxlm_base::grid::OutOfMemory;
 use jxlm_bits::bits::{Bitstream, U32Spec};
 use jxlm_bits::error::Result;
-use jxlm_base::grid::OutOfMemory;
+use jxlm_predictor::predictor::WpHeader;
 use jxlm_transform::param::PaletteTables;
 use jxlm_transform::transform::{Squeeze, TransformInfo};
-use jxlm_predictor::predictor::WpHeader;
 use std::alloc::Global;
 
 /// What comes before an image's tree.

@@ -15,16 +15,16 @@ ghost use Rattle.jxlm_nested.specs.NestedParts.{CanFill, head_of, nested_channel
 ghost use Rattle.jxlm_nested.specs.Starts.{coded_part};
 
 use crate::nested::NestedPart;
+use jxlm_base::grid::AlignedGrid;
+use jxlm_base::sample::Sample;
 use jxlm_bits::bits::Bitstream;
 use jxlm_bits::decoder::Decoder;
 use jxlm_bits::error::Result;
-use jxlm_base::grid::AlignedGrid;
-use jxlm_base::sample::Sample;
 use jxlm_chain::placed::PlacedChannels;
-use jxlm_tree::flat::Steps;
 use jxlm_samples::channels::have_samples;
 use jxlm_samples::part::PlacedPart;
 use jxlm_transform::channels::{ModularChannels, PlacedChannel};
+use jxlm_tree::flat::Steps;
 use std::alloc::Global;
 
 /// Moves the items after the first `own` ones out of a store, back into the list that they came from.

@@ -16,19 +16,19 @@ ghost use Rattle.jxlm_nested.specs.NestedParts.{CanFill, DecodesTo, Fills, Fills
 ghost use Rattle.jxlm_nested.specs.Starts.{IsTreeErrorAt, opened};
 
 use crate::opening::{open, tree_of};
+use jxlm_base::grid::{AlignedGrid, Region};
+use jxlm_base::sample::Sample;
 use jxlm_bits::bits::Bitstream;
 use jxlm_bits::decoder::Decoder;
 use jxlm_bits::error::Result;
-use jxlm_base::grid::{AlignedGrid, Region};
-use jxlm_base::sample::Sample;
 use jxlm_chain::placed::PlacedChannels;
 use jxlm_chain::scratch::Scratch;
 use jxlm_chain::undo::undo_all;
 use jxlm_header::header::ModularHeader;
-use jxlm_tree::flat::Steps;
-use jxlm_tree::ma::MaConfig;
 use jxlm_samples::part::PlacedPart;
 use jxlm_transform::channels::{ModularChannels, PlacedChannel};
+use jxlm_tree::flat::Steps;
+use jxlm_tree::ma::MaConfig;
 use std::alloc::Global;
 
 /// A part by its own header and tree: its coded channels lie in the part's regions of the image's store, and in tables

@@ -17,8 +17,8 @@ use jxlm_bits::error::{Error, Result};
 use jxlm_chain::placed::PlacedChannels;
 use jxlm_header::header::ModularHeader;
 use jxlm_header::opening::{DEPTH_LIMIT, check, node_limit};
-use jxlm_tree::ma::{MaConfig, MaConfigParams};
 use jxlm_transform::channels::{PlacedChannel, tables_for};
+use jxlm_tree::ma::{MaConfig, MaConfigParams};
 use std::alloc::Global;
 
 /// Reads what comes before a tree: the header, whose transforms are applied to these channels, none of which has a

@@ -16,12 +16,12 @@ ghost use Rattle.jxlm_samples.specs.Inner.Rows.{AreAway, CellGives, CellsGive, I
 use crate::number::Number;
 use crate::rows::{Line, RowError};
 use crate::source::{Source, Walk};
-use jxlm_bits::decoder::{Decoder, DecoderError};
 use jxlm_base::sample::{Sample, Sealed};
-use jxlm_tree::flat::{FlatMaTree, Leaf, Steps};
-use jxlm_tree::paths::Path;
+use jxlm_bits::decoder::{Decoder, DecoderError};
 use jxlm_predictor::earlier::{EarlierRow, EarlierRows};
 use jxlm_predictor::predictor::Properties;
+use jxlm_tree::flat::{FlatMaTree, Leaf, Steps};
+use jxlm_tree::paths::Path;
 
 /// The sample of a token: times the multiplier, plus the offset and the prediction.
 #[inline(always)]

@@ -10,15 +10,15 @@ ghost use Rattle.jxlm_predictor.specs.Standing.{Setting, StandsAt, earlier_count
 ghost use Rattle.jxlm_samples.specs.Reading.{HasFlats, HasRoom, IsCodingOf, IsLone, IsRoomyFor, IsTreeOf, LeadsAlone, ReadsAlone, alone_at, flat, part_of, regions_of};
 ghost use Rattle.jxlm_samples.specs.Inner.Channels.{IsNext, StandsAfter, all_alike};
 
-use jxlm_bits::decoder::Decoder;
-use jxlm_bits::error::Result;
 use jxlm_base::grid::Region;
 use jxlm_base::sample::{Sample, Sealed};
+use jxlm_bits::decoder::Decoder;
+use jxlm_bits::error::Result;
+use jxlm_predictor::predictor::{Predictor, PredictorState, WpHeader};
+use jxlm_transform::channels::{ModularChannelInfo, PlacedChannel};
 use jxlm_tree::flat::{FlatMaTree, Leaf};
 use jxlm_tree::ma::MaConfig;
 use jxlm_tree::paths::ClusterTable;
-use jxlm_transform::channels::{ModularChannelInfo, PlacedChannel};
-use jxlm_predictor::predictor::{Predictor, PredictorState, WpHeader};
 use std::alloc::Global;
 use std::rc::Rc;
 

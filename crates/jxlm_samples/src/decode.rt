@@ -16,11 +16,11 @@ use crate::gradient::{Leaves, read_gradients};
 use crate::rows::{Line, RowError, write_read};
 use crate::source::Walk;
 use crate::zeros::read_zeros;
-use jxlm_bits::decoder::{Decoder, DecoderError};
 use jxlm_base::grid::AlignedGrid;
 use jxlm_base::sample::Sample;
-use jxlm_tree::paths::Path;
+use jxlm_bits::decoder::{Decoder, DecoderError};
 use jxlm_predictor::predictor::{Predictor, PredictorState};
+use jxlm_tree::paths::Path;
 
 /// Reads a row: at a leaf, from the row above, or cell by cell.
 ///

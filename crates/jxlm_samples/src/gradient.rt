@@ -12,12 +12,12 @@ use crate::above::sample_above;
 use crate::one_gradient::read_one_gradient;
 use crate::rows::{Line, RowError};
 use crate::source::Source;
-use jxlm_bits::decoder::Decoder;
 use jxlm_base::region::region_row;
 use jxlm_base::sample::{Sample, Sealed};
+use jxlm_bits::decoder::Decoder;
+use jxlm_predictor::clamping::clamped_sum;
 use jxlm_tree::flat::{Leaf, Steps};
 use jxlm_tree::paths::ClusterTable;
-use jxlm_predictor::clamping::clamped_sum;
 
 /// The leaves of a channel whose cells are all predicted by the clamped gradient.
 #[derive(Clone, Copy)]
@@ -61,7 +61,8 @@ fn cluster_of<S: Sample>(
     steps: &mut Steps,
 ) -> u8
     requires kind { are_of_table leaves ≡ true }
-    ensures cluster { result ≡ (leaf_by leaves.entry (sum_by clamped (S.to_int w -ℤ S.to_int nw +ℤ S.to_int n))).cluster }
+    ensures cluster { result ≡
+        (leaf_by leaves.entry (sum_by clamped (S.to_int w -ℤ S.to_int nw +ℤ S.to_int n))).cluster }
     ensures cost { steps.new ≡ steps.old + steps_by leaves.entry }
 {
     match leaves {
@@ -89,8 +90,8 @@ fn read_below<S: Sample, D: Decoder, const FIRST: bool>(
     requires kind { are_of_table leaves ≡ true }
     requires columns { 0 < length row.old }
     requires above { length above.now ≡ (if FIRST then 0 else length row.old) }
-    ensures { GradientGives D.meaning S.width clamped leaves.entry widest (map S.to_int above.now) (map S.to_int row.new)
-        source.old source.new result }
+    ensures { GradientGives D.meaning S.width clamped leaves.entry widest (map S.to_int above.now)
+        (map S.to_int row.new) source.old source.new result }
 {
     let mut reader = source.bits;
     let mut w = sample_above::<S, FIRST>(above, 0, S::from_i32(0));
@@ -130,8 +131,8 @@ fn read_by_kind<S: Sample, D: Decoder, const FIRST: bool>(
     requires leaves { AreGradients (D.meaning.cluster_map source.old.decoder) leaves }
     requires columns { 0 < length row.old }
     requires above { length above.now ≡ (if FIRST then 0 else length row.old) }
-    ensures { GradientGives D.meaning S.width clamped leaves.entry widest (map S.to_int above.now) (map S.to_int row.new)
-        source.old source.new result }
+    ensures { GradientGives D.meaning S.width clamped leaves.entry widest (map S.to_int above.now)
+        (map S.to_int row.new) source.old source.new result }
 {
     match leaves {
         Leaves::One(leaf) => read_one_gradient::<S, D, FIRST>(source, leaf, widest, above, row),

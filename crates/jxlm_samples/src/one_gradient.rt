@@ -13,8 +13,8 @@ ghost use Rattle.jxlm_samples.specs.declared.gradient.Leaves.TheVariants.{One};
 use crate::above::sample_above;
 use crate::rows::{RowError, STRETCH};
 use crate::source::Source;
-use jxlm_bits::decoder::Decoder;
 use jxlm_base::sample::{Sample, Sealed};
+use jxlm_bits::decoder::Decoder;
 use jxlm_tree::flat::Leaf;
 
 /// The samples to the left of column `from`, and above that one.

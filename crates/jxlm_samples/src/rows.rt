@@ -5,9 +5,9 @@ ghost use Rattle.jxlm_base.specs.Regions.{Lies};
 ghost use Rattle.jxlm_samples.specs.Inner.Rows.{SetsRead};
 
 use crate::coding::PartCoding;
-use jxlm_bits::decoder::{Decoder, DecoderError};
 use jxlm_base::grid::{AlignedGrid, Region};
 use jxlm_base::region::region_set_row;
+use jxlm_bits::decoder::{Decoder, DecoderError};
 use jxlm_tree::paths::Path;
 
 /// How many tokens of a row of one leaf are read at a time.

@@ -2,8 +2,8 @@
 
 use jxlm_bits::bits::Bitstream;
 use jxlm_bits::decoder::Decoder;
-use jxlm_tree::flat::Steps;
 use jxlm_predictor::predictor::PredictorState;
+use jxlm_tree::flat::Steps;
 
 /// What tokens are taken from.
 #[derive(Drop)]

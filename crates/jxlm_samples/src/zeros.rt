@@ -13,8 +13,8 @@ ghost use Rattle.jxlm_samples.specs.Inner.Rows.{MakesCells, ReadsRow, StretchGiv
 use crate::cell::sample_from;
 use crate::rows::{RowError, STRETCH};
 use crate::source::Source;
-use jxlm_bits::decoder::Decoder;
 use jxlm_base::sample::{Sample, Sealed};
+use jxlm_bits::decoder::Decoder;
 use jxlm_tree::flat::Leaf;
 
 /// Fills a row where each cell is predicted by 0 and has the same token.

@@ -15,13 +15,13 @@ use crate::split::split_section;
 use jxl_modular::Modular;
 use jxl_modular::image::ModularImageDestination;
 use jxl_modular::sections::decode_sections;
+use jxlm_base::grid::OutOfMemory;
+use jxlm_base::sample::Sample;
 use jxlm_bits::bits::Bitstream;
 use jxlm_bits::decoder::Decoder;
 use jxlm_bits::error::Result;
-use jxlm_base::grid::OutOfMemory;
-use jxlm_base::sample::Sample;
-use jxlm_tree::flat::Steps;
 use jxlm_transform::param::ModularParams;
+use jxlm_tree::flat::Steps;
 use std::alloc::Global;
 use std::collections::BTreeMap;
 

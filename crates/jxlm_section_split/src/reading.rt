@@ -10,10 +10,10 @@ use crate::split::split_section;
 use jxl_modular::groups::{Part, TransformedGlobalModular};
 use jxl_modular::image::ModularImageDestination;
 use jxl_modular::sections::{Section, SectionPart};
+use jxlm_base::sample::Sample;
 use jxlm_bits::bits::Bitstream;
 use jxlm_bits::decoder::Decoder;
 use jxlm_bits::error::Error;
-use jxlm_base::sample::Sample;
 use std::alloc::Global;
 use std::collections::BTreeMap;
 

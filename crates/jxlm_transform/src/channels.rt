@@ -12,8 +12,8 @@ ghost use Rattle.jxlm_transform.specs.Params.{IsValidChannel, has_deltas};
 ghost use Rattle.jxlm_transform.specs.SqueezedRegions.{average_region, residual_region};
 
 use crate::param::{ChannelShift, GradientSums, ModularChannelParams, PaletteTables};
-use jxlm_bits::error::Result;
 use jxlm_base::grid::{OutOfMemory, Region};
+use jxlm_bits::error::Result;
 use std::alloc::Global;
 
 /// What is known of a channel as it is coded: its size, its shifts, and the size and the shift that it came with.

@@ -15,10 +15,10 @@ ghost use Rattle.jxlm_transform.specs.Palette.{colour_of, deltas, difference, im
 ghost use Rattle.jxlm_transform.specs.Inner.PaletteSteps.{ChannelLies, ChannelsDone, channel_at, columns_of, FillsOn, FillsOnBy, AreSimple, IsSimple, IsSimpleIndex, IsSimpleRow, SetsNext, StandsBefore, StandsNext, index_in, kept, number_of, table_in};
 
 use crate::transform::Palette;
-use jxlm_bits::error::Result;
 use jxlm_base::grid::{AlignedGrid, Region};
 use jxlm_base::region::{region_get, region_row, region_set};
 use jxlm_base::sample::Sample;
+use jxlm_bits::error::Result;
 use jxlm_predictor::predictor::{PredictorState, Properties};
 use jxlm_predictor::reduced::reduced;
 use std::alloc::Global;

@@ -9,10 +9,10 @@ ghost use Rattle.jxlm_transform.specs.ColourRows.{HasRoom, KeepsRoom};
 ghost use Rattle.jxlm_transform.specs.Inner.ColourRows.{AreThree, PutsRow, FinishesRow, FinishedUntil};
 ghost use Rattle.jxlm_transform.specs.Recoloured.{HaveOneSize, UndoesColour};
 
-use jxlm_bits::error;
 use jxlm_base::grid::{AlignedGrid, OutOfMemory, Region};
 use jxlm_base::region::{region_row, region_set_row};
 use jxlm_base::sample::{Sample, Sealed};
+use jxlm_bits::error;
 use std::alloc::Global;
 
 /// Room for one row of each of three channels.

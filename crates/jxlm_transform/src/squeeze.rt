@@ -8,9 +8,9 @@ ghost use Rattle.jxlm_base.specs.SqueezedGrids.{AreGridSamples, squeezed_rows, s
 ghost use Rattle.jxlm_base.specs.Subgrid.{whole, KeepsOutside, numbers_in};
 ghost use Rattle.jxlm_transform.specs.SqueezedRegions.{UndoesSqueeze};
 
-use jxlm_bits::error::Result;
 use jxlm_base::grid::{AlignedGrid, MutableSubgrid, Region};
 use jxlm_base::sample::Sample;
+use jxlm_bits::error::Result;
 use std::alloc::Global;
 
 /// Undoes a horizontal squeeze step, in place: each row of the rectangle holds averages, then residuals, and

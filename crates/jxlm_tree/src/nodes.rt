@@ -7,10 +7,10 @@ ghost use Rattle.jxlm_tree.specs.Inner.DraftReading.{AllDrafts, IsDraft, IsDraft
 ghost use Rattle.jxlm_tree.specs.TreeReading.{children as children_of, drafts_at, leaf_at, limit_error, max_nodes, multiplier_at, node_at, nodes_at, predictor_at, read_context as token_of};
 
 use crate::flat::Leaf;
+use jxlm_base::sample::Sealed;
 use jxlm_bits::bits::{Bitstream, BitstreamError};
 use jxlm_bits::decoder::Decoder;
 use jxlm_bits::error::{Error, Result};
-use jxlm_base::sample::Sealed;
 use jxlm_predictor::predictor::Predictor;
 use std::alloc::Global;
 

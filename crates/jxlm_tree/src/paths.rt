@@ -6,9 +6,9 @@ ghost use Rattle.std.specs.Rc.{rc_value};
 
 use crate::flat::{FlatMaTree, FlatNode, Leaf, entry_of};
 use crate::steps::Steps;
+use jxlm_base::grid::OutOfMemory;
 use jxlm_bits::decoder::Decoder;
 use jxlm_bits::error::Error;
-use jxlm_base::grid::OutOfMemory;
 use jxlm_predictor::place::{AskedProperty, PlaceProperties};
 use jxlm_predictor::predictor::Predictor;
 use std::alloc::{AllocError, Global};

@@ -7,14 +7,14 @@ ghost use Rattle.jxlmod_commands.specs.Encoding.{IsEncodedIn, IsEncodedText, Enc
 
 use crate::arguments::Format;
 use crate::refusal::Refusal;
+use jxl_text::reading::read_image;
 use jxlm_base::grid::AlignedGrid;
 use jxlm_base::sample::Sample;
 use jxlm_encode::encode::{EncodeError, EncodeNode, encode, encode2};
-use jxlm_tree::ma::each_tree_is_read_exactly;
 use jxlm_plain::plain::PlainDecoder;
 use jxlm_plain::plain2::PlainDecoder2;
-use jxl_text::reading::read_image;
 use jxlm_predictor::predictor::Predictor;
+use jxlm_tree::ma::each_tree_is_read_exactly;
 use std::alloc::Global;
 
 /// Encodes an image in a format, with no transform and a tree of one leaf, which predicts by `Gradient`. No channels have

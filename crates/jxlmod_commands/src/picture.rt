@@ -8,15 +8,15 @@ ghost use Rattle.jxlmod_commands.specs.PictureText.{IsCutPictureText, IsPictureT
 ghost use Rattle.jxlmod_commands.specs.Printed.{IsCutPictureError, IsPictureError};
 
 use jxl_modular::decode_picture;
+use jxl_text::printing::print_image;
+use jxlm_base::grid::OutOfMemory;
+use jxlm_base::sample::Sample;
 use jxlm_bits::bits::Bitstream;
 use jxlm_bits::decoder::Decoder;
 use jxlm_bits::error::Error;
-use jxlm_base::grid::OutOfMemory;
-use jxlm_base::sample::Sample;
-use jxlm_tree::flat::Steps;
 use jxlm_section_split::decode_cut_picture;
-use jxl_text::printing::print_image;
 use jxlm_transform::param::{ModularChannelParams, ModularParams};
+use jxlm_tree::flat::Steps;
 use std::alloc::Global;
 
 /// The side of a group of the pictures that are printed.

@@ -2,9 +2,9 @@
 
 ghost use Rattle.std.specs.Prelude.{◌≡◌};
 
+use jxl_text::reading::TextError;
 use jxlm_bits::error::Error;
 use jxlm_encode::encode::EncodeError;
-use jxl_text::reading::TextError;
 
 /// Why nothing is made of an input.
 #[derive(Clone, Copy, Debug, PartialEq, Eq, thiserror::Error)]

@@ -5,20 +5,20 @@ ghost use Rattle.jxlm_samples.specs.Part.{cell_count};
 ghost use Rattle.std.specs.Prelude.{◌≡◌, ◌↔◌, ◌<◌, IsOk, IsTrue, IsFalse, IfOk, IfErr};
 
 use super::ModularImageDestination;
+use jxlm_base::sample::Sample;
 use jxlm_bits::bits::Bitstream;
 use jxlm_bits::decoder::Decoder;
 use jxlm_bits::error::Result;
-use jxlm_base::sample::Sample;
 use jxlm_groups::area::{PartArea, parts, picture_sides};
 use jxlm_groups::complete::has_each_part;
 use jxlm_groups::cut::{check_cut, exists, group_count};
 use jxlm_groups::part::{Kind, SectionPart};
 use jxlm_groups::pass::{Pass, passes};
 use jxlm_groups::pieces::{has_pieces, pieces};
-use jxlm_tree::flat::Steps;
-use jxlm_tree::ma::MaConfig;
 use jxlm_nested::nested::NestedPart;
 use jxlm_samples::part::PlacedPart;
+use jxlm_tree::flat::Steps;
+use jxlm_tree::ma::MaConfig;
 use std::alloc::Global;
 use std::collections::{BTreeMap, BTreeSet};
 

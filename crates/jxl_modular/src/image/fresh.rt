@@ -8,14 +8,14 @@ ghost use Rattle.jxl_modular.specs.Fresh.{fresh};
 ghost use Rattle.jxlm_nested.specs.Zeros.{zeros};
 
 use super::ModularImageDestination;
-use jxlm_bits::decoder::Decoder;
-use jxlm_bits::error::Result;
 use jxlm_base::grid::{AlignedGrid, Region};
 use jxlm_base::sample::Sample;
+use jxlm_bits::decoder::Decoder;
+use jxlm_bits::error::Result;
 use jxlm_chain::placed::PlacedChannels;
 use jxlm_header::header::ModularHeader;
-use jxlm_tree::ma::MaConfig;
 use jxlm_transform::channels::ModularChannelInfo;
+use jxlm_tree::ma::MaConfig;
 use std::alloc::Global;
 
 /// For each channel a grid of its size, whose cells are 0. Out of memory is its only error.

@@ -9,18 +9,18 @@ ghost use Rattle.jxlm_transform.specs.Channels.{infos, regions};
 
 use super::{ModularImageDestination, TransformedModularSubimage, first_of};
 use crate::recursive::{NestedHeader, RecursiveModularImage};
+use jxlm_base::grid::{AlignedGrid, OutOfMemory};
+use jxlm_base::sample::Sample;
 use jxlm_bits::bits::Bitstream;
 use jxlm_bits::decoder::Decoder;
 use jxlm_bits::error::{Error, Result};
-use jxlm_base::grid::{AlignedGrid, OutOfMemory};
-use jxlm_base::sample::Sample;
 use jxlm_groups::part::SectionPart;
 use jxlm_groups::pass::Pass;
 use jxlm_groups::pieces::pieces;
-use jxlm_tree::flat::Steps;
-use jxlm_tree::ma::MaConfig;
 use jxlm_nested::nested::{NestedPart, add_tables};
 use jxlm_transform::channels::PlacedChannel;
+use jxlm_tree::flat::Steps;
+use jxlm_tree::ma::MaConfig;
 use std::alloc::Global;
 
 impl<S: Sample, D: Decoder> ModularImageDestination<S, D> {

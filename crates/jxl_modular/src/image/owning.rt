@@ -6,10 +6,10 @@ ghost use Rattle.jxlm_bits.specs.ErrorKind.{kind_of};
 ghost use Rattle.jxlm_tree.specs.TreeReading.{IsOutOfMemory};
 
 use super::ModularImageDestination;
-use jxlm_bits::decoder::Decoder;
-use jxlm_bits::error::Result;
 use jxlm_base::grid::{AlignedGrid, OutOfMemory};
 use jxlm_base::sample::Sample;
+use jxlm_bits::decoder::Decoder;
+use jxlm_bits::error::Result;
 use jxlm_chain::undo::clone_all;
 use jxlm_transform::channels::{ModularChannelInfo, ModularChannels};
 use std::alloc::Global;

@@ -7,9 +7,9 @@ ghost use Rattle.jxl_modular.specs.Inner.SectionParts.{HoldsParts};
 
 use super::{Section, SectionPart};
 use crate::image::ModularImageDestination;
+use jxlm_base::sample::Sample;
 use jxlm_bits::decoder::Decoder;
 use jxlm_bits::error::Result;
-use jxlm_base::sample::Sample;
 use jxlm_groups::pass::Pass;
 use std::alloc::Global;
 use std::collections::BTreeSet;

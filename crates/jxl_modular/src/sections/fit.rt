@@ -9,9 +9,9 @@ ghost use Rattle.jxl_modular.specs.Sections.{FitGives};
 
 use super::Section;
 use crate::image::ModularImageDestination;
+use jxlm_base::sample::Sample;
 use jxlm_bits::decoder::Decoder;
 use jxlm_bits::error::Result;
-use jxlm_base::sample::Sample;
 use jxlm_groups::pass::{Pass, passes};
 use std::alloc::Global;
 use std::collections::{BTreeMap, BTreeSet};
