@@ -1,7 +1,7 @@
-.PHONY: help jxldec jxlmod picture run triangle groups docs memory test
+.PHONY: help jxldec jxlmod demo demo-plain demo-triangle demo-groups bench compare-djxl check-docs check-alloc test
 
 help: ## this list
-	@awk -F ':.*## ' '/^[a-z]+:.*## / { printf "make %-9s %s\n", $$1, $$2 }' Makefile
+	@awk -F ':.*## ' '/^[a-z-]+:.*## / { printf "make %-14s %s\n", $$1, $$2 }' Makefile
 
 jxldec: ## prove and build the decoder of .jxl files: crates/jxldec/out/jxldec
 	@python3 scripts/build.py jxldec --version
@@ -9,25 +9,31 @@ jxldec: ## prove and build the decoder of .jxl files: crates/jxldec/out/jxldec
 jxlmod: ## prove and build the program of the plain formats: crates/jxlmod/out/jxlmod
 	@python3 scripts/build.py jxlmod $$(cat crates/jxlmod/args)
 
-picture: ## decode examples/ball.jxl and draw it in the terminal, without any proof
+demo: ## decode examples/ball.jxl and draw it in the terminal, without any proof
 	@(cd crates/jxldec && rt try -- $(CURDIR)/examples/ball.jxl --format pgm) | python3 examples/pgm_to_text.py
 
-run: ## decode the ten bytes of crates/jxlmod/stdin, without any proof
+demo-plain: ## decode the ten bytes of crates/jxlmod/stdin, without any proof
 	@cd crates/jxlmod && rt try -- $$(cat args) < stdin
 
-triangle: ## decode examples/triangle.hex and draw it in the terminal, without any proof
+demo-triangle: ## decode examples/triangle.hex and draw it in the terminal, without any proof
 	@python3 -c 'import sys; sys.stdout.buffer.write(bytes.fromhex(sys.stdin.read()))' < examples/triangle.hex \
 	    | (cd crates/jxlmod && rt try -- decode 32 16 1 8 i32) | awk -f examples/to_text.awk
 
-groups: ## decode examples/groups.hex, a picture of two groups, without any proof
+demo-groups: ## decode examples/groups.hex, a picture of two groups, without any proof
 	@python3 -c 'import sys; sys.stdout.buffer.write(bytes.fromhex(sys.stdin.read()))' < examples/groups.hex \
 	    | (cd crates/jxlmod && rt try -- sections 3 1 1 8 i32 2)
 
-docs: ## look up the names and the code that the documents cite
+bench: jxldec ## time jxldec beside djxl, which must be installed: docs/SPEED.md has the other measurements
+	@sh scripts/bench_djxl.sh crates/jxldec/out/jxldec
+
+compare-djxl: jxldec ## decode what cjxl encodes, and compare with djxl, which must both be installed
+	@sh scripts/compare_djxl.sh crates/jxldec/out/jxldec
+
+check-docs: ## look up the names and the code that the documents cite
 	@sh scripts/check_docs.sh
 
-memory: ## refuse each request for memory of each call that takes memory, in turn; it proves nothing
-	@python3 scripts/refuse_requests.py
+check-alloc: ## refuse each request for memory of each call that takes memory, in turn; it proves nothing
+	@python3 scripts/check_alloc.py
 
-test: docs memory ## docs, memory, and then every proof, every must-fail edit, every test and the programs' runs
+test: check-docs check-alloc ## check-docs, check-alloc, and then every proof, must-fail edit and test, and the programs' runs
 	rt ci

@@ -5,7 +5,7 @@
 #   it is, line by line.
 # - Each path in backticks that begins with a folder of the repository or with a crate exists.
 # - The tables of docs/PROVED.md and docs/DEFINITIONS.md are what scripts/tables.py makes of the sources.
-# - docs/MEMORY.md: scripts/check_memory.py says what is compared.
+# - docs/MEMORY.md: scripts/check_alloc_docs.py says what is compared.
 set -eu
 cd "$(dirname "$0")/.."
 bad=0
@@ -56,7 +56,7 @@ for crate in crates/*/; do
     fi
 done
 
-python3 scripts/check_memory.py || bad=1
+python3 scripts/check_alloc_docs.py || bad=1
 
 if [ "$bad" = 0 ]; then echo "docs: each name is there, and each quotation"; fi
 exit "$bad"

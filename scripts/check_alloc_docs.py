@@ -2,7 +2,7 @@
 """Compares docs/MEMORY.md with what is called: scripts/check_docs.sh runs it.
 
 Each public call of the library that the surface test names stands in the document, in backticks; and the number of
-requests of each row of its table is that of scripts/memory/requests, where each call stands in some row.
+requests of each row of its table is that of scripts/alloc/requests, where each call stands in some row.
 """
 import glob
 import os
@@ -26,7 +26,7 @@ def public_calls():
     for crate in LIBRARY:
         code = text_of(f"crates/{crate}/src/**/*.rt")
         if not code:
-            sys.exit(f"scripts/check_memory.py: no code in crates/{crate}/src")
+            sys.exit(f"scripts/check_alloc_docs.py: no code in crates/{crate}/src")
         names |= set(re.findall(r"\bpub (?:const )?fn (\w+)", code))
         for trait in re.findall(r"\npub trait [^\n]*\n(.*?)\n}", code, re.S):
             names |= set(re.findall(r"\n    fn (\w+)", trait))
@@ -42,7 +42,7 @@ def main():
     wrong = [f"docs/MEMORY.md: no call {name}" for name in sorted((called & public_calls()) - cited)]
 
     made = {}
-    for line in open("scripts/memory/requests"):
+    for line in open("scripts/alloc/requests"):
         _, number, call = line.split()
         made[call] = made.get(call, 0) + int(number)
     stood = set()

@@ -1,5 +1,5 @@
 #!/bin/sh
-# Decodes lossless .jxl files beside djxl, and compares what both write, byte for byte: files.sh PROGRAM [SIDE]
+# Decodes lossless .jxl files beside djxl, and compares what both write, byte for byte: compare_djxl.sh PROGRAM [SIDE]
 #
 # PROGRAM is jxldec, built. The files are those that cjxl makes of the pictures of scripts/draw_pictures.py, at each effort
 # from 1 to 9 and by other ways to code. A line tells each file that differs or is refused, with the reason; the last line

@@ -1,5 +1,5 @@
 #!/usr/bin/env python3
-"""Writes the pictures by which docs/SPEED.md counts: speed_inputs.py FOLDER [SIDE]
+"""Writes the pictures by which docs/SPEED.md counts: bench_inputs.py FOLDER [SIDE]
 
 Each has three channels of SIDE by SIDE samples, 256 unless another side is given, of bit depth 8, in the format of
 docs/FORMAT.md; those whose names begin with four- have four. Tokens take 8 bits; small ones are the most frequent, and they are the same at each call. Those whose

@@ -1,7 +1,7 @@
 #!/bin/sh
-# Counts the instructions that decoding takes, a sample, and encoding: measure.sh PROGRAM FOLDER [SIDE [JXLMOD]]
+# Counts the instructions that decoding takes, a sample, and encoding: bench.sh PROGRAM FOLDER [SIDE [JXLMOD]]
 #
-# PROGRAM is jxlbench, built; FOLDER has pictures of scripts/speed_inputs.py, of three channels of SIDE by SIDE samples,
+# PROGRAM is jxlbench, built; FOLDER has pictures of scripts/bench_inputs.py, of three channels of SIDE by SIDE samples,
 # 256 unless another side is given; of four where their names begin with four-. A run of three decodes is counted and a run of one, and their difference is divided
 # by the samples of two decodes. So what comes once in each run falls out: the start, the reading, and the checksum,
 # which jxlbench makes once, after all decodes. The Rust crate's column in docs/SPEED.md is the same difference, of a
