@@ -3,18 +3,23 @@
 #
 # - Each quotation of code, a block marked rust or antt, begins with a comment that names a file, and the rest of it stands in that file as
 #   it is, line by line.
-# - Each path in backticks that begins with a folder of the repository or with a crate exists.
+# - Each path in backticks that begins with a folder of the repository or with a crate exists, and so does each one in a crate's README that
+#   begins with src, specs or proofs, in the crate's folder.
 # - The tables of docs/PROVED.md and docs/DEFINITIONS.md are what scripts/tables.py makes of the sources.
 # - docs/MEMORY.md: scripts/check_alloc_docs.py says what is compared.
 set -eu
 cd "$(dirname "$0")/.."
 bad=0
+docs="README.md CONTRIBUTING.md docs/*.md examples/*.md crates/*/README.md"
 
 # Paths.
-for doc in README.md CONTRIBUTING.md docs/*.md examples/*.md; do
+for doc in $docs; do
     for path in $(grep -o '`[A-Za-z_.]*/[A-Za-z0-9_./-]*`' "$doc" | tr -d '`' | sort -u); do
         top=${path%%/*}
-        if [ -e "$top" ]; then found=$path; elif [ -e "crates/$top" ]; then found=crates/$path; else continue; fi
+        case $doc:$top in
+        crates/*:src | crates/*:specs | crates/*:proofs) found=${doc%/*}/$path ;;
+        *) if [ -e "$top" ]; then found=$path; elif [ -e "crates/$top" ]; then found=crates/$path; else continue; fi ;;
+        esac
         case $path in *NAME* | */out/*) continue ;; esac
         if [ ! -e "$found" ]; then
             echo "$doc: no file $path"
@@ -24,7 +29,7 @@ for doc in README.md CONTRIBUTING.md docs/*.md examples/*.md; do
 done
 
 # Quotations.
-for doc in README.md CONTRIBUTING.md docs/*.md examples/*.md; do
+for doc in $docs; do
     awk '
         function complain(text) { print FILENAME ": line " FNR ": " text; bad = 1 }
         function compare(  line, whole) {
