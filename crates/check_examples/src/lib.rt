@@ -2,6 +2,7 @@
 #![tactic(auto)]
 
 pub mod bytewise;
+pub mod encoding;
 pub mod maximum;
 pub mod prefixed;
 pub mod viewer;

@@ -5,6 +5,7 @@
 mod answers;
 mod command;
 mod damaged;
+mod example;
 mod files;
 mod frames;
 mod images;
@@ -35,6 +36,7 @@ fn seen_of_files(alloc: Global, row: &Row<'_>) -> Option<String> {
         "decoded" => pictures::seen(alloc, row.asked),
         "sections" => pictures::seen_of_sections(alloc, row.asked),
         "beginnings" => pictures::seen_of_beginnings(alloc, row.asked),
+        "maximum" => pictures::seen_of_maximum(alloc, row.asked),
         _ => None,
     }
 }

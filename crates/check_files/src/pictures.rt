@@ -1,5 +1,6 @@
 //! Files, decoded to pictures.
 
+use crate::example::maximum_of_grey;
 use check_rows::{bytes, listed};
 use jxl_image_header::size::Size;
 use jxl_lossless::{Limits, Progress, Steps, decode_lossless, decode_lossless_with};
@@ -87,4 +88,15 @@ pub fn seen_of_sections(alloc: Global, asked: &str) -> Option<String> {
     let limits = Limits::usual();
     let _ = decode_lossless_with(alloc, &file, &limits, &mut steps, &mut told);
     format!(in alloc; "{} of {}", told.sections, told.of).ok()
+}
+
+/// A row asks with the bytes of a file. It gives the maximum sample of its picture, or `none` where that is not grey; or
+/// what the error prints.
+pub fn seen_of_maximum(alloc: Global, asked: &str) -> Option<String> {
+    let file = bytes(alloc, asked)?;
+    match maximum_of_grey(alloc, &file) {
+        Ok(Some(maximum)) => format!(in alloc; "{maximum}").ok(),
+        Ok(None) => format!(in alloc; "none").ok(),
+        Err(error) => format!(in alloc; "{error}").ok(),
+    }
 }
