@@ -1,5 +1,6 @@
 #!/bin/sh
-# Decodes lossless .jxl files beside djxl, and compares what both write, byte for byte: compare_djxl.sh PROGRAM [SIDE]
+# Decodes lossless .jxl files beside djxl, and compares what both write, byte for byte; of PFM, where djxl writes
+# the bytes of a float in the other order, the header's numbers and the floats: compare_djxl.sh PROGRAM [SIDE]
 #
 # PROGRAM is jxldec, built. The files are those that cjxl makes of the pictures of scripts/draw_pictures.py, at each effort
 # from 1 to 9 and by other ways to code. A line tells each file that differs or is refused, with the reason; the last line
@@ -16,6 +17,14 @@ same=0
 refused=0
 different=0
 
+# Whether two files hold one picture.
+alike() {
+    case $1 in
+        *.pfm) python3 "$here/same_pfm.py" "$1" "$2" ;;
+        *) cmp -s "$1" "$2" ;;
+    esac
+}
+
 # Judges the file that cjxl makes of this picture by these options.
 judge() {
     picture=$1
@@ -26,7 +35,7 @@ judge() {
     if ! "$program" "$folder/a.jxl" -o "$folder/ours.$ending" 2> "$folder/said"; then
         refused=$((refused + 1))
         echo "$(basename "$picture") $*: $(sed "s/.*a.jxl: //" "$folder/said")"
-    elif cmp -s "$folder/ours.$ending" "$folder/wanted.$ending"; then
+    elif alike "$folder/ours.$ending" "$folder/wanted.$ending"; then
         same=$((same + 1))
     else
         different=$((different + 1))
