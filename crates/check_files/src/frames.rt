@@ -58,7 +58,7 @@ fn tell_coding(text: &mut String, header: &FrameHeader) -> Option<()> {
     let coding = header.coding;
     write!(text, "{:?} {:?}", coding.frame_type, coding.encoding).ok()?;
     tell_flags(text, coding)?;
-    if coding.ycbcr {
+    if coding.do_ycbcr {
         write!(text, " ycbcr").ok()?;
     }
     if coding.upsampling != 1 {
@@ -73,10 +73,10 @@ fn tell_coding(text: &mut String, header: &FrameHeader) -> Option<()> {
 
 /// Adds passes, where there are several.
 fn tell_passes(text: &mut String, passes: &Passes) -> Option<()> {
-    if passes.count == 1 {
+    if passes.num_passes == 1 {
         return Some(());
     }
-    write!(text, " passes {} shifts ", passes.count).ok()?;
+    write!(text, " passes {} shifts ", passes.num_passes).ok()?;
     tell_list(text, &passes.shift)?;
     write!(text, " down ").ok()?;
     tell_list(text, &passes.downsample)?;
@@ -111,8 +111,8 @@ fn tell_info(text: &mut String, info: BlendingInfo) -> Option<()> {
 
 /// Adds how a frame is blended, the colours first.
 fn tell_blending(text: &mut String, blending: &Blending) -> Option<()> {
-    tell_info(text, blending.colours)?;
-    for info in blending.extra.iter() {
+    tell_info(text, blending.blending_info)?;
+    for info in blending.ec_blending_info.iter() {
         tell_info(text, *info)?;
     }
     Some(())
@@ -135,13 +135,18 @@ fn tell_ending(text: &mut String, ending: Ending, timed: bool) -> Option<()> {
 
 /// Adds the rest of a header.
 fn tell_closing(text: &mut String, closing: Closing) -> Option<()> {
-    write!(text, " name {}", closing.name_bytes).ok()?;
-    if closing.filter.gab {
+    write!(text, " name {}", closing.name_len).ok()?;
+    if closing.restoration_filter.gab {
         write!(text, " gab").ok()?;
     }
-    write!(text, " epf {}", closing.filter.epf_iters).ok()?;
-    if closing.filter.extensions != 0 {
-        write!(text, " filter-extensions {}", closing.filter.extensions).ok()?;
+    write!(text, " epf {}", closing.restoration_filter.epf_iters).ok()?;
+    if closing.restoration_filter.extensions != 0 {
+        write!(
+            text,
+            " filter-extensions {}",
+            closing.restoration_filter.extensions
+        )
+        .ok()?;
     }
     if closing.extensions != 0 {
         write!(text, " extensions {}", closing.extensions).ok()?;
@@ -184,7 +189,7 @@ fn first_frame(alloc: Global, bits: &mut Bitstream<'_>, image: &ImageHeader) -> 
     ensures dim { IfOk result (λ h. 0 < h.group_dim) }
     ensures bytes { bytes_of bits.new ≡ bytes_of bits.old }
 {
-    if image.shown.colour.profile {
+    if image.shown.colour_encoding.want_icc {
         skip_profile::<EntropyDecoder>(alloc, bits, 1 << 20)?;
     }
     align(bits)?;

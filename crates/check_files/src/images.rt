@@ -10,10 +10,10 @@ use std::alloc::Global;
 
 /// Adds a depth, with its exponent's bits after a letter where it has one.
 fn tell_depth(text: &mut String, depth: BitDepth) -> Option<()> {
-    if depth.exponent_bits == 0 {
-        write!(text, "{}", depth.bits).ok()
+    if depth.exp_bits == 0 {
+        write!(text, "{}", depth.bits_per_sample).ok()
     } else {
-        write!(text, "{}e{}", depth.bits, depth.exponent_bits).ok()
+        write!(text, "{}e{}", depth.bits_per_sample, depth.exp_bits).ok()
     }
 }
 
@@ -22,15 +22,20 @@ fn tell_display(text: &mut String, display: Display) -> Option<()> {
     if display.orientation != 1 {
         write!(text, " turned {}", display.orientation).ok()?;
     }
-    if let Some(size) = display.intrinsic {
+    if let Some(size) = display.intrinsic_size {
         write!(text, " shown {}x{}", size.width, size.height).ok()?;
     }
     if let Some(size) = display.preview {
         write!(text, " preview {}x{}", size.width, size.height).ok()?;
     }
     if let Some(moves) = display.animation {
-        let (n, d) = (moves.numerator, moves.denominator);
-        write!(text, " moves {n}/{d} {} {}", moves.loops, moves.timecodes).ok()?;
+        let (n, d) = (moves.tps_numerator, moves.tps_denominator);
+        write!(
+            text,
+            " moves {n}/{d} {} {}",
+            moves.num_loops, moves.have_timecodes
+        )
+        .ok()?;
     }
     Some(())
 }
@@ -39,9 +44,9 @@ fn tell_display(text: &mut String, display: Display) -> Option<()> {
 fn tell_channels(text: &mut String, channels: &[ExtraChannel]) -> Option<()> {
     for channel in channels {
         write!(text, " extra {} ", channel.kind).ok()?;
-        tell_depth(text, channel.depth)?;
-        write!(text, " {} {}", channel.shift, channel.name_bytes).ok()?;
-        if channel.premultiplied {
+        tell_depth(text, channel.bit_depth)?;
+        write!(text, " {} {}", channel.dim_shift, channel.name_len).ok()?;
+        if channel.alpha_associated {
             write!(text, " multiplied").ok()?;
         }
     }
@@ -50,18 +55,21 @@ fn tell_channels(text: &mut String, channels: &[ExtraChannel]) -> Option<()> {
 
 /// Adds the numbers of a colour encoding.
 fn tell_colour(text: &mut String, colour: ColourEncoding) -> Option<()> {
-    if colour.profile {
-        return write!(text, " profile {}", colour.space).ok();
+    if colour.want_icc {
+        return write!(text, " profile {}", colour.colour_space).ok();
     }
-    let (white, basis) = (colour.white, colour.basis);
+    let (white, basis) = (colour.white_point, colour.primaries);
     write!(
         text,
         " colour {} {} {}",
-        colour.space, white.number, basis.number
+        colour.colour_space, white.number, basis.number
     )
     .ok()?;
-    let (curve, gamma) = (colour.transfer.number, colour.transfer.gamma);
-    write!(text, " {curve} {gamma} {}", colour.intent).ok()?;
+    let (curve, gamma) = (
+        colour.transfer_function.number,
+        colour.transfer_function.gamma,
+    );
+    write!(text, " {curve} {gamma} {}", colour.rendering_intent).ok()?;
     if white.number == 2 {
         write!(text, " white {},{}", white.own.x, white.own.y).ok()?;
     }
@@ -81,19 +89,24 @@ fn tell_colour(text: &mut String, colour: ColourEncoding) -> Option<()> {
 /// Adds all of a header, and what it has that is not supported.
 fn tell(text: &mut String, header: &ImageHeader) -> Option<()> {
     write!(text, "{}x{} ", header.size.width, header.size.height).ok()?;
-    tell_depth(text, header.samples.depth)?;
-    if header.samples.narrow {
+    tell_depth(text, header.samples.bit_depth)?;
+    if header.samples.modular_16bit_buffers {
         write!(text, " narrow").ok()?;
     }
     tell_display(text, header.display)?;
-    tell_channels(text, &header.extra)?;
-    if header.shown.xyb {
+    tell_channels(text, &header.ec_info)?;
+    if header.shown.xyb_encoded {
         write!(text, " xyb").ok()?;
     }
-    tell_colour(text, header.shown.colour)?;
-    let tone = header.shown.tone;
+    tell_colour(text, header.shown.colour_encoding)?;
+    let tone = header.shown.tone_mapping;
     let (target, least, below) = (tone.intensity_target, tone.min_nits, tone.linear_below);
-    write!(text, " tone {target} {least} {} {below}", tone.relative).ok()?;
+    write!(
+        text,
+        " tone {target} {least} {} {below}",
+        tone.relative_to_max_display
+    )
+    .ok()?;
     if header.shown.extensions != 0 {
         write!(text, " extensions {}", header.shown.extensions).ok()?;
     }

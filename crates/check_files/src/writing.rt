@@ -66,8 +66,8 @@ fn channels(alloc: Global, header: &ImageHeader, samples: &[i32]) -> Option<Vec<
     for _ in 0..colours(header) {
         rest = push_channel(alloc, &mut channels, header.size, 0, rest)?;
     }
-    for channel in header.extra.iter() {
-        rest = push_channel(alloc, &mut channels, header.size, channel.shift, rest)?;
+    for channel in header.ec_info.iter() {
+        rest = push_channel(alloc, &mut channels, header.size, channel.dim_shift, rest)?;
     }
     if rest.is_empty() {
         Some(channels)

@@ -21,7 +21,7 @@ frame_at f = record { start = f.start; header = frame_of f.header; entries = f.t
 
 -- the shifts of extra channels are at most 3
 abbrev pub HasLowShifts : Image → Type 0
-HasLowShifts image = All (λ c. c.shift ≤ 3) image.extra
+HasLowShifts image = All (λ c. c.dim_shift ≤ 3) image.ec_info
 
 -- What decoding a frame needs of it: sides that an image may have, groups, passes, sections that lie in the codestream, and no
 -- patches where an extra channel has a size of its own.
@@ -31,7 +31,7 @@ pub record IsReadyFrame (bytes : List ℕ) (image : Image) (f : FrameFront) : Ty
   pub high : (frame_size image.size (frame_of f.header)).height ≤ 2 ^ 30
   pub dim : IsGroupDim f.header.group_dim
   pub plain : (f.header.coding.flags.patches && has_shifts image) ≡ false
-  pub passes : IsPassCount f.header.passes.count
+  pub passes : IsPassCount f.header.passes.num_passes
   pub cut : parts_of f.layout ≡ layout_in image (frame_of f.header)
   pub count : length f.toc.entries.items ≡ section_count_of (layout_in image (frame_of f.header))
   pub within : list_all (is_within (length (drop f.start bytes))) f.toc.entries.items ≡ true
@@ -39,7 +39,7 @@ pub record IsReadyFrame (bytes : List ℕ) (image : Image) (f : FrameFront) : Ty
 -- What decoding the frames of an image needs: so is each of them, samples and channels are not too many, shifts are low, and
 -- the frame that is shown covers the picture.
 pub record IsReady (bytes : List ℕ) (front : Front) : Type 0 where
-  pub deep : front.image.samples.depth.bits ≤ 32
+  pub deep : front.image.samples.bit_depth.bits_per_sample ≤ 32
   pub many : channel_count (image_of front.image) ≤ 2 ^ 20
   pub low : HasLowShifts (image_of front.image)
   pub saved : All (IsReadyFrame bytes (image_of front.image)) front.saved.items

@@ -4,8 +4,8 @@ use Rattle.std.specs.List.{filter, list_any, range_with_len}
 use Rattle.jxlm_bits.specs.Decoding.{Meaning}
 use Rattle.jxlm_bits.specs.ErrorKind.{BadEnum}
 use Rattle.jxlm_bits.specs.Grammar.{Grammar, give, fail, either}
-use Rattle.jxl_image_header.specs.Fields.{meant}
-use Rattle.jxlm_bits.specs.Tokens.{Tokens, token, coded}
+use Rattle.jxl_image_header.specs.Fields.{number_meant}
+use Rattle.jxlm_bits.specs.Tokens.{Tokens, token, coded_tokens}
 use Rattle.jxlm_bits.specs.Turns.{◌>>=◌, chained}
 
 -- the numbers below n that were not taken, in their order
@@ -34,5 +34,5 @@ one_more d n code = token d (context_of (slice_index_or code (length code - 1) 0
 
 -- the Lehmer code of an order of n numbers: how many digits are told, at most n, and these
 abbrev pub lehmer_code : {S : Type 0} → Meaning S → ℕ → Grammar (List ℕ)
-lehmer_code d n = coded d 8
-    (token d (context_of n) (λ v. meant (codes "permutation") (nat_le v n) v) >>= λ told. chained (one_more d n) told [])
+lehmer_code d n = coded_tokens d 8
+    (token d (context_of n) (λ v. number_meant (codes "permutation") (nat_le v n) v) >>= λ told. chained (one_more d n) told [])

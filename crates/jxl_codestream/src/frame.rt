@@ -53,7 +53,7 @@ fn allows(limits: &Limits, image: &ImageHeader, used: u64, size: Size) -> bool
     if size.width > 1 << 30 || size.height > 1 << 30 {
         return false;
     }
-    let channels = (colours(image) + image.extra.len()) as u64;
+    let channels = (colours(image) + image.ec_info.len()) as u64;
     let Some(cells) = used.checked_add(cells_of(size)) else {
         return false;
     };
@@ -110,7 +110,7 @@ impl Start<'_> {
         ensures dim { IfOk result (λ f. IsGroupDim f.group_dim) }
         ensures plain { IfOk result (λ f. (f.coding.flags.patches && has_shifts (image_of self.entry.image.now))
             ≡ false) }
-        ensures counted { IfOk result (λ f. IsPassCount f.passes.count) }
+        ensures counted { IfOk result (λ f. IsPassCount f.passes.num_passes) }
         ensures err { IfErr result (FrontFails D.meaning self.entry.limits.now self.entry.bytes.now) }
         ensures bytes { bytes_of bits.new ≡ bytes_of bits.old }
     {
@@ -197,7 +197,7 @@ impl FrameFront {
         let Some(layout) = Layout::new(
             header.size(image.size),
             header.group_dim,
-            header.passes.count,
+            header.passes.num_passes,
         ) else {
             return Err(FrontError::TooManySections);
         };

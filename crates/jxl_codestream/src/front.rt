@@ -92,7 +92,12 @@ fn read_begin<D: Decoder>(
     ensures bytes { bytes_of bits.new ≡ bytes_of bits.old }
 {
     let image = read_image::<D>(alloc, bits, limits)?;
-    match pass_profile::<D>(alloc, bits, image.shown.colour.profile, limits.profile) {
+    match pass_profile::<D>(
+        alloc,
+        bits,
+        image.shown.colour_encoding.want_icc,
+        limits.profile,
+    ) {
         Ok(_) => Ok(image),
         Err(error) => Err(FrontError::Profile(error)),
     }

@@ -4,10 +4,10 @@ use Rattle.std.specs.List.{list_any}
 use Rattle.jxlm_bits.specs.Decoding.{Found}
 use Rattle.jxlm_bits.specs.ErrorKind.{◌>>=◌}
 use Rattle.jxlm_bits.specs.declared.decoder.DecoderError.{DecoderError}
-use Rattle.jxl_coding_codes.specs.Refusals.{refused}
+use Rattle.jxl_coding_codes.specs.Refusals.{refusal_error}
 use Rattle.jxl_coding_codes.specs.declared.refusal.Refusal.TheVariants.{ClusterTooLarge, ClusterUnused}
 use Rattle.jxl_coding_codes.specs.Fields.{number_at}
-use Rattle.jxl_coding_codes.specs.Reading.{steps, pushed}
+use Rattle.jxl_coding_codes.specs.Reading.{steps, list_and_one}
 use Rattle.jxl_coding.specs.Tokens.{Entropy, read_at, begin_at, end_of}
 
 -- the greatest of the first n clusters
@@ -23,7 +23,7 @@ are_used (suc n) clusters = are_used n clusters && list_any (λ c. c == n) clust
 -- how many clusters there are; one without a context before one with one is refused
 abbrev pub count_of : List ℕ → Result ℕ DecoderError
 count_of clusters =
-    if are_used (greatest (length clusters) clusters) clusters then Ok (greatest (length clusters) clusters + 1) else Err (refused ClusterUnused)
+    if are_used (greatest (length clusters) clusters) clusters then Ok (greatest (length clusters) clusters + 1) else Err (refusal_error ClusterUnused)
 
 -- the first n numbers
 unfoldable pub numbers : ℕ → List ℕ
@@ -48,8 +48,8 @@ moved_first zero places = record { list = numbers 256; clusters = [] }
 moved_first (suc n) places = with_moved (moved_first n places) (slice_index places n)
 
 -- the clusters that these numbers stand for
-abbrev pub moved : List ℕ → List ℕ
-moved places = (moved_first (length places) places).clusters
+abbrev pub clusters_of_places : List ℕ → List ℕ
+clusters_of_places places = (moved_first (length places) places).clusters
 
 -- a decoder of the clusters, and those that were read
 pub record Listed : Type 0 where
@@ -62,7 +62,7 @@ cluster_step s bytes p = do
   token ← read_at s.decoder bytes p (slice_index s.decoder.codes.clusters 0) 0
   if nat_lt token.value 256
       then Ok (record { value = record { decoder = token.state; clusters = s.clusters ++ token.value ∷ [] }; position = token.position })
-      else Err (refused ClusterTooLarge)
+      else Err (refusal_error ClusterTooLarge)
 
 -- the clusters of n contexts, as tokens of a stream
 unfoldable pub stream_clusters_at : Entropy → ℕ → List ℕ → ℕ → Result (Found (List ℕ)) DecoderError
@@ -74,7 +74,7 @@ stream_clusters_at decoder n bytes p = do
 
 -- they may be signalled as places in a list
 abbrev pub in_list : Bool → List ℕ → List ℕ
-in_list moves clusters = if moves then moved clusters else clusters
+in_list moves clusters = if moves then clusters_of_places clusters else clusters
 
 -- the clusters of n contexts, as tokens of this decoder
 unfoldable pub coded_clusters_at : Entropy → Bool → ℕ → List ℕ → ℕ → Result (Found (List ℕ)) DecoderError
@@ -86,4 +86,4 @@ coded_clusters_at decoder moves n bytes p = do
 unfoldable pub plain_clusters_at : ℕ → List ℕ → ℕ → Result (Found (List ℕ)) DecoderError
 plain_clusters_at n bytes p = do
   width ← number_at bytes p 2
-  steps (pushed (λ all q. number_at all q width.value)) n [] bytes width.position
+  steps (list_and_one (λ all q. number_at all q width.value)) n [] bytes width.position

@@ -50,16 +50,16 @@ pub record Ring : Type 0 where
   pub place : ℕ
 
 -- no tokens
-abbrev pub empty : Ring
-empty = record { tokens = []; place = 0 }
+abbrev pub empty_ring : Ring
+empty_ring = record { tokens = []; place = 0 }
 
 -- the token so many back; 0 where there is none
-abbrev pub back : Ring → ℕ → ℕ
-back ring distance = if distance == 0 then 0 else slice_index_or ring.tokens ((ring.place + window_size - distance) % window_size) 0
+abbrev pub ring_token : Ring → ℕ → ℕ
+ring_token ring distance = if distance == 0 then 0 else slice_index_or ring.tokens ((ring.place + window_size - distance) % window_size) 0
 
 -- the ring with one more token, which takes the place of the oldest where it is full
-abbrev pub kept : Ring → ℕ → Ring
-kept ring token = record {
+abbrev pub ring_with : Ring → ℕ → Ring
+ring_with ring token = record {
   tokens = if nat_lt (length ring.tokens) window_size then ring.tokens ++ token ∷ [] else slice_set ring.tokens ring.place token;
   place = (ring.place + 1) % window_size;
 }

@@ -3,13 +3,13 @@ use Rattle.std.specs.Prelude.{ℕ, ◌+◌, ◌-◌, ◌/◌, ◌^◌, List, [],
 use Rattle.jxlm_bits.specs.Decoding.{Found}
 use Rattle.jxlm_bits.specs.ErrorKind.{◌>>=◌}
 use Rattle.jxlm_bits.specs.declared.decoder.DecoderError.{DecoderError}
-use Rattle.jxl_coding_codes.specs.Refusals.{refused}
+use Rattle.jxl_coding_codes.specs.Refusals.{refusal_error}
 use Rattle.jxl_coding_codes.specs.declared.refusal.Refusal.TheVariants.{DistributionAlphabet, MapCopies, PrefixAlphabet}
 use Rattle.jxl_coding_codes.specs.Fields.{number_at, var_len_at}
-use Rattle.jxl_coding_codes.specs.Reading.{steps, pushed}
+use Rattle.jxl_coding_codes.specs.Reading.{steps, list_and_one}
 use Rattle.jxl_coding_codes.specs.IntegerConfigs.{config_at}
 use Rattle.jxl_coding.specs.Symbols.{Codes}
-use Rattle.jxl_coding.specs.Copies.{empty}
+use Rattle.jxl_coding.specs.Copies.{empty_ring}
 use Rattle.jxl_coding_codes.specs.PrefixCodes.{Prefix, prefix_at}
 use Rattle.jxl_coding_codes.specs.Distributions.{whole, distribution_at}
 use Rattle.jxl_coding_codes.specs.Alias.{only_from, buckets_of}
@@ -24,7 +24,7 @@ use Rattle.jxl_coding.specs.declared.codes.Coder.TheVariants.{Prefix as ByPrefix
 
 -- the decoder of some codes before any stream
 abbrev pub start_of : Codes → Entropy
-start_of codes = record { codes = codes; ans_state = end_state; ring = empty; distance = 0; left = 0 }
+start_of codes = record { codes = codes; ans_state = end_state; ring = empty_ring; distance = 0; left = 0 }
 
 -- the least symbol of copies
 unfoldable pub min_symbol_at : List ℕ → ℕ → Result (Found ℕ) DecoderError
@@ -58,7 +58,7 @@ lz77_at may bytes p = do
     least ← min_length_at bytes symbol.position
     config ← config_at bytes 8 least.position
     Ok (record { value = Some (record { min_symbol = symbol.value; min_length = least.value; length_config = config.value; cluster = 0 }); position = config.position })) else
-      Err (refused MapCopies)
+      Err (refusal_error MapCopies)
 
 -- the codes of clusters that were read, and the symbols and buckets of them all
 pub record Coded : Type 0 where
@@ -93,7 +93,7 @@ with_distribution s config counts log = record {
 -- the next cluster's code, of an alphabet that was signalled; one of more than 2^15 symbols is refused
 unfoldable pub prefix_step : List IntegerConfig → List ℕ → Coded → List ℕ → ℕ → Result (Found Coded) DecoderError
 prefix_step configs sizes s bytes p =
-    if nat_le (2 ^ 15) (slice_index sizes (length s.cluster_codes)) then Err (refused PrefixAlphabet) else (do
+    if nat_le (2 ^ 15) (slice_index sizes (length s.cluster_codes)) then Err (refusal_error PrefixAlphabet) else (do
       code ← prefix_at (slice_index sizes (length s.cluster_codes) + 1) bytes p
       Ok (record { value = with_prefix_code s (config_of configs (length s.cluster_codes)) code.value; position = code.position }))
 
@@ -101,7 +101,7 @@ prefix_step configs sizes s bytes p =
 unfoldable pub distribution_step : List IntegerConfig → ℕ → Coded → List ℕ → ℕ → Result (Found Coded) DecoderError
 distribution_step configs log s bytes p = do
   counts ← distribution_at bytes p
-  if nat_lt (2 ^ log) (length counts.value) then Err (refused DistributionAlphabet) else
+  if nat_lt (2 ^ log) (length counts.value) then Err (refusal_error DistributionAlphabet) else
       Ok (record { value = with_distribution s (config_of configs (length s.cluster_codes)) counts.value log; position = counts.position })
 
 -- the codes of these clusters, once each has been read
@@ -112,8 +112,8 @@ codes_by clusters lz77 coder bucket_size s =
 -- the codes of so many clusters, by codewords
 unfoldable pub prefix_codes_at : List ℕ → Option Lz77 → ℕ → List ℕ → ℕ → Result (Found Codes) DecoderError
 prefix_codes_at clusters lz77 n bytes p = do
-  configs ← steps (pushed (λ all q. config_at all 15 q)) n [] bytes p
-  sizes ← steps (pushed (λ all q. var_len_at all q true)) n [] bytes configs.position
+  configs ← steps (list_and_one (λ all q. config_at all 15 q)) n [] bytes p
+  sizes ← steps (list_and_one (λ all q. var_len_at all q true)) n [] bytes configs.position
   all ← steps (prefix_step configs.value sizes.value) n nothing_coded bytes sizes.position
   Ok (record { value = codes_by clusters lz77 ByPrefix 1 all.value; position = all.position })
 
@@ -127,7 +127,7 @@ log_at bytes p = do
 unfoldable pub ans_codes_at : List ℕ → Option Lz77 → ℕ → List ℕ → ℕ → Result (Found Codes) DecoderError
 ans_codes_at clusters lz77 n bytes p = do
   log ← log_at bytes p
-  configs ← steps (pushed (λ all q. config_at all log.value q)) n [] bytes log.position
+  configs ← steps (list_and_one (λ all q. config_at all log.value q)) n [] bytes log.position
   all ← steps (distribution_step configs.value log.value) n nothing_coded bytes configs.position
   Ok (record { value = codes_by clusters lz77 ByAns (whole / 2 ^ log.value) all.value; position = all.position })
 

@@ -3,12 +3,12 @@ use Rattle.std.specs.Prelude.{ℕ, ◌+◌, ◌-◌, ◌*◌, ◌^◌, List, len
 use Rattle.jxlm_bits.specs.Decoding.{Found, Taken, Meaning}
 use Rattle.jxlm_bits.specs.ErrorKind.{◌>>=◌}
 use Rattle.jxlm_bits.specs.declared.decoder.DecoderError.{DecoderError}
-use Rattle.jxl_coding_codes.specs.Refusals.{refused}
+use Rattle.jxl_coding_codes.specs.Refusals.{refusal_error}
 use Rattle.jxl_coding_codes.specs.declared.refusal.Refusal.TheVariants.{CopyTooLong, EndState, StateTooSmall}
 use Rattle.jxl_coding_codes.specs.Fields.{number_at}
 use Rattle.jxl_coding_codes.specs.IntegerConfigs.{token_at}
 use Rattle.jxl_coding.specs.Symbols.{Codes, cluster_code, symbol_at}
-use Rattle.jxl_coding.specs.Copies.{Ring, empty, back, kept, tokens_back}
+use Rattle.jxl_coding.specs.Copies.{Ring, empty_ring, ring_token, ring_with, tokens_back}
 use Rattle.jxl_coding.specs.declared.codes.Lz77.{Lz77}
 use Rattle.jxl_coding.specs.declared.codes.Coder.{Coder}
 use Rattle.jxl_coding.specs.declared.codes.Coder.TheVariants.{Prefix, Ans}
@@ -31,13 +31,13 @@ abbrev pub first_state : Coder → ℕ → List ℕ → ℕ → Result (Found �
 first_state Prefix ans_state bytes p = Ok (record { value = ans_state; position = p })
 first_state Ans ans_state bytes p = do
   state ← number_at bytes p 32
-  if nat_lt state.value (2 ^ 16) then Err (refused StateTooSmall) else Ok state
+  if nat_lt state.value (2 ^ 16) then Err (refusal_error StateTooSmall) else Ok state
 
 -- a stream begins: no token is kept, no copy is open
 unfoldable pub begin_at : Entropy → List ℕ → ℕ → Result (Found Entropy) DecoderError
 begin_at s bytes p = do
   ans_state ← first_state s.codes.coder s.ans_state bytes p
-  Ok (record { value = record { codes = s.codes; ans_state = ans_state.value; ring = empty; distance = 0; left = 0 }; position = ans_state.position })
+  Ok (record { value = record { codes = s.codes; ans_state = ans_state.value; ring = empty_ring; distance = 0; left = 0 }; position = ans_state.position })
 
 -- a token of a cluster, where none are copied
 unfoldable pub plain_token : Entropy → List ℕ → ℕ → ℕ → Result (Taken ℕ Entropy) DecoderError
@@ -47,16 +47,16 @@ plain_token s bytes p c = do
   Ok (record { value = token.value; state = record s { ans_state = symbol.ans_state }; position = token.position })
 
 -- the next token of an open copy
-abbrev pub copied : Entropy → ℕ → Taken ℕ Entropy
-copied s p = record {
-  value = back s.ring s.distance;
-  state = record s { ring = kept s.ring (back s.ring s.distance); left = s.left - 1 };
+abbrev pub copied_token : Entropy → ℕ → Taken ℕ Entropy
+copied_token s p = record {
+  value = ring_token s.ring s.distance;
+  state = record s { ring = ring_with s.ring (ring_token s.ring s.distance); left = s.left - 1 };
   position = p;
 }
 
 -- how many tokens are copied; 2 to the 32 and more are refused
 abbrev pub copy_length : ℕ → Result ℕ DecoderError
-copy_length n = if nat_lt n (2 ^ 32) then Ok n else Err (refused CopyTooLong)
+copy_length n = if nat_lt n (2 ^ 32) then Ok n else Err (refusal_error CopyTooLong)
 
 -- A token where tokens are copied and no copy is open: a symbol below the least is one of its cluster, others tell how
 -- many are copied; a token of the cluster of distances follows, and the first of the copied ones is read.
@@ -65,17 +65,17 @@ first_token lz77 s bytes p c m = do
   symbol ← symbol_at s.codes c s.ans_state bytes p
   if nat_lt symbol.symbol lz77.min_symbol then (do
     token ← token_at (cluster_code s.codes.cluster_codes c).config symbol.symbol bytes symbol.position
-    Ok (record { value = token.value; state = record s { ans_state = symbol.ans_state; ring = kept s.ring token.value }; position = token.position }))
+    Ok (record { value = token.value; state = record s { ans_state = symbol.ans_state; ring = ring_with s.ring token.value }; position = token.position }))
       else (do
         more ← token_at lz77.length_config (symbol.symbol - lz77.min_symbol) bytes symbol.position
         many ← copy_length (more.value + lz77.min_length)
         of_distance ← symbol_at s.codes lz77.cluster symbol.ans_state bytes more.position
         distance ← token_at (cluster_code s.codes.cluster_codes lz77.cluster).config of_distance.symbol bytes of_distance.position
-        Ok (copied (record s { ans_state = of_distance.ans_state; distance = min (tokens_back distance.value m) (length s.ring.tokens); left = many }) distance.position))
+        Ok (copied_token (record s { ans_state = of_distance.ans_state; distance = min (tokens_back distance.value m) (length s.ring.tokens); left = many }) distance.position))
 
 -- the same, also where a copy is open
 unfoldable pub lz77_token : Lz77 → Entropy → List ℕ → ℕ → ℕ → ℕ → Result (Taken ℕ Entropy) DecoderError
-lz77_token lz77 s bytes p c m = if s.left == 0 then first_token lz77 s bytes p c m else Ok (copied s p)
+lz77_token lz77 s bytes p c m = if s.left == 0 then first_token lz77 s bytes p c m else Ok (copied_token s p)
 
 -- a token of a cluster, with or without copies
 unfoldable pub token_with : Option Lz77 → Entropy → List ℕ → ℕ → ℕ → ℕ → Result (Taken ℕ Entropy) DecoderError
@@ -89,7 +89,7 @@ read_at s bytes p c m = token_with s.codes.lz77 s bytes p c m
 -- the end of a stream: slots that do not end in their last state are refused
 abbrev pub end_of : Coder → ℕ → Result (Unit {0}) DecoderError
 end_of Prefix ans_state = Ok tt
-end_of Ans ans_state = if ans_state == end_state then Ok tt else Err (refused EndState)
+end_of Ans ans_state = if ans_state == end_state then Ok tt else Err (refusal_error EndState)
 
 -- the only token of a cluster: an only symbol that is a token, where none are copied
 abbrev pub only_below : Option ℕ → ℕ → Option ℕ

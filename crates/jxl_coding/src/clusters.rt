@@ -5,8 +5,8 @@ ghost use Rattle.jxlm_bits.specs.Bits.{bytes_of, position_of};
 ghost use Rattle.jxlm_bits.specs.Decoding.{Gives};
 ghost use Rattle.jxlm_bits.specs.declared.decoder.DecoderError.{DecoderError};
 ghost use Rattle.jxl_coding_codes.specs.Fields.{number_at};
-ghost use Rattle.jxl_coding_codes.specs.Reading.{steps, pushed};
-ghost use Rattle.jxl_coding.specs.Clusters.{greatest as the_greatest, are_used as all_used, count_of as the_count, numbers as first_numbers, moved as the_moved, cluster_step, in_list, stream_clusters_at, coded_clusters_at, plain_clusters_at};
+ghost use Rattle.jxl_coding_codes.specs.Reading.{steps, list_and_one};
+ghost use Rattle.jxl_coding.specs.Clusters.{greatest as the_greatest, are_used as all_used, count_of as the_count, numbers as first_numbers, clusters_of_places as the_moved, cluster_step, in_list, stream_clusters_at, coded_clusters_at, plain_clusters_at};
 ghost use Rattle.jxl_coding.specs.Inner.Seen.{codes_of, seen};
 ghost use Rattle.jxl_coding.specs.Parse.{start_of};
 ghost use Rattle.jxl_coding.specs.Inner.Coded.{listed};
@@ -239,7 +239,7 @@ fn push_number(
 ) -> Result<(), DecoderError>
     requires { width ≤ 3 }
     ensures gives { StepGives result clusters.new.items (position_of bits.new)
-        (pushed (λ all q. number_at all q width) clusters.old.items (bytes_of bits.old) (position_of bits.old)) }
+        (list_and_one (λ all q. number_at all q width) clusters.old.items (bytes_of bits.old) (position_of bits.old)) }
     ensures bytes { bytes_of bits.new ≡ bytes_of bits.old }
 {
     let cluster = number(bits, width)?;
@@ -256,7 +256,7 @@ fn clusters_of_width(
 ) -> Result<Vec<u8>, DecoderError>
     requires { width ≤ 3 }
     ensures gives { Gives (λ v. v.items) result (position_of bits.new)
-        (steps (pushed (λ all q. number_at all q width)) n [] (bytes_of bits.old) (position_of bits.old)) }
+        (steps (list_and_one (λ all q. number_at all q width)) n [] (bytes_of bits.old) (position_of bits.old)) }
     ensures bytes { bytes_of bits.new ≡ bytes_of bits.old }
 {
     let mut clusters = Vec::new(alloc);

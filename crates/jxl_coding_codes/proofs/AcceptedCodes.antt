@@ -11,7 +11,7 @@ use Rattle.std.proofs.lemmas.List.Folds.{list_any_at, sum_by-replicate}
 use Rattle.jxlm_bits.proofs.BitsLemmas.{bits_at-bound}
 use Rattle.jxlm_bits.specs.Decoding.{Found}
 use Rattle.jxlm_bits.specs.declared.decoder.DecoderError.{DecoderError}
-use Rattle.jxl_coding_codes.specs.Refusals.{refused}
+use Rattle.jxl_coding_codes.specs.Refusals.{refusal_error}
 use Rattle.jxl_coding_codes.specs.declared.refusal.Refusal.TheVariants.{NoCodeword}
 use Rattle.jxl_coding_codes.specs.Fields.{number_at, width_of}
 use Rattle.jxl_coding_codes.specs.Reading.{steps}
@@ -25,7 +25,7 @@ use Rattle.jxl_coding_codes.proofs.FullCodes.{IsFullCode, long_full, never}
 abbrev shares : ℕ → ℕ
 shares l = share (2 ^ 15) l
 
-single_reads : (symbol : ℕ) (input : List ℕ) (q : ℕ) → next_symbol_at (single_code symbol) input q ≢ Err (refused NoCodeword)
+single_reads : (symbol : ℕ) (input : List ℕ) (q : ℕ) → next_symbol_at (single_code symbol) input q ≢ Err (refusal_error NoCodeword)
 single_reads symbol input q h = cc
 
 -- Simple codes.
@@ -172,7 +172,7 @@ module _ (alphabet : ℕ) where
       after_long (Ok f) h = inr h
       after_long (Err e) h = tt
 
-  never_refused : (code : Prefix) → alphabet ≤ 2 ^ 15 → Accepted code → (input : List ℕ) (q : ℕ) → next_symbol_at code input q ≢ Err (refused NoCodeword)
+  never_refused : (code : Prefix) → alphabet ≤ 2 ^ 15 → Accepted code → (input : List ℕ) (q : ℕ) → next_symbol_at code input q ≢ Err (refusal_error NoCodeword)
   never_refused code le (inl s) input q = rw s.1 (single_reads s.0 input q)
   never_refused code le (inr k) input q = rw k.of (never k.lengths input q (omega (arith, le, k.few)) k.full)
 
@@ -189,7 +189,7 @@ long_leave_no_room skipped alphabet bytes p found h =
     let k : IsFullCode alphabet found.value = of_ok (long_code_at skipped alphabet bytes p) (λ f. IsFullCode alphabet f.value) found (long_full skipped alphabet bytes p) h in
     (k.lengths, (k.of, k.full))
 
-pub none_refused : (alphabet : ℕ) (bytes : List ℕ) (p : ℕ) (found : Found Prefix) → alphabet ≤ 2 ^ 15 → prefix_at alphabet bytes p ≡ Ok found → (input : List ℕ) (q : ℕ) → next_symbol_at found.value input q ≢ Err (refused NoCodeword)
+pub none_refused : (alphabet : ℕ) (bytes : List ℕ) (p : ℕ) (found : Found Prefix) → alphabet ≤ 2 ^ 15 → prefix_at alphabet bytes p ≡ Ok found → (input : List ℕ) (q : ℕ) → next_symbol_at found.value input q ≢ Err (refusal_error NoCodeword)
 none_refused alphabet bytes p found le h =
     never_refused alphabet found.value le (of_ok (prefix_at alphabet bytes p) (λ f. Accepted alphabet f.value) found (accepted alphabet bytes p) h)
 
@@ -395,13 +395,13 @@ pub own_code : (skipped : ℕ) (bytes : List ℕ) (p : ℕ) (found : Found (List
     IsFull found.value ⊎ (length (prefix_of found.value).symbols ≡ 1)
 own_code skipped bytes p found le h = by_room found.value (own skipped bytes p found le h)
 
-one_read : (code : Prefix) (input : List ℕ) (q : ℕ) → length code.symbols ≡ 1 → next_symbol_at code input q ≢ Err (refused NoCodeword)
+one_read : (code : Prefix) (input : List ℕ) (q : ℕ) → length code.symbols ≡ 1 → next_symbol_at code input q ≢ Err (refusal_error NoCodeword)
 one_read code input q one h =
     let t : (length code.symbols == 1) ≡ true = grind (arith, nat_tests) in
     single_reads (slice_index code.symbols 0) input q (rw t at h)
 
 pub own_never_refused : (skipped : ℕ) (bytes : List ℕ) (p : ℕ) (found : Found (List ℕ)) → skipped ≤ 3 → code_length_code_at skipped bytes p ≡ Ok found →
-    (input : List ℕ) (q : ℕ) → next_symbol_at (prefix_of found.value) input q ≢ Err (refused NoCodeword)
+    (input : List ℕ) (q : ℕ) → next_symbol_at (prefix_of found.value) input q ≢ Err (refusal_error NoCodeword)
 own_never_refused skipped bytes p found le h input q =
     let done : Done found.value = own skipped bytes p found le h in
     elim (by_room found.value done) [

@@ -7,7 +7,7 @@ use Rattle.std.proofs.lemmas.Nat.{le-div}
 use Rattle.std.proofs.Math.Nat.{mod-eq_of_lt, mul_comm, div-lt_iff_lt-mul}
 use Rattle.jxl_coding_codes.specs.Fields.{number_at}
 use Rattle.jxl_coding_codes.specs.Ans.{Slot, after_slot, refilled_at}
-use Rattle.jxl_coding_codes.specs.Writing.{IsSlotFor, WordStands, is_large, reduced, written}
+use Rattle.jxl_coding_codes.specs.Writing.{IsSlotFor, WordStands, is_large, reduced_state, written_state}
 
 -- a state whose last 12 bits are a slot
 high : (slot many : ℕ) → slot < 4096 → (many * 4096 + slot) / 4096 ≡ many
@@ -45,16 +45,16 @@ module _ (slot : Slot) (place state : ℕ) (h : IsSlotFor slot place state) wher
       let few = h.most in
       (omega (arith, least, few), lt)
 
-  pub fits : (2 ^ 16 ≤ written slot place state) × (written slot place state < 2 ^ 32)
+  pub fits : (2 ^ 16 ≤ written_state slot place state) × (written_state slot place state < 2 ^ 32)
   fits =
-      let r : InRange (reduced slot state) = in_range (is_large slot state) refl in
-      let low : 16 ≤ reduced slot state / slot.count = le-div 16 (reduced slot state) slot.count h.some r.0 in
-      let most : reduced slot state / slot.count < 2 ^ 20 = (div-lt_iff_lt-mul h.some).1 (rw (← (mul_comm slot.count (2 ^ 20))) r.1) in
+      let r : InRange (reduced_state slot state) = in_range (is_large slot state) refl in
+      let low : 16 ≤ reduced_state slot state / slot.count = le-div 16 (reduced_state slot state) slot.count h.some r.0 in
+      let most : reduced_state slot state / slot.count < 2 ^ 20 = (div-lt_iff_lt-mul h.some).1 (rw (← (mul_comm slot.count (2 ^ 20))) r.1) in
       let within = h.place_below in
       (omega (arith, low), omega (arith, most, within))
 
-  pub slot_is : written slot place state % 4096 ≡ place
-  slot_is = last place (reduced slot state / slot.count) h.place_below
+  pub slot_is : written_state slot place state % 4096 ≡ place
+  slot_is = last place (reduced_state slot state / slot.count) h.place_below
 
   abbrev end_at : Bool → ℕ → ℕ
   end_at t p = cond t (p + 16) p
@@ -76,6 +76,6 @@ module _ (slot : Slot) (place state : ℕ) (h : IsSlotFor slot place state) wher
       rw lt refl
 
   pub undoes : (bytes : List ℕ) (p : ℕ) → WordStands slot state bytes p →
-      refilled_at slot.symbol (after_slot slot (written slot place state)) bytes p ≡ Ok (record { symbol = slot.symbol; ans_state = state; position = end_at (is_large slot state) p })
+      refilled_at slot.symbol (after_slot slot (written_state slot place state)) bytes p ≡ Ok (record { symbol = slot.symbol; ans_state = state; position = end_at (is_large slot state) p })
   undoes bytes p stands =
-      rw (back slot (reduced slot state) h.some (less (is_large slot state)) h.number_is place h.place_below) (refills (is_large slot state) refl bytes p stands)
+      rw (back slot (reduced_state slot state) h.some (less (is_large slot state)) h.number_is place h.place_below) (refills (is_large slot state) refl bytes p stands)

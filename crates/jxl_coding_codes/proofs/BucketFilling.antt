@@ -8,7 +8,7 @@ use Rattle.std.proofs.lemmas.List.Sums.{sum_by_more}
 use Rattle.std.proofs.Math.Nat.{suc-mul}
 use Rattle.jxl_coding_codes.specs.Distributions.{whole}
 use Rattle.jxl_coding_codes.specs.Ans.{bucket_of}
-use Rattle.jxl_coding_codes.specs.Alias.{Filling, own_bucket, with_bucket, unfilled, last_of, without_last, kept_by, lowered, filled_bucket, with_lowered, filled_up, filled_one, filled_by}
+use Rattle.jxl_coding_codes.specs.Alias.{Filling, own_bucket, with_bucket, unfilled_buckets, last_of, without_last, kept_by, lowered_bucket, filled_bucket, with_lowered, filled_up, filled_one, filled_by}
 use Rattle.jxl_coding_codes.specs.declared.ans.Bucket.{Bucket}
 use Rattle.jxl_coding_codes.proofs.BucketMoves.{Place, Buckets, Laid, put, put_same, put_other, moved, laid_after}
 
@@ -177,8 +177,8 @@ one_more n i x f e =
     none true m = omega arith
     none false m = omega arith
 
-pub begun : (each : ℕ) (counts : List ℕ) (n : ℕ) → Begun each counts n (unfilled counts each n)
-unfolding unfilled
+pub begun : (each : ℕ) (counts : List ℕ) (n : ℕ) → Begun each counts n (unfilled_buckets counts each n)
+unfolding unfilled_buckets
 begun each counts zero = record {
   many = refl;
   each_own = λ i lt. absurd (omega (arith, lt));
@@ -188,7 +188,7 @@ begun each counts zero = record {
 }
 begun each counts (suc n) =
     let h = begun each counts n in
-    more (unfilled counts each n) h
+    more (unfilled_buckets counts each n) h
   where
     more : (s : Filling) → Begun each counts n s → Begun each counts (suc n) (with_bucket counts each n s)
     more s h = record {
@@ -303,12 +303,12 @@ module _ (n each : ℕ) (counts : List ℕ) (s : Filling) (h : Filled n each cou
   lowered_at : (i : ℕ) → i ≢ full → bucket_of (with_lowered s.buckets each full short) i ≡ bucket_of s.buckets i
   lowered_at i other = get_or-set_other s.buckets full i _ _ other
 
-  at_full : bucket_of next.buckets full ≡ lowered (bucket_of s.buckets full) kept
+  at_full : bucket_of next.buckets full ≡ lowered_bucket (bucket_of s.buckets full) kept
   at_full = get_or-set_other (with_lowered s.buckets each full short) short full _ _ apart ∙ get_or-set_same s.buckets full _ _ (within full full_is.0)
 
   at_short : bucket_of next.buckets short ≡ filled_bucket (bucket_of s.buckets short) full kept (bucket_of s.buckets full).count
   at_short =
-      get_or-set_same (with_lowered s.buckets each full short) short _ _ (rw (length-set s.buckets full (lowered (bucket_of s.buckets full) kept)) (within short short_is.0))
+      get_or-set_same (with_lowered s.buckets each full short) short _ _ (rw (length-set s.buckets full (lowered_bucket (bucket_of s.buckets full) kept)) (within short short_is.0))
       ∙ ap (λ (b : Bucket). filled_bucket b full kept (bucket_of s.buckets full).count) (lowered_at short (λ e. apart (sym e)))
 
   at_other : (i : ℕ) → i ≢ full → i ≢ short → bucket_of next.buckets i ≡ bucket_of s.buckets i
@@ -544,12 +544,12 @@ pub record Done (n each : ℕ) (counts : List ℕ) (s : Filling) : Type 0 where
   pub filled : Filled n each counts s
   pub even : (i : ℕ) → i < n → filled.size i ≡ each
 
-pub all_filled : (n each : ℕ) (counts : List ℕ) → length counts ≤ n → sum counts ≡ n * each → Done n each counts (filled_by each n (unfilled counts each n))
+pub all_filled : (n each : ℕ) (counts : List ℕ) → length counts ≤ n → sum counts ≡ n * each → Done n each counts (filled_by each n (unfilled_buckets counts each n))
 all_filled n each counts few sums =
     let start = begun each counts n in
-    let first : Filled n each counts (unfilled counts each n) = first_filled n each counts few sums (unfilled counts each n) start in
-    let f : length (unfilled counts each n).overfull + length (unfilled counts each n).underfull ≤ n = start.few in
-    let g = goes n each counts n (unfilled counts each n) (record { filled = first; left = inr (omega (arith, f)) }) in
+    let first : Filled n each counts (unfilled_buckets counts each n) = first_filled n each counts few sums (unfilled_buckets counts each n) start in
+    let f : length (unfilled_buckets counts each n).overfull + length (unfilled_buckets counts each n).underfull ≤ n = start.few in
+    let g = goes n each counts n (unfilled_buckets counts each n) (record { filled = first; left = inr (omega (arith, f)) }) in
     record { filled = g.filled; even = settled n each counts _ g.filled (empty _ _ g.left) }
   where
     empty : (a b : ℕ) → ((a ≡ 0) ⊎ (b ≡ 0)) ⊎ (a + b + n ≤ n) → (a ≡ 0) ⊎ (b ≡ 0)

@@ -12,7 +12,7 @@ use Rattle.jxlm_bits.specs.Decoding.{Found}
 use Rattle.jxlm_bits.specs.ErrorKind.{◌>>=◌}
 use Rattle.jxlm_bits.specs.declared.decoder.DecoderError.{DecoderError}
 use Rattle.jxlm_bits.specs.declared.decoder.DecoderError.TheVariants.{UnexpectedEof}
-use Rattle.jxl_coding_codes.specs.Refusals.{refused}
+use Rattle.jxl_coding_codes.specs.Refusals.{refusal_error}
 use Rattle.jxl_coding_codes.specs.declared.refusal.Refusal.TheVariants.{NoCodeword}
 use Rattle.jxl_coding_codes.specs.Fields.{number_at}
 use Rattle.jxl_coding_codes.specs.Reading.{steps}
@@ -105,11 +105,11 @@ long_full skipped alphabet bytes p =
 clash : {A : Type 0} {e : DecoderError} {x : A} → (let r : Result A DecoderError = Ok x in r) ≡ Err e → ⊥
 clash h = cc
 
-clash_ends : {A : Type 0} → (let r : Result A DecoderError = Err UnexpectedEof in r) ≡ Err (refused NoCodeword) → ⊥
+clash_ends : {A : Type 0} → (let r : Result A DecoderError = Err UnexpectedEof in r) ≡ Err (refusal_error NoCodeword) → ⊥
 clash_ends h = cc
 
 -- Bits that are no codeword are as many as the longest codeword has.
-no_codeword : (counts symbols : List ℕ) (code place : ℕ) (bytes : List ℕ) (p : ℕ) → p ≤ 8 * length bytes → codeword_at counts symbols code place bytes p ≡ Err (refused NoCodeword) → p + length counts ≤ 8 * length bytes
+no_codeword : (counts symbols : List ℕ) (code place : ℕ) (bytes : List ℕ) (p : ℕ) → p ≤ 8 * length bytes → codeword_at counts symbols code place bytes p ≡ Err (refusal_error NoCodeword) → p + length counts ≤ 8 * length bytes
 no_codeword [] symbols code place bytes p le h = omega (arith, le)
 no_codeword (count ∷ counts) symbols code place bytes p le h =
     elim (cases_lt (8 * length bytes) (p + 1)) [
@@ -117,15 +117,15 @@ no_codeword (count ∷ counts) symbols code place bytes p le h =
       | inr room ↦ by_bit room (λ c q k. no_codeword counts symbols c q bytes (p + 1) room k) _ (sym (step counts symbols count code place bytes p room) ∙ h)
     ]
   where
-    by_bit : p + 1 ≤ 8 * length bytes → ((code place : ℕ) → codeword_at counts symbols code place bytes (p + 1) ≡ Err (refused NoCodeword) → p + 1 + length counts ≤ 8 * length bytes) → (t : Bool) → after_bit counts symbols count place bytes p ((2 * code + bit_at bytes p) % 2 ^ 32) t ≡ Err (refused NoCodeword) → p + suc (length counts) ≤ 8 * length bytes
+    by_bit : p + 1 ≤ 8 * length bytes → ((code place : ℕ) → codeword_at counts symbols code place bytes (p + 1) ≡ Err (refusal_error NoCodeword) → p + 1 + length counts ≤ 8 * length bytes) → (t : Bool) → after_bit counts symbols count place bytes p ((2 * code + bit_at bytes p) % 2 ^ 32) t ≡ Err (refusal_error NoCodeword) → p + suc (length counts) ≤ 8 * length bytes
     by_bit room after true h = absurd (clash h)
     by_bit room after false h = let k = after _ _ h in omega (arith, k)
 
 module _ (lengths bytes : List ℕ) (p : ℕ) (short : length lengths ≤ 2 ^ 15) (full : IsFull lengths) where
-  several : length (prefix_of lengths).symbols ≢ 1 → next_symbol_at (prefix_of lengths) bytes p ≢ Err (refused NoCodeword)
+  several : length (prefix_of lengths).symbols ≢ 1 → next_symbol_at (prefix_of lengths) bytes p ≢ Err (refusal_error NoCodeword)
   several many h =
       let t : (length (prefix_of lengths).symbols == 1) ≡ false = grind (arith, nat_tests) in
-      let walked : codeword_at (counts_from lengths 0 15) (prefix_of lengths).symbols 0 0 bytes p ≡ Err (refused NoCodeword) = rw (counts_are lengths) at (rw t at h) in
+      let walked : codeword_at (counts_from lengths 0 15) (prefix_of lengths).symbols 0 0 bytes p ≡ Err (refusal_error NoCodeword) = rw (counts_are lengths) at (rw t at h) in
       elim (cases_lt (8 * length bytes) (p + 1)) [
         | inl out ↦ clash_ends (sym (ends (counts_from lengths 1 14) (prefix_of lengths).symbols (codewords_of lengths 1) 0 0 bytes p out) ∙ walked)
         | inr room ↦
@@ -134,7 +134,7 @@ module _ (lengths bytes : List ℕ) (p : ℕ) (short : length lengths ≤ 2 ^ 15
             clash (sym (read lengths bytes s.0 p short s.1.0 s.1.1 many) ∙ h)
       ]
 
-  pub never : next_symbol_at (prefix_of lengths) bytes p ≢ Err (refused NoCodeword)
+  pub never : next_symbol_at (prefix_of lengths) bytes p ≢ Err (refusal_error NoCodeword)
   never h =
       elim (cases_eq (length (prefix_of lengths).symbols) 1) [
         | inl e ↦ let t : (length (prefix_of lengths).symbols == 1) ≡ true = grind (arith, nat_tests) in clash (rw t at h)

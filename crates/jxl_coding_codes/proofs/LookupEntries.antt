@@ -12,7 +12,7 @@ use Rattle.jxlm_bits.specs.declared.decoder.DecoderError.TheVariants.{Unexpected
 use Rattle.jxlm_bits.proofs.BitsLemmas.{bits_at-bound, bits_at-digit, bits_at-join, bits_at-byte}
 use Rattle.jxl_coding_codes.specs.Fields.{number_at}
 use Rattle.jxl_coding_codes.specs.PrefixCodes.{codeword_at}
-use Rattle.jxl_coding_codes.specs.Lookups.{untold, Tells, AllTell}
+use Rattle.jxl_coding_codes.specs.Lookups.{empty_entry, Tells, AllTell}
 use Rattle.jxl_coding_codes.specs.declared.lookup.Entry.{Entry}
 
 one_bit : (bytes : List ℕ) (q : ℕ) → q + 1 ≤ 8 * length bytes → number_at bytes q 1 ≡ Ok (record { value = bit_at bytes q; position = q + 1 })
@@ -156,7 +156,7 @@ module _ (counts symbols : List ℕ) (start : ℕ) where
       rw many at (w.there bytes p (rw many room) (rw many agree))
 
   -- an entry that tells nothing
-  pub none_tells : (n : ℕ) → Tells counts symbols start n untold
+  pub none_tells : (n : ℕ) → Tells counts symbols start n empty_entry
   none_tells n = λ some bytes p room same. absurd (omega (arith, some))
 
   -- a number whose last bits are the codeword of another's entry

@@ -28,8 +28,8 @@ abbrev pub own_bucket : ℕ → ℕ → Bucket
 own_bucket symbol count = record { cutoff = count; alias_symbol = symbol; alias_offset = 0; count = count; alias_count = count }
 
 -- a bucket among those of its kind
-abbrev pub sorted : Filling → ℕ → ℕ → ℕ → Filling
-sorted s bucket_size i cutoff = record {
+abbrev pub sorted_buckets : Filling → ℕ → ℕ → ℕ → Filling
+sorted_buckets s bucket_size i cutoff = record {
   buckets = s.buckets;
   overfull = s.overfull ++ (if nat_lt bucket_size cutoff then i ∷ [] else []);
   underfull = s.underfull ++ (if nat_lt cutoff bucket_size then i ∷ [] else []);
@@ -38,12 +38,12 @@ sorted s bucket_size i cutoff = record {
 -- one bucket more
 abbrev pub with_bucket : List ℕ → ℕ → ℕ → Filling → Filling
 with_bucket counts bucket_size i s =
-    sorted (record { buckets = s.buckets ++ own_bucket i (slice_index counts i) ∷ []; overfull = s.overfull; underfull = s.underfull }) bucket_size i (slice_index counts i)
+    sorted_buckets (record { buckets = s.buckets ++ own_bucket i (slice_index counts i) ∷ []; overfull = s.overfull; underfull = s.underfull }) bucket_size i (slice_index counts i)
 
 -- the first n buckets of these counts, as they are before any is filled
-unfoldable pub unfilled : List ℕ → ℕ → ℕ → Filling
-unfilled counts bucket_size zero = record { buckets = []; overfull = []; underfull = [] }
-unfilled counts bucket_size (suc n) = with_bucket counts bucket_size n (unfilled counts bucket_size n)
+unfoldable pub unfilled_buckets : List ℕ → ℕ → ℕ → Filling
+unfilled_buckets counts bucket_size zero = record { buckets = []; overfull = []; underfull = [] }
+unfilled_buckets counts bucket_size (suc n) = with_bucket counts bucket_size n (unfilled_buckets counts bucket_size n)
 
 -- the last of a list
 abbrev pub last_of : List ℕ → ℕ
@@ -58,8 +58,8 @@ abbrev pub kept_by : List Bucket → ℕ → ℕ → ℕ → ℕ
 kept_by buckets bucket_size full short = (bucket_of buckets full).cutoff - (bucket_size - (bucket_of buckets short).cutoff)
 
 -- the full bucket with those
-abbrev pub lowered : Bucket → ℕ → Bucket
-lowered bucket kept = record { cutoff = kept; alias_symbol = bucket.alias_symbol; alias_offset = bucket.alias_offset; count = bucket.count; alias_count = bucket.alias_count }
+abbrev pub lowered_bucket : Bucket → ℕ → Bucket
+lowered_bucket bucket kept = record { cutoff = kept; alias_symbol = bucket.alias_symbol; alias_offset = bucket.alias_offset; count = bucket.count; alias_count = bucket.alias_count }
 
 -- a short bucket with slots of the full one from a number on
 abbrev pub filled_bucket : Bucket → ℕ → ℕ → ℕ → Bucket
@@ -67,7 +67,7 @@ filled_bucket bucket full alias_offset count = record { cutoff = bucket.cutoff; 
 
 -- all buckets, once the full one has fewer
 abbrev pub with_lowered : List Bucket → ℕ → ℕ → ℕ → List Bucket
-with_lowered buckets bucket_size full short = slice_set buckets full (lowered (bucket_of buckets full) (kept_by buckets bucket_size full short))
+with_lowered buckets bucket_size full short = slice_set buckets full (lowered_bucket (bucket_of buckets full) (kept_by buckets bucket_size full short))
 
 -- all buckets, once the short one has the others
 abbrev pub filled_buckets : List Bucket → ℕ → ℕ → ℕ → List Bucket
@@ -78,7 +78,7 @@ filled_buckets buckets bucket_size full short =
 -- the last slots of a full bucket's symbol fill a short one
 abbrev pub filled_up : Filling → ℕ → ℕ → ℕ → Filling
 filled_up s bucket_size full short =
-    sorted (record { buckets = filled_buckets s.buckets bucket_size full short; overfull = without_last s.overfull; underfull = without_last s.underfull }) bucket_size full (kept_by s.buckets bucket_size full short)
+    sorted_buckets (record { buckets = filled_buckets s.buckets bucket_size full short; overfull = without_last s.overfull; underfull = without_last s.underfull }) bucket_size full (kept_by s.buckets bucket_size full short)
 
 -- one bucket more is filled, while there are both kinds
 abbrev pub filled_one : ℕ → Filling → Filling
@@ -93,7 +93,7 @@ filled_by bucket_size (suc n) s = filled_one bucket_size (filled_by bucket_size 
 -- the 2^log buckets of a distribution, of which an only symbol has all
 abbrev pub buckets_with : Option ℕ → List ℕ → ℕ → List Bucket
 buckets_with (Some symbol) counts log = only_buckets symbol (whole / 2 ^ log) (2 ^ log)
-buckets_with None counts log = (filled_by (whole / 2 ^ log) (2 ^ log) (unfilled counts (whole / 2 ^ log) (2 ^ log))).buckets
+buckets_with None counts log = (filled_by (whole / 2 ^ log) (2 ^ log) (unfilled_buckets counts (whole / 2 ^ log) (2 ^ log))).buckets
 
 -- the alias table of a distribution
 abbrev pub buckets_of : List ℕ → ℕ → List Bucket

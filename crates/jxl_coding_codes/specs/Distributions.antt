@@ -3,7 +3,7 @@ use Rattle.std.specs.Prelude.{ℕ, zero, suc, ◌+◌, ◌-◌, ◌*◌, ◌/◌
 use Rattle.jxlm_bits.specs.Decoding.{Found}
 use Rattle.jxlm_bits.specs.ErrorKind.{◌>>=◌}
 use Rattle.jxlm_bits.specs.declared.decoder.DecoderError.{DecoderError}
-use Rattle.jxl_coding_codes.specs.Refusals.{refused}
+use Rattle.jxl_coding_codes.specs.Refusals.{refusal_error}
 use Rattle.jxl_coding_codes.specs.declared.refusal.Refusal.TheVariants.{CountPrecision, CountWidths, CountsOverfull, SymbolsEqual}
 use Rattle.jxl_coding_codes.specs.Fields.{number_at, var_len_at}
 use Rattle.jxl_coding_codes.specs.Reading.{steps}
@@ -28,7 +28,7 @@ few_at bytes p = do
   first ← var_len_at bytes two.position false
   if two.value == 0 then Ok (record { value = one_symbol first.value; position = first.position }) else (do
     second ← var_len_at bytes first.position false
-    if first.value == second.value then Err (refused SymbolsEqual) else (do
+    if first.value == second.value then Err (refusal_error SymbolsEqual) else (do
       count ← number_at bytes second.position 12
       Ok (record { value = two_symbols first.value second.value count.value; position = count.position })))
 
@@ -126,7 +126,7 @@ counts_step precision signalled counts bytes p = do
 -- the widest symbol has what the others leave, which is not nothing
 abbrev pub with_rest : List ℕ → ℕ → Result (List ℕ) DecoderError
 with_rest counts widest =
-    if nat_le whole (sum counts) then Err (refused CountsOverfull) else Ok (slice_set counts widest (whole - sum counts))
+    if nat_le whole (sum counts) then Err (refusal_error CountsOverfull) else Ok (slice_set counts widest (whole - sum counts))
 
 -- the width of the precision: the ones before a 0, at most 3
 unfoldable pub ones_at : List ℕ → ℕ → Result (Found ℕ) DecoderError
@@ -143,7 +143,7 @@ unfoldable pub precision_at : List ℕ → ℕ → Result (Found ℕ) DecoderErr
 precision_at bytes p = do
   ones ← ones_at bytes p
   rest ← number_at bytes ones.position ones.value
-  if nat_lt 14 (2 ^ ones.value + rest.value) then Err (refused CountPrecision) else
+  if nat_lt 14 (2 ^ ones.value + rest.value) then Err (refusal_error CountPrecision) else
       Ok (record { value = 2 ^ ones.value + rest.value - 1; position = rest.position })
 
 -- whether widths can be counted by: there is one, and no symbol comes as often as the widest before it
@@ -160,7 +160,7 @@ many_at bytes p = do
     counts ← steps (counts_step precision.value signalled.value) (more.value + 3) [] bytes signalled.position
     all ← with_rest counts.value signalled.value.widest
     Ok (record { value = all; position = counts.position })) else
-      Err (refused CountWidths)
+      Err (refusal_error CountWidths)
 
 -- a distribution: how often each symbol comes
 unfoldable pub distribution_at : List ℕ → ℕ → Result (Found (List ℕ)) DecoderError

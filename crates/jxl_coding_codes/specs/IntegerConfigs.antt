@@ -3,7 +3,7 @@ use Rattle.std.specs.Prelude.{ℕ, ◌+◌, ◌-◌, ◌*◌, ◌/◌, ◌%◌, 
 use Rattle.jxlm_bits.specs.Decoding.{Found}
 use Rattle.jxlm_bits.specs.ErrorKind.{◌>>=◌}
 use Rattle.jxlm_bits.specs.declared.decoder.DecoderError.{DecoderError}
-use Rattle.jxl_coding_codes.specs.Refusals.{refused}
+use Rattle.jxl_coding_codes.specs.Refusals.{refusal_error}
 use Rattle.jxl_coding_codes.specs.declared.refusal.Refusal.TheVariants.{TokenBits}
 use Rattle.jxl_coding_codes.specs.Fields.{number_at, bit_width_of}
 use Rattle.jxl_coding_codes.specs.declared.config.IntegerConfig.{IntegerConfig}
@@ -16,9 +16,9 @@ config_at bytes log p = do
   split ← number_at bytes p (bit_width_of log)
   if split.value == log then Ok (record { value = record { split_exponent = split.value; msb_in_token = 0; lsb_in_token = 0 }; position = split.position }) else (do
     high ← number_at bytes split.position (bit_width_of split.value)
-    if nat_lt split.value high.value then Err (refused TokenBits) else (do
+    if nat_lt split.value high.value then Err (refusal_error TokenBits) else (do
       low ← number_at bytes high.position (bit_width_of (split.value - high.value))
-      if nat_lt split.value (high.value + low.value) then Err (refused TokenBits) else
+      if nat_lt split.value (high.value + low.value) then Err (refusal_error TokenBits) else
           Ok (record { value = record { split_exponent = split.value; msb_in_token = high.value; lsb_in_token = low.value }; position = low.position })))
 
 -- what a rule keeps to

@@ -6,8 +6,8 @@ use Rattle.jxl_coding_codes.specs.declared.lookup.Entry.{Entry}
 use Rattle.jxl_coding_codes.specs.declared.lookup.Lookup.{Lookup}
 
 -- an entry that tells nothing
-abbrev pub untold : Entry
-untold = record { symbol = 0; length = 0 }
+abbrev pub empty_entry : Entry
+empty_entry = record { symbol = 0; length = 0 }
 
 -- The entry of a number tells a codeword: where as many bits as that has are the last bits of the number, its symbol is
 -- read.

@@ -4,7 +4,7 @@ use Rattle.std.specs.List.{list_any}
 use Rattle.jxlm_bits.specs.Decoding.{Found}
 use Rattle.jxlm_bits.specs.ErrorKind.{◌>>=◌}
 use Rattle.jxlm_bits.specs.declared.decoder.DecoderError.{DecoderError}
-use Rattle.jxl_coding_codes.specs.Refusals.{refused}
+use Rattle.jxl_coding_codes.specs.Refusals.{refusal_error}
 use Rattle.jxl_coding_codes.specs.declared.refusal.Refusal.TheVariants.{CodewordsOverfull, CodewordsUnderfull, LengthsOverrun, NoCodeword, SymbolOutside, SymbolTwice}
 use Rattle.jxl_coding_codes.specs.Fields.{number_at, width_of}
 use Rattle.jxl_coding_codes.specs.Reading.{steps}
@@ -14,7 +14,7 @@ use Rattle.jxl_coding_codes.specs.declared.lengths.PrefixCode.{PrefixCode}
 -- one, doubled; `code` is the number of the bits so far less that of the first codeword that is longer than them, and
 -- `place` is where the symbols of those begin.
 unfoldable pub codeword_at : List ℕ → List ℕ → ℕ → ℕ → List ℕ → ℕ → Result (Found ℕ) DecoderError
-codeword_at [] symbols code place bytes p = Err (refused NoCodeword)
+codeword_at [] symbols code place bytes p = Err (refusal_error NoCodeword)
 codeword_at (count ∷ counts) symbols code place bytes p = do
   bit ← number_at bytes p 1
   if nat_lt ((2 * code + bit.value) % 2 ^ 32) count
@@ -87,11 +87,11 @@ length_code_order = 1 ∷ 2 ∷ 3 ∷ 4 ∷ 0 ∷ 5 ∷ 17 ∷ 6 ∷ 16 ∷ 7 �
 -- of one codeword, is refused, as is one that takes more.
 unfoldable pub length_code_lengths_at : List ℕ → List ℕ → ℕ → ℕ → List ℕ → ℕ → Result (Found (List ℕ)) DecoderError
 length_code_lengths_at [] lengths space used bytes p =
-    if space == 0 || used == 1 then Ok (record { value = lengths; position = p }) else Err (refused CodewordsUnderfull)
+    if space == 0 || used == 1 then Ok (record { value = lengths; position = p }) else Err (refusal_error CodewordsUnderfull)
 length_code_lengths_at (place ∷ places) lengths space used bytes p =
     if space == 0 then Ok (record { value = lengths; position = p }) else (do
       signalled ← length_code_length_at bytes p
-      if nat_lt space (share 32 signalled.value) then Err (refused CodewordsOverfull) else
+      if nat_lt space (share 32 signalled.value) then Err (refusal_error CodewordsOverfull) else
           length_code_lengths_at places (slice_set lengths place signalled.value) (space - share 32 signalled.value)
           (used + (if signalled.value == 0 then 0 else 1)) bytes signalled.position)
 
@@ -111,7 +111,7 @@ no_lengths = record { lengths = []; space = 2 ^ 15; last = 8; run = 0; of = 0 }
 -- one more length
 abbrev pub one_length : Lengths → ℕ → Result Lengths DecoderError
 one_length s l =
-    if nat_lt s.space (share (2 ^ 15) l) then Err (refused CodewordsOverfull) else Ok (record {
+    if nat_lt s.space (share (2 ^ 15) l) then Err (refusal_error CodewordsOverfull) else Ok (record {
       lengths = s.lengths ++ l ∷ [];
       space = s.space - share (2 ^ 15) l;
       last = if l == 0 then s.last else l;
@@ -130,8 +130,8 @@ longer run times more = (if run == 0 then 0 else (run - 2) * times) + 3 + more
 -- a run of a length, up to so many; more than the alphabet, or than the room, is refused
 abbrev pub run_up_to : Lengths → ℕ → ℕ → ℕ → ℕ → Result Lengths DecoderError
 run_up_to s alphabet l before run =
-    if nat_lt alphabet (length s.lengths + (run - before)) then Err (refused LengthsOverrun) else
-    if nat_lt s.space ((run - before) * share (2 ^ 15) l) then Err (refused CodewordsOverfull) else Ok (record {
+    if nat_lt alphabet (length s.lengths + (run - before)) then Err (refusal_error LengthsOverrun) else
+    if nat_lt s.space ((run - before) * share (2 ^ 15) l) then Err (refusal_error CodewordsOverfull) else Ok (record {
       lengths = s.lengths ++ replicate (run - before) l;
       space = s.space - (run - before) * share (2 ^ 15) l;
       last = s.last;
@@ -169,7 +169,7 @@ lengths_step length_code alphabet s bytes p =
 unfoldable pub lengths_at : Prefix → ℕ → List ℕ → ℕ → Result (Found (List ℕ)) DecoderError
 lengths_at length_code alphabet bytes p = do
   all ← steps (lengths_step length_code alphabet) alphabet no_lengths bytes p
-  if all.value.space == 0 then Ok (record { value = all.value.lengths; position = all.position }) else Err (refused CodewordsUnderfull)
+  if all.value.space == 0 then Ok (record { value = all.value.lengths; position = all.position }) else Err (refusal_error CodewordsUnderfull)
 
 -- the lengths of the code length code, of which the first places are skipped
 abbrev pub code_length_code_at : ℕ → List ℕ → ℕ → Result (Found (List ℕ)) DecoderError
@@ -186,8 +186,8 @@ long_code_at skipped alphabet bytes p = do
 unfoldable pub symbols_step : ℕ → List ℕ → List ℕ → ℕ → Result (Found (List ℕ)) DecoderError
 symbols_step alphabet symbols bytes p = do
   symbol ← number_at bytes p (width_of (alphabet - 1))
-  if nat_le alphabet symbol.value then Err (refused SymbolOutside) else
-      if list_any (λ s. s == symbol.value) symbols then Err (refused SymbolTwice) else
+  if nat_le alphabet symbol.value then Err (refusal_error SymbolOutside) else
+      if list_any (λ s. s == symbol.value) symbols then Err (refusal_error SymbolTwice) else
       Ok (record { value = symbols ++ symbol.value ∷ []; position = symbol.position })
 
 -- lengths with those of the first n symbols set

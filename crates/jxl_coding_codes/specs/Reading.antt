@@ -12,8 +12,8 @@ steps step (suc n) x bytes p = do
   steps step n found.value bytes found.position
 
 -- a list with one more value, which is read
-abbrev pub pushed : {X : Type 0} → (List ℕ → ℕ → Result (Found X) DecoderError) → List X → List ℕ → ℕ → Result (Found (List X)) DecoderError
-pushed read xs bytes p = do
+abbrev pub list_and_one : {X : Type 0} → (List ℕ → ℕ → Result (Found X) DecoderError) → List X → List ℕ → ℕ → Result (Found (List X)) DecoderError
+list_and_one read xs bytes p = do
   found ← read bytes p
   Ok (record { value = xs ++ found.value ∷ []; position = found.position })
 

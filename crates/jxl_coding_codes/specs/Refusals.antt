@@ -28,5 +28,5 @@ number_of StateTooSmall = 18
 number_of EndState = 19
 
 -- a refusal, as a decoder's error
-abbrev pub refused : Refusal → DecoderError
-refused r = Invalid (number_of r)
+abbrev pub refusal_error : Refusal → DecoderError
+refusal_error r = Invalid (number_of r)

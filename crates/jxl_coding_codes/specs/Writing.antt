@@ -9,12 +9,12 @@ abbrev pub is_large : Slot → ℕ → Bool
 is_large slot state = nat_le (slot.count * 2 ^ 20) state
 
 -- the state without those
-abbrev pub reduced : Slot → ℕ → ℕ
-reduced slot state = if is_large slot state then state / 2 ^ 16 else state
+abbrev pub reduced_state : Slot → ℕ → ℕ
+reduced_state slot state = if is_large slot state then state / 2 ^ 16 else state
 
 -- the state once the symbol is written, by its slot at a place
-abbrev pub written : Slot → ℕ → ℕ → ℕ
-written slot place state = reduced slot state / slot.count * 4096 + place
+abbrev pub written_state : Slot → ℕ → ℕ → ℕ
+written_state slot place state = reduced_state slot state / slot.count * 4096 + place
 
 -- From a state of a stream a symbol is written by this slot: that of its number which the state tells.
 pub record IsSlotFor (slot : Slot) (place state : ℕ) : Type 0 where
@@ -23,7 +23,7 @@ pub record IsSlotFor (slot : Slot) (place state : ℕ) : Type 0 where
   pub least : 2 ^ 16 ≤ state
   pub below : state < 2 ^ 32
   pub place_below : place < 4096
-  pub number_is : slot.number ≡ reduced slot state % slot.count
+  pub number_is : slot.number ≡ reduced_state slot state % slot.count
 
 -- the 16 bits that were written stand at a position, if any were
 abbrev pub WordStands : Slot → ℕ → List ℕ → ℕ → Type 0

@@ -3,7 +3,7 @@
 ghost use Rattle.std.specs.Prelude.{◌≡◌, ◌+◌, ◌-◌, ◌*◌, ◌/◌, ◌<◌, ◌≤◌, ◌^◌, length, IfOk, IfErr, OnOk, Option, slice_index};
 ghost use Rattle.std.specs.List.{All};
 ghost use Rattle.jxlm_bits.specs.declared.decoder.DecoderError.{DecoderError};
-ghost use Rattle.jxl_coding_codes.specs.Alias.{only_from, only_buckets as the_only_buckets, sorted, with_bucket, kept_by, filled_buckets, last_of, without_last, unfilled as not_filled, filled_one as one_filled, filled_by as all_filled, buckets_of};
+ghost use Rattle.jxl_coding_codes.specs.Alias.{only_from, only_buckets as the_only_buckets, sorted_buckets, with_bucket, kept_by, filled_buckets, last_of, without_last, unfilled_buckets as not_filled, filled_one as one_filled, filled_by as all_filled, buckets_of};
 ghost use Rattle.jxl_coding_codes.specs.Inner.Seen.{filling_seen};
 
 use crate::ans::Bucket;
@@ -106,7 +106,7 @@ fn only_buckets(
 /// Sorts a bucket among those of its kind.
 fn sort(s: &mut Filling, bucket_size: u32, i: usize, cutoff: u32) -> Result<(), DecoderError>
     requires { i < length s.old.buckets.items }
-    ensures ok { OnOk result (filling_seen s.new ≡ sorted (filling_seen s.old) bucket_size i cutoff) }
+    ensures ok { OnOk result (filling_seen s.new ≡ sorted_buckets (filling_seen s.old) bucket_size i cutoff) }
     ensures err { IfErr result (λ e. e ≡ DecoderError.OutOfMemory) }
 {
     if bucket_size < cutoff {

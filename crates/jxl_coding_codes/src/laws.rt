@@ -6,10 +6,10 @@ ghost use Rattle.jxl_coding_codes.specs.IntegerConfigs.{IsConfig};
 ghost use Rattle.jxl_coding_codes.specs.Spellings.{Spells};
 ghost use Rattle.jxl_coding_codes.specs.declared.config.IntegerConfig.{IntegerConfig};
 ghost use Rattle.jxl_coding_codes.specs.Ans.{Slot, after_slot, refilled_at};
-ghost use Rattle.jxl_coding_codes.specs.Writing.{IsSlotFor, WordStands, is_large, written};
+ghost use Rattle.jxl_coding_codes.specs.Writing.{IsSlotFor, WordStands, is_large, written_state};
 ghost use Rattle.jxl_coding_codes.specs.Distributions.{distribution_at};
 ghost use Rattle.jxl_coding_codes.specs.PrefixCodes.{Prefix, prefix_of, prefix_at, next_symbol_at, long_code_at, code_length_code_at};
-ghost use Rattle.jxl_coding_codes.specs.Refusals.{refused};
+ghost use Rattle.jxl_coding_codes.specs.Refusals.{refusal_error};
 ghost use Rattle.jxl_coding_codes.specs.declared.refusal.Refusal.TheVariants.{NoCodeword};
 ghost use Rattle.jxl_coding_codes.specs.Alias.{buckets_of};
 ghost use Rattle.jxl_coding_codes.specs.Slots.{AreSlotsOf};
@@ -27,12 +27,12 @@ pub fn tokens_have_one_spelling()
 /// and the state before comes back with the 16 bits that were written of it.
 pub fn reading_undoes_writing()
     ensures slot { (slot : Slot) (place state : ℕ) → IsSlotFor slot place state
-        → written slot place state % 4096 ≡ place }
+        → written_state slot place state % 4096 ≡ place }
     ensures state { (slot : Slot) (place state : ℕ) → IsSlotFor slot place state
-        → (2 ^ 16 ≤ written slot place state) × (written slot place state < 2 ^ 32) }
+        → (2 ^ 16 ≤ written_state slot place state) × (written_state slot place state < 2 ^ 32) }
     ensures read { (slot : Slot) (place state : ℕ) (bytes : List ℕ) (p : ℕ) → IsSlotFor slot place state
         → WordStands slot state bytes p
-        → refilled_at slot.symbol (after_slot slot (written slot place state)) bytes p
+        → refilled_at slot.symbol (after_slot slot (written_state slot place state)) bytes p
         ≡ Ok (record {
           symbol = slot.symbol;
           ans_state = state;
@@ -77,7 +77,7 @@ pub fn prefix_codes_leave_no_room()
         → (lengths : List ℕ) × ((found.value ≡ prefix_of lengths) × IsFull lengths) }
     ensures read { (alphabet : ℕ) (bytes : List ℕ) (p : ℕ) (found : Found Prefix) → alphabet ≤ 2 ^ 15
         → prefix_at alphabet bytes p ≡ Ok found
-        → (input : List ℕ) (q : ℕ) → next_symbol_at found.value input q ≢ Err (refused NoCodeword) }
+        → (input : List ℕ) (q : ℕ) → next_symbol_at found.value input q ≢ Err (refusal_error NoCodeword) }
 {}
 
 /// So does the code of the lengths, as it is read: it leaves no room, or has one symbol, and no bits are refused as no
@@ -88,7 +88,7 @@ pub fn code_length_codes_leave_no_room()
         → IsFull found.value ⊎ (length (prefix_of found.value).symbols ≡ 1) }
     ensures read { (skipped : ℕ) (bytes : List ℕ) (p : ℕ) (found : Found (List ℕ)) → skipped ≤ 3
         → code_length_code_at skipped bytes p ≡ Ok found
-        → (input : List ℕ) (q : ℕ) → next_symbol_at (prefix_of found.value) input q ≢ Err (refused NoCodeword) }
+        → (input : List ℕ) (q : ℕ) → next_symbol_at (prefix_of found.value) input q ≢ Err (refusal_error NoCodeword) }
 {}
 
 /// An alias table has one slot for each symbol and number below its count, where the counts sum up to 4096.

@@ -1,7 +1,7 @@
 //! Why an entropy decoder refuses its input, by name.
 
 ghost use Rattle.std.specs.Prelude.{◌≡◌};
-ghost use Rattle.jxl_coding_codes.specs.Refusals.{number_of, refused};
+ghost use Rattle.jxl_coding_codes.specs.Refusals.{number_of, refusal_error};
 
 use jxlm_bits::decoder::DecoderError;
 
@@ -77,7 +77,7 @@ impl Refusal {
 }
 
 impl From<Refusal> for DecoderError {
-    ghost from_gives = { λ r e. e ≡ refused r };
+    ghost from_gives = { λ r e. e ≡ refusal_error r };
 
     fn from(refusal: Refusal) -> DecoderError {
         DecoderError::Invalid(refusal.number())

@@ -34,7 +34,7 @@ exact-coding told xyb =
     bind (exact-when (told && not xyb) false exact-flag) λ ycbcr.
     bind (exact-when (ycbcr && not f.use_lf_frame) 0 (exact-number 6)) λ sampled.
     bind (exact-when (told && not f.use_lf_frame) 1 exact-factor) λ upsampling.
-    exact-give (record { frame_type = if t == 0 then Regular else if t == 1 then LfFrame else if t == 2 then ReferenceOnly else SkipProgressive; encoding = if modular then Modular else VarDct; flags = f; ycbcr = ycbcr; upsampling = upsampling })
+    exact-give (record { frame_type = if t == 0 then Regular else if t == 1 then LfFrame else if t == 2 then ReferenceOnly else SkipProgressive; encoding = if modular then Modular else VarDct; flags = f; do_ycbcr = ycbcr; upsampling = upsampling })
 
 exact-in_turn : (n : ℕ) (field : Option ℕ → Grammar ℕ) → ((before : Option ℕ) → IsExact (field before)) → (before : Option ℕ) → IsExact (in_turn n field before)
 exact-in_turn zero field each before = exact-give []
@@ -55,7 +55,7 @@ exact-passes there =
     bind (exact-repeated (count - 1) _ (exact-u32 (Const 0) (Const 1) (Const 2) (Const 3))) λ shifts.
     bind (exact-in_turn n finer exact-finer None) λ factors.
     bind (exact-in_turn n (later count) (exact-later count) None) λ lasts.
-    exact-give (record { count = count; shift = shifts; downsample = factors; last_pass = lasts })
+    exact-give (record { num_passes = count; shift = shifts; downsample = factors; last_pass = lasts })
 
 exact-extent : IsExact extent
 unfolding extent
@@ -80,7 +80,7 @@ exact-ending : (shown : Bool) (animation : Option Animation) (t : FrameType) (re
 unfolding ending
 exact-ending shown animation t replaces =
     bind (exact-when (shown && is_some animation) 0 (exact-u32 (Const 0) (Const 1) (Offset 0 8) (Offset 0 32))) λ time.
-    bind (exact-when (shown && option_map_or (λ a. a.timecodes) animation false) 0 (exact-number 32)) λ code.
+    bind (exact-when (shown && option_map_or (λ a. a.have_timecodes) animation false) 0 (exact-number 32)) λ code.
     bind (exact-when shown (is_shown t) exact-flag) λ last.
     bind (exact-when (not (is_lf t) && not last) 0 (exact-number 2)) λ reference.
     bind (exact-when (is_reference t || shown && replaces && not last && ((time == 0) || not (reference == 0))) (is_lf t) exact-flag) λ before.
@@ -105,16 +105,16 @@ exact-filter there modular =
 pub exact-frame_header : (image : Image) → IsExact (frame_header image)
 unfolding frame_header
 exact-frame_header image =
-    bind (exact-told_if true) λ told. bind (exact-coding told image.shown.xyb) λ c.
-    bind (exact-when (told && not c.flags.use_lf_frame) [] (exact-repeated (length image.extra) factor exact-factor)) λ factors.
+    bind (exact-told_if true) λ told. bind (exact-coding told image.shown.xyb_encoded) λ c.
+    bind (exact-when (told && not c.flags.use_lf_frame) [] (exact-repeated (length image.ec_info) factor exact-factor)) λ factors.
     bind (exact-when (is_modular c.encoding) 1 (exact-number 2)) λ shift.
-    bind (exact-when (told && not (is_modular c.encoding) && image.shown.xyb) 0 (exact-number 6)) λ scales.
+    bind (exact-when (told && not (is_modular c.encoding) && image.shown.xyb_encoded) 0 (exact-number 6)) λ scales.
     bind (exact-passes (told && not (is_reference c.frame_type))) λ passes.
     bind (exact-when (is_lf c.frame_type) 0 (exact-u32 (Const 1) (Const 2) (Const 3) (Const 4))) λ level.
     bind (exact-when (told && not (is_lf c.frame_type)) None (exact-optional (exact-crop image.size (is_shown c.frame_type)))) λ crop.
-    bind (exact-info (told && is_shown c.frame_type) (length image.extra) (option_map_or (λ c. c.partial) crop false)) λ colours.
-    bind (exact-when (told && is_shown c.frame_type) [] (exact-repeated (length image.extra) (blending_info true (length image.extra) (option_map_or (λ c. c.partial) crop false))
-    (exact-info true (length image.extra) (option_map_or (λ c. c.partial) crop false)))) λ others.
+    bind (exact-info (told && is_shown c.frame_type) (length image.ec_info) (option_map_or (λ c. c.partial) crop false)) λ colours.
+    bind (exact-when (told && is_shown c.frame_type) [] (exact-repeated (length image.ec_info) (blending_info true (length image.ec_info) (option_map_or (λ c. c.partial) crop false))
+    (exact-info true (length image.ec_info) (option_map_or (λ c. c.partial) crop false)))) λ others.
     bind (exact-ending (told && is_shown c.frame_type) image.display.animation c.frame_type (is_replace colours.mode && not (option_map_or (λ c. c.partial) crop false))) λ ending.
     bind (exact-when told 0 exact-name) λ n. bind (exact-filter told (is_modular c.encoding)) λ f. bind (exact-when told 0 exact-extensions) λ e.
     exact-give (record {
@@ -123,8 +123,8 @@ exact-frame_header image =
       group_dim = 128 * 2 ^ shift;
       passes = passes;
       place = record { lf_level = level; crop = crop };
-      colours = colours;
-      extra = others;
+      blending_info = colours;
+      ec_blending_info = others;
       ending = ending;
-      closing = record { name_bytes = n; filter = f; extensions = e };
+      closing = record { name_len = n; restoration_filter = f; extensions = e };
     })

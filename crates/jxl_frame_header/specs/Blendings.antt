@@ -32,7 +32,7 @@ is_replace other = false
 unfoldable pub ending : Bool → Option Animation → FrameType → Bool → Grammar Ending
 ending shown animation frame_type replaces = do
   time ← when (shown && is_some animation) (u32 (Const 0) (Const 1) (Offset 0 8) (Offset 0 32)) 0
-  code ← when (shown && option_map_or (λ a. a.timecodes) animation false) (number 32) 0
+  code ← when (shown && option_map_or (λ a. a.have_timecodes) animation false) (number 32) 0
   last ← when shown flag (is_shown frame_type)
   reference ← when (not (is_lf frame_type) && not last) (number 2) 0
   let is_unblended = shown && replaces && not last && ((time == 0) || not (reference == 0))

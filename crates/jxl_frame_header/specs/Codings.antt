@@ -34,7 +34,7 @@ coding told xyb = do
   upsampling ← when (told && not flags.use_lf_frame) factor 1
   let kind = if n == 0 then Regular else if n == 1 then LfFrame else if n == 2 then ReferenceOnly else SkipProgressive
   let encoding = if modular then Modular else VarDct
-  give (record { frame_type = kind; encoding = encoding; flags = flags; ycbcr = ycbcr; upsampling = upsampling })
+  give (record { frame_type = kind; encoding = encoding; flags = flags; do_ycbcr = ycbcr; upsampling = upsampling })
 
 abbrev pub is_modular : Encoding → Bool
 is_modular VarDct = false
@@ -55,5 +55,5 @@ coding_refusal floats shifts c = option_or (type_refusal c.frame_type) (
     if c.flags.patches && shifts then Some refusals.ShiftedPatches else
     if c.flags.splines then Some refusals.Splines else
     if c.flags.use_lf_frame then Some refusals.UseLfFrame else
-    if c.ycbcr then Some refusals.YCbCr else
+    if c.do_ycbcr then Some refusals.YCbCr else
     if c.upsampling == 1 then None else Some refusals.Upsampling)

@@ -28,8 +28,8 @@ pub record Frame : Type 0 where
   pub group_dim : ℕ
   pub passes : Passes
   pub place : Place
-  pub colours : BlendingInfo
-  pub extra : List BlendingInfo
+  pub blending_info : BlendingInfo
+  pub ec_blending_info : List BlendingInfo
   pub ending : Ending
   pub closing : Closing
 
@@ -40,8 +40,8 @@ frame_of h = record {
   group_dim = h.group_dim;
   passes = passes_of h.passes;
   place = h.place;
-  colours = h.blending.colours;
-  extra = h.blending.extra.items;
+  blending_info = h.blending.blending_info;
+  ec_blending_info = h.blending.ec_blending_info.items;
   ending = h.ending;
   closing = h.closing;
 }
@@ -51,17 +51,17 @@ frame_of h = record {
 unfoldable pub frame_header : Image → Grammar Frame
 frame_header image = do
   told ← told_if true
-  coding ← coding told image.shown.xyb
-  factors ← when (told && not coding.flags.use_lf_frame) (repeated (length image.extra) factor) []
+  coding ← coding told image.shown.xyb_encoded
+  factors ← when (told && not coding.flags.use_lf_frame) (repeated (length image.ec_info) factor) []
   shift ← when (is_modular coding.encoding) (number 2) 1
-  _ ← when (told && not (is_modular coding.encoding) && image.shown.xyb) (number 6) 0
+  _ ← when (told && not (is_modular coding.encoding) && image.shown.xyb_encoded) (number 6) 0
   passes ← passes (told && not (is_reference coding.frame_type))
   level ← when (is_lf coding.frame_type) (u32 (Const 1) (Const 2) (Const 3) (Const 4)) 0
   crop ← when (told && not (is_lf coding.frame_type)) (optional (crop image.size (is_shown coding.frame_type))) None
   let partial = option_map_or (λ c. c.partial) crop false
   let shown = told && is_shown coding.frame_type
-  colours ← blending_info shown (length image.extra) partial
-  others ← when shown (repeated (length image.extra) (blending_info true (length image.extra) partial)) []
+  colours ← blending_info shown (length image.ec_info) partial
+  others ← when shown (repeated (length image.ec_info) (blending_info true (length image.ec_info) partial)) []
   ending ← ending shown image.display.animation coding.frame_type (is_replace colours.mode && not partial)
   name_bytes ← when told name 0
   filter ← filter told (is_modular coding.encoding)
@@ -72,15 +72,15 @@ frame_header image = do
     group_dim = 128 * 2 ^ shift;
     passes = passes;
     place = record { lf_level = level; crop = crop };
-    colours = colours;
-    extra = others;
+    blending_info = colours;
+    ec_blending_info = others;
     ending = ending;
-    closing = record { name_bytes = name_bytes; filter = filter; extensions = extensions };
+    closing = record { name_len = name_bytes; restoration_filter = filter; extensions = extensions };
   })
 
 -- an extra channel has a size of its own
 abbrev pub has_shifts : Image → Bool
-has_shifts image = list_any (λ c. not (c.shift == 0)) image.extra
+has_shifts image = list_any (λ c. not (c.dim_shift == 0)) image.ec_info
 
 -- a frame is not shown, and saved for others; its sides, in a picture of this size
 abbrev pub is_saved : Frame → Bool
@@ -92,12 +92,12 @@ frame_size picture h = option_map_or (λ c. record { width = c.width; height = c
 -- What a frame has that is not supported, the first that holds: one that is shown covers the picture, and is the last;
 -- one that only others use may have sides of its own, but none of 0, and is saved before its colours are transformed.
 abbrev pub frame_refusal : Image → Frame → Option Refusal
-frame_refusal image h = option_or (coding_refusal (not (image.samples.depth.exponent_bits == 0)) (has_shifts image) h.coding) (
+frame_refusal image h = option_or (coding_refusal (not (image.samples.bit_depth.exp_bits == 0)) (has_shifts image) h.coding) (
     if list_any (λ f. not (f == 1)) h.ec_upsampling then Some refusals.ExtraUpsampling else
     if is_some h.place.crop && not (is_saved h) then Some refusals.Crop else
     if option_map_or (λ c. (c.width == 0) || (c.height == 0)) h.place.crop false then Some refusals.EmptyFrame else
-    if not (is_replace h.colours.mode) then Some refusals.Blending else
-    if list_any (λ b. not (is_replace b.mode)) h.extra then Some refusals.ExtraBlending else
+    if not (is_replace h.blending_info.mode) then Some refusals.Blending else
+    if list_any (λ b. not (is_replace b.mode)) h.ec_blending_info then Some refusals.ExtraBlending else
     if is_saved h && not h.ending.save_before_ct then Some refusals.SavedAfter else
     if not (is_saved h || h.ending.is_last) then Some refusals.Frames else
-    if h.closing.filter.gab || not (h.closing.filter.epf_iters == 0) then Some refusals.LoopFilter else None)
+    if h.closing.restoration_filter.gab || not (h.closing.restoration_filter.epf_iters == 0) then Some refusals.LoopFilter else None)

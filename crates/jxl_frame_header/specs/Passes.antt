@@ -10,13 +10,13 @@ use Rattle.jxl_frame_header.specs.declared.passes.Passes.{Passes as PassesInMemo
 
 -- how many passes there are, by how many bits each but the last is shifted, resolutions, and the passes that end them
 pub record Passes : Type 0 where
-  pub count : ℕ
+  pub num_passes : ℕ
   pub shift : List ℕ
   pub downsample : List ℕ
   pub last_pass : List ℕ
 
 abbrev pub passes_of : PassesInMemory → Passes
-passes_of p = record { count = p.count; shift = p.shift.items; downsample = p.downsample.items; last_pass = p.last_pass.items }
+passes_of p = record { num_passes = p.num_passes; shift = p.shift.items; downsample = p.downsample.items; last_pass = p.last_pass.items }
 
 -- n fields, each of which may depend on the number before it
 abbrev pub in_turn : ℕ → (Option ℕ → Grammar ℕ) → Option ℕ → Grammar (List ℕ)
@@ -33,7 +33,7 @@ passes there = do
   factors ← in_turn n (λ before. checked (codes "downsample") (λ v. option_map_or (λ b. nat_lt v b) before true) factor) None
   lasts ← in_turn n (λ before. checked (codes "last_pass") (λ v. option_map_or (λ b. nat_lt b v) before true && nat_lt v count)
       (u32 (Const 0) (Const 1) (Const 2) (Offset 0 3))) None
-  give (record { count = count; shift = shifts; downsample = factors; last_pass = lasts })
+  give (record { num_passes = count; shift = shifts; downsample = factors; last_pass = lasts })
 
 -- there are from 1 to 11
 pub record IsPassCount (n : ℕ) : Type 0 where
@@ -49,9 +49,9 @@ shift_of d = if d == 1 then 0 else if d == 2 then 1 else if d == 4 then 2 else 3
 abbrev pub least_shift : Passes → ℕ → ℕ
 least_shift x zero = 3
 least_shift x (suc p) =
-    if suc p == x.count then 0 else option_map_or (λ e. shift_of e.0) (find (λ e. e.1 == p) (zip x.downsample x.last_pass)) (least_shift x p)
+    if suc p == x.num_passes then 0 else option_map_or (λ e. shift_of e.0) (find (λ e. e.1 == p) (zip x.downsample x.last_pass)) (least_shift x p)
 
 -- The passes by their numbers: each holds the shifts from the least one that is held after it, below that before it
 -- (Modular: the shifts of a pass).
 abbrev pub shifts_held : Passes → List (ℕ × (ℤ × ℤ))
-shifts_held x = map (λ p. (p, (pos (least_shift x (suc p)), pos (least_shift x p)))) (range_with_len 0 x.count)
+shifts_held x = map (λ p. (p, (pos (least_shift x (suc p)), pos (least_shift x p)))) (range_with_len 0 x.num_passes)

@@ -53,9 +53,9 @@ pub struct BlendingInfo {
 /// How a frame is blended.
 #[derive(Drop)]
 pub struct Blending {
-    pub colours: BlendingInfo,
+    pub blending_info: BlendingInfo,
     /// Of each extra channel; none for a frame that is not shown, nor where the header says nothing.
-    pub extra: Vec<BlendingInfo>,
+    pub ec_blending_info: Vec<BlendingInfo>,
 }
 
 /// What becomes of a frame.
@@ -249,13 +249,13 @@ fn is_blended(infos: &[BlendingInfo]) -> bool
 impl Blending {
     /// What of it is not supported: the first channels, in order, that are blended.
     pub fn refused(&self) -> Option<Refusal>
-        ensures { result ≡ (if not (the_is_replace self.now.colours.mode) then Some refusals.Blending else
-            if list_any (λ b. not (the_is_replace b.mode)) self.now.extra.items
+        ensures { result ≡ (if not (the_is_replace self.now.blending_info.mode) then Some refusals.Blending else
+            if list_any (λ b. not (the_is_replace b.mode)) self.now.ec_blending_info.items
             then Some refusals.ExtraBlending else None) }
     {
-        if !self.colours.replaces() {
+        if !self.blending_info.replaces() {
             Some(Refusal::Blending)
-        } else if is_blended(&self.extra) {
+        } else if is_blended(&self.ec_blending_info) {
             Some(Refusal::ExtraBlending)
         } else {
             None
@@ -282,10 +282,10 @@ fn duration_if(bits: &mut Bitstream<'_>, there: bool) -> Result<u32>
 }
 
 fn has_timecodes(animation: Option<Animation>) -> bool
-    ensures { result ≡ option_map_or (λ a. a.timecodes) animation false }
+    ensures { result ≡ option_map_or (λ a. a.have_timecodes) animation false }
 {
     match animation {
-        Some(animation) => animation.timecodes,
+        Some(animation) => animation.have_timecodes,
         None => false,
     }
 }

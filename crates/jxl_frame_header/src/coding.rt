@@ -54,7 +54,7 @@ pub struct Coding {
     pub encoding: Encoding,
     pub flags: FrameFlags,
     /// Whether colours are YCbCr.
-    pub ycbcr: bool,
+    pub do_ycbcr: bool,
     /// The frame's sides are those of its colours by this: 1, 2, 4 or 8.
     pub upsampling: u32,
 }
@@ -156,7 +156,7 @@ impl Coding {
             frame_type: type_of(frame_type),
             encoding: encoding_of(modular),
             flags,
-            ycbcr,
+            do_ycbcr: ycbcr,
             upsampling,
         })
     }
@@ -173,10 +173,10 @@ impl Coding {
     }
 
     fn form_refused(&self) -> Option<Refusal>
-        ensures { result ≡ (if self.now.ycbcr then Some refusals.YCbCr else
+        ensures { result ≡ (if self.now.do_ycbcr then Some refusals.YCbCr else
             if self.now.upsampling == 1 then None else Some refusals.Upsampling) }
     {
-        if self.ycbcr {
+        if self.do_ycbcr {
             Some(Refusal::YCbCr)
         } else if self.upsampling == 1 {
             None

@@ -29,8 +29,8 @@ use std::alloc::Global;
 #[derive(Clone, Copy)]
 pub struct Closing {
     /// How many bytes the frame's name has, at most 1071; they are passed.
-    pub name_bytes: u32,
-    pub filter: RestorationFilter,
+    pub name_len: u32,
+    pub restoration_filter: RestorationFilter,
     /// A bit for each extension that there is; what they hold is passed.
     pub extensions: u64,
 }
@@ -88,16 +88,16 @@ fn factors_refused(factors: &[u32]) -> Option<Refusal>
 
 // Whether samples of colours are floats.
 fn has_floats(image: &ImageHeader) -> bool
-    ensures { result ≡ not (image.now.samples.depth.exponent_bits == 0) }
+    ensures { result ≡ not (image.now.samples.bit_depth.exp_bits == 0) }
 {
-    image.samples.depth.exponent_bits != 0
+    image.samples.bit_depth.exp_bits != 0
 }
 
 // Whether an extra channel has a size of its own.
 fn has_shifts(image: &ImageHeader) -> bool
     ensures { result ≡ the_has_shifts (image_of image.now) }
 {
-    image.extra.iter().any(|channel| channel.shift != 0)
+    image.ec_info.iter().any(|channel| channel.dim_shift != 0)
 }
 
 impl FrameHeader {
@@ -118,11 +118,11 @@ impl FrameHeader {
         ensures gives { Parses frame_of result (position_of bits.new)
             ((frame_header (image_of image.now)).read (bytes_of bits.old) (position_of bits.old)) }
         ensures dim { IfOk result (λ h. 0 < h.group_dim) }
-        ensures counted { IfOk result (λ h. IsPassCount h.passes.count) }
+        ensures counted { IfOk result (λ h. IsPassCount h.passes.num_passes) }
         ensures bytes { bytes_of bits.new ≡ bytes_of bits.old }
     {
-        let xyb = image.shown.xyb;
-        let extra = image.extra.len();
+        let xyb = image.shown.xyb_encoded;
+        let extra = image.ec_info.len();
         let told = told_if(bits, true)?;
         let coding = Coding::parse(bits, told, xyb)?;
         let frame_type = coding.frame_type;
@@ -155,13 +155,13 @@ impl FrameHeader {
             passes,
             place,
             blending: Blending {
-                colours,
-                extra: others,
+                blending_info: colours,
+                ec_blending_info: others,
             },
             ending,
             closing: Closing {
-                name_bytes,
-                filter,
+                name_len: name_bytes,
+                restoration_filter: filter,
                 extensions,
             },
         })
@@ -177,7 +177,7 @@ impl FrameHeader {
             .or(self.place.refused(self.coding.frame_type))
             .or(self.blending.refused())
             .or(self.ending.refused(self.coding.frame_type))
-            .or(self.closing.filter.refused())
+            .or(self.closing.restoration_filter.refused())
     }
 
     /// Whether the frame is not shown, but saved for those after it.

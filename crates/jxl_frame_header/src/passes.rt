@@ -24,7 +24,7 @@ use std::collections::BTreeMap;
 #[derive(Drop)]
 pub struct Passes {
     /// How many there are, from 1 to 11.
-    pub count: u32,
+    pub num_passes: u32,
     /// Of each but the last, by how many bits its numbers are shifted: 0 to 3.
     pub shift: Vec<u32>,
     /// Resolutions that are whole after some passes: the frame's sides by 1, 2, 4 or 8. Each is finer than the one
@@ -240,7 +240,7 @@ impl Passes {
     pub fn parse(alloc: Global, bits: &mut Bitstream<'_>, there: bool) -> Result<Passes>
         ensures gives { Parses passes_of result (position_of bits.new)
             ((passes there).read (bytes_of bits.old) (position_of bits.old)) }
-        ensures counted { IfOk result (λ p. IsPassCount p.count) }
+        ensures counted { IfOk result (λ p. IsPassCount p.num_passes) }
         ensures bytes { bytes_of bits.new ≡ bytes_of bits.old }
     {
         let count = pass_count_if(bits, there)?;
@@ -249,7 +249,7 @@ impl Passes {
         let downsample = in_turn(alloc, bits, n as usize, Order::Finer)?;
         let last_pass = in_turn(alloc, bits, n as usize, Order::Later(count))?;
         Ok(Passes {
-            count,
+            num_passes: count,
             shift,
             downsample,
             last_pass,
@@ -270,13 +270,13 @@ impl Passes {
 
     // The least shift that passes up to this one hold; those before it hold this one, or more.
     fn least_shift(&self, pass: u32, before: u32) -> u32
-        requires pass { pass < self.now.count }
+        requires pass { pass < self.now.num_passes }
         requires before { before ≡ the_least_shift (passes_of self.now) pass }
         requires small { before ≤ 3 }
         ensures is { result ≡ the_least_shift (passes_of self.now) (suc pass) }
         ensures small { result ≤ 3 }
     {
-        let count = self.count;
+        let count = self.num_passes;
         if pass + 1 == count {
             return 0;
         }
@@ -300,7 +300,7 @@ impl Passes {
     {
         let mut held = BTreeMap::new(alloc);
         let mut end = 3;
-        for pass in 0..self.count {
+        for pass in 0..self.num_passes {
             let first = self.least_shift(pass, end);
             held.insert(pass, (first as i32, end as i32))?;
             end = first;

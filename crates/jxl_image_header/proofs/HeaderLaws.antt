@@ -6,7 +6,7 @@ use Rattle.jxlm_bits.specs.ErrorKind.{ErrorAt, BadEnum}
 use Rattle.jxlm_bits.specs.Grammar.{Grammar, IsExact, give, fail, ◌>>=◌}
 use Rattle.jxlm_bits.specs.declared.bits.U32Spec.TheVariants.{Const, Offset}
 use Rattle.jxlm_bits.proofs.GrammarLaws.{bind, found_same, none_found, exact-give, exact-fail, exact-number, exact-either, exact-repeated, exact-flag, exact-part, exact-u32}
-use Rattle.jxl_image_header.specs.Fields.{groups, long, when, optional, told_if, enumerated, meant, checked, skipped, extensions, name, here, aligned}
+use Rattle.jxl_image_header.specs.Fields.{groups, long, when, optional, told_if, enumerated, number_meant, checked, skipped, extensions, name, here, aligned}
 use Rattle.jxl_image_header.specs.Sizes.{side, size, width_at}
 use Rattle.jxl_image_header.specs.Channels.{fits_float, bit_depth, extra_channel}
 use Rattle.jxl_image_header.specs.Colours.{coordinate, chromaticity, primary_colours, white, basis, transfer, colour_encoding, tone_mapping}
@@ -30,7 +30,7 @@ exact-here = record {
   stands_read = λ bytes p y q s. rw (s.0, s.1) refl;
 }
 
-pub exact-meant : (text : List ℕ) (means : Bool) (v : ℕ) → IsExact (meant text means v)
+pub exact-meant : (text : List ℕ) (means : Bool) (v : ℕ) → IsExact (number_meant text means v)
 exact-meant text means v = exact-either means (give v) (fail (BadEnum text v)) (exact-give v) (exact-fail (BadEnum text v))
 
 pub exact-checked : {field : Grammar ℕ} (text : List ℕ) (holds : ℕ → Bool) → IsExact field → IsExact (checked text holds field)
@@ -88,17 +88,17 @@ exact-depth =
     bind (exact-either float _ _ (exact-u32 (Const 32) (Const 16) (Const 24) (Offset 1 6))
     (exact-checked (codes "bits_per_sample") (λ n. nat_lt n 32) (exact-u32 (Const 8) (Const 10) (Const 12) (Offset 1 6)))) λ bits.
     bind (exact-when float 0 (exact-checked (codes "exponent_bits") (fits_float bits) (exact-part (Offset 1 4)))) λ e.
-    exact-give (record { bits = bits; exponent_bits = e })
+    exact-give (record { bits_per_sample = bits; exp_bits = e })
 
 pub exact-channel : IsExact extra_channel
 unfolding extra_channel
 exact-channel =
     bind (exact-told_if true) λ told. bind (exact-when told 0 (exact-told (codes "ExtraChannelType") (λ v. nat_lt v 7 || (v == 15) || (v == 16)))) λ kind.
-    bind (exact-when told (record { bits = 8; exponent_bits = 0 }) exact-depth) λ depth.
+    bind (exact-when told (record { bits_per_sample = 8; exp_bits = 0 }) exact-depth) λ depth.
     bind (exact-when told 0 (exact-u32 (Const 0) (Const 3) (Const 4) (Offset 1 3))) λ shift. bind (exact-when told 0 exact-name) λ n.
     bind (exact-when (told && (kind == 0)) false exact-flag) λ p. bind (exact-when (kind == 2) tt (exact-skipped 8)) λ u.
     bind (exact-when (kind == 5) 0 (exact-u32 (Const 1) (Offset 0 2) (Offset 3 4) (Offset 19 8))) λ v.
-    exact-give (record { kind = kind; depth = depth; shift = shift; name_bytes = n; premultiplied = p })
+    exact-give (record { kind = kind; bit_depth = depth; dim_shift = shift; name_len = n; alpha_associated = p })
 
 exact-coordinate : (there : Bool) → IsExact (coordinate there)
 unfolding coordinate
@@ -141,20 +141,20 @@ exact-colours there =
     bind (exact-basis (told && not profile && not ((space == 1) || (space == 2)))) λ b.
     bind (exact-transfer (told && not profile && not (space == 2))) λ t.
     bind (exact-when (told && not profile) 1 (exact-told (codes "RenderingIntent") (λ v. nat_lt v 4))) λ i.
-    exact-give (record { profile = profile; space = space; white = w; basis = b; transfer = t; intent = i })
+    exact-give (record { want_icc = profile; colour_space = space; white_point = w; primaries = b; transfer_function = t; rendering_intent = i })
 
 exact-tone : (there : Bool) → IsExact (tone_mapping there)
 unfolding tone_mapping
 exact-tone there =
     bind (exact-told_if there) λ told. bind (exact-when told 0x5BF8 (exact-number 16)) λ a. bind (exact-when told 0 (exact-number 16)) λ b.
     bind (exact-when told false exact-flag) λ c. bind (exact-when told 0 (exact-number 16)) λ d.
-    exact-give (record { intensity_target = a; min_nits = b; relative = c; linear_below = d })
+    exact-give (record { intensity_target = a; min_nits = b; relative_to_max_display = c; linear_below = d })
 
 exact-animation : IsExact animation
 unfolding animation
 exact-animation =
     bind (exact-u32 (Const 100) (Const 1000) (Offset 1 10) (Offset 1 30)) λ a. bind (exact-u32 (Const 1) (Const 1001) (Offset 1 8) (Offset 1 10)) λ b.
-    bind (exact-u32 (Const 0) (Offset 0 3) (Offset 0 16) (Offset 0 32)) λ c. bind exact-flag λ d. exact-give (record { numerator = a; denominator = b; loops = c; timecodes = d })
+    bind (exact-u32 (Const 0) (Offset 0 3) (Offset 0 16) (Offset 0 32)) λ c. bind exact-flag λ d. exact-give (record { tps_numerator = a; tps_denominator = b; num_loops = c; have_timecodes = d })
 
 exact-matrices : (xyb : Bool) → IsExact (matrices xyb)
 unfolding matrices
@@ -169,13 +169,13 @@ exact-image_header =
     bind (exact-checked (codes "signature") (λ v. v == 0x0AFF) (exact-number 16)) λ v. bind (exact-size false) λ size. bind (exact-told_if true) λ told.
     bind (exact-when told false exact-flag) λ more. bind (exact-when more 0 (exact-number 3)) λ o. bind (exact-when more None (exact-optional (exact-size false))) λ i.
     bind (exact-when more None (exact-optional (exact-size true))) λ p. bind (exact-when more None (exact-optional exact-animation)) λ a.
-    bind (exact-when told (record { bits = 8; exponent_bits = 0 }) exact-depth) λ d. bind (exact-when told true exact-flag) λ n.
+    bind (exact-when told (record { bits_per_sample = 8; exp_bits = 0 }) exact-depth) λ d. bind (exact-when told true exact-flag) λ n.
     bind (exact-when told [] (bind (exact-u32 (Const 0) (Const 1) (Offset 2 4) (Offset 1 12)) λ n. exact-repeated n extra_channel exact-channel)) λ extra.
     bind (exact-when told true exact-flag) λ xyb. bind (exact-colours told) λ c. bind (exact-tone more) λ t. bind (exact-when told 0 exact-extensions) λ e.
     bind (exact-matrices xyb) λ u. exact-give (record {
       size = size;
-      display = record { orientation = o + 1; intrinsic = i; preview = p; animation = a };
-      samples = record { depth = d; narrow = n };
-      extra = extra;
-      shown = record { xyb = xyb; colour = c; tone = t; extensions = e };
+      display = record { orientation = o + 1; intrinsic_size = i; preview = p; animation = a };
+      samples = record { bit_depth = d; modular_16bit_buffers = n };
+      ec_info = extra;
+      shown = record { xyb_encoded = xyb; colour_encoding = c; tone_mapping = t; extensions = e };
     })

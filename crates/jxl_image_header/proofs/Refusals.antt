@@ -22,18 +22,18 @@ first_none : (a b : Option Refusal) → option_or a b ≡ None → a ≡ None
 first_none (Some r) b e = cc
 first_none None b e = cc
 
-shifts_low : (cs : List ExtraChannel) → channels_refusal cs ≡ None → All (λ c. c.shift ≤ 3) cs
-shifts_low [] e = All-nil (λ c. c.shift ≤ 3)
+shifts_low : (cs : List ExtraChannel) → channels_refusal cs ≡ None → All (λ c. c.dim_shift ≤ 3) cs
+shifts_low [] e = All-nil (λ c. c.dim_shift ≤ 3)
 shifts_low (c ∷ cs) e =
-    let whole = unless (not (c.depth.exponent_bits == 0)) ExtraFloats _ e in
-    let small = unless (nat_lt 3 c.shift) ExtraSize _ whole.1 in
-    All-cons (λ c. c.shift ≤ 3) c cs (ltb-false 3 c.shift small.0) (shifts_low cs small.1)
+    let whole = unless (not (c.bit_depth.exp_bits == 0)) ExtraFloats _ e in
+    let small = unless (nat_lt 3 c.dim_shift) ExtraSize _ whole.1 in
+    All-cons (λ c. c.dim_shift ≤ 3) c cs (ltb-false 3 c.dim_shift small.0) (shifts_low cs small.1)
 
 -- in an image that is supported the shifts of extra channels are at most 3
-pub low_shifts : (image : Image) → image_refusal image ≡ None → All (λ c. c.shift ≤ 3) image.extra
+pub low_shifts : (image : Image) → image_refusal image ≡ None → All (λ c. c.dim_shift ≤ 3) image.ec_info
 low_shifts image supported =
-    let d = image.samples.depth in
+    let d = image.samples.bit_depth in
     let still = unless (is_some image.display.preview) Preview _ supported in
     let depth = unless (is_some image.display.animation) Animation _ still.1 in
-    let rest = unless (not (d.exponent_bits == 0) && not ((d.exponent_bits == 8) && (d.bits == 32))) FloatDepth _ depth.1 in
-    shifts_low image.extra (first_none (channels_refusal image.extra) _ rest.1)
+    let rest = unless (not (d.exp_bits == 0) && not ((d.exp_bits == 8) && (d.bits_per_sample == 32))) FloatDepth _ depth.1 in
+    shifts_low image.ec_info (first_none (channels_refusal image.ec_info) _ rest.1)

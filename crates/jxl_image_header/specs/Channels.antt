@@ -17,7 +17,7 @@ bit_depth = do
   bits ← either float (u32 (Const 32) (Const 16) (Const 24) (Offset 1 6))
       (checked (codes "bits_per_sample") (λ n. nat_lt n 32) (u32 (Const 8) (Const 10) (Const 12) (Offset 1 6)))
   exponent ← when float (checked (codes "exponent_bits") (fits_float bits) (part (Offset 1 4))) 0
-  give (record { bits = bits; exponent_bits = exponent })
+  give (record { bits_per_sample = bits; exp_bits = exponent })
 
 -- an extra channel, by default alpha of 8 bits: its kind, depth, shift and name; and what its kind has, of alpha whether
 -- colours were multiplied by it, the four numbers of a spot colour, the number of a colour filter's channel
@@ -25,10 +25,10 @@ unfoldable pub extra_channel : Grammar ExtraChannel
 extra_channel = do
   told ← told_if true
   kind ← when told (checked (codes "ExtraChannelType") (λ v. nat_lt v 7 || (v == 15) || (v == 16)) enumerated) 0
-  depth ← when told bit_depth (record { bits = 8; exponent_bits = 0 })
+  depth ← when told bit_depth (record { bits_per_sample = 8; exp_bits = 0 })
   shift ← when told (u32 (Const 0) (Const 3) (Const 4) (Offset 1 3)) 0
   length ← when told name 0
   premultiplied ← when (told && (kind == 0)) flag false
   _ ← when (kind == 2) (skipped 8) tt
   _ ← when (kind == 5) (u32 (Const 1) (Offset 0 2) (Offset 3 4) (Offset 19 8)) 0
-  give (record { kind = kind; depth = depth; shift = shift; name_bytes = length; premultiplied = premultiplied })
+  give (record { kind = kind; bit_depth = depth; dim_shift = shift; name_len = length; alpha_associated = premultiplied })

@@ -56,7 +56,7 @@ colour_encoding there = do
   basis ← basis (listed && not ((space == 1) || (space == 2)))
   transfer ← transfer (listed && not (space == 2))
   intent ← when listed (checked (codes "RenderingIntent") (λ v. nat_lt v 4) enumerated) 1
-  give (record { profile = profile; space = space; white = white; basis = basis; transfer = transfer; intent = intent })
+  give (record { want_icc = profile; colour_space = space; white_point = white; primaries = basis; transfer_function = transfer; rendering_intent = intent })
 
 -- brightness, as floats of 16 bits that are kept as their numbers: by default 255, 0, not relative, 0
 unfoldable pub tone_mapping : Bool → Grammar ToneMapping
@@ -66,4 +66,4 @@ tone_mapping there = do
   least ← when told (number 16) 0
   relative ← when told flag false
   below ← when told (number 16) 0
-  give (record { intensity_target = target; min_nits = least; relative = relative; linear_below = below })
+  give (record { intensity_target = target; min_nits = least; relative_to_max_display = relative; linear_below = below })

@@ -33,12 +33,12 @@ unfoldable pub enumerated : Grammar ℕ
 enumerated = u32 (Const 0) (Const 1) (Offset 2 4) (Offset 18 6)
 
 -- a number that has a meaning, or the error of this name
-abbrev pub meant : List ℕ → Bool → ℕ → Grammar ℕ
-meant name means v = either means (give v) (fail (BadEnum name v))
+abbrev pub number_meant : List ℕ → Bool → ℕ → Grammar ℕ
+number_meant name means v = either means (give v) (fail (BadEnum name v))
 
 -- a number of which this holds, or the error of this name
 abbrev pub checked : List ℕ → (ℕ → Bool) → Grammar ℕ → Grammar ℕ
-checked name holds field = field >>= λ v. meant name (holds v) v
+checked name holds field = field >>= λ v. number_meant name (holds v) v
 
 -- n bytes that are not looked at
 abbrev pub skipped : ℕ → Grammar (Unit {0})

@@ -22,11 +22,11 @@ pub record Image : Type 0 where
   pub size : Size
   pub display : Display
   pub samples : Samples
-  pub extra : List ExtraChannel
+  pub ec_info : List ExtraChannel
   pub shown : Shown
 
 abbrev pub image_of : ImageHeader → Image
-image_of h = record { size = h.size; display = h.display; samples = h.samples; extra = h.extra.items; shown = h.shown }
+image_of h = record { size = h.size; display = h.display; samples = h.samples; ec_info = h.ec_info.items; shown = h.shown }
 
 -- how often pictures change a second, as a fraction; how often all are shown, 0 for ever; whether there are time codes
 unfoldable pub animation : Grammar Animation
@@ -34,7 +34,7 @@ animation = do
   numerator ← u32 (Const 100) (Const 1000) (Offset 1 10) (Offset 1 30)
   denominator ← u32 (Const 1) (Const 1001) (Offset 1 8) (Offset 1 10)
   loops ← u32 (Const 0) (Offset 0 3) (Offset 0 16) (Offset 0 32)
-  give (record { numerator = numerator; denominator = denominator; loops = loops; timecodes = (← flag) })
+  give (record { tps_numerator = numerator; tps_denominator = denominator; num_loops = loops; have_timecodes = (← flag) })
 
 -- what is not looked at: floats of 16 bits, the matrix of XYB of 16, and by a mask weights of upsampling, 15, 55, 210
 unfoldable pub matrices : Bool → Grammar (Unit {0})
@@ -59,7 +59,7 @@ image_header = do
   own ← when more (optional (size false)) None
   preview ← when more (optional (size true)) None
   animation ← when more (optional animation) None
-  depth ← when told bit_depth (record { bits = 8; exponent_bits = 0 })
+  depth ← when told bit_depth (record { bits_per_sample = 8; exp_bits = 0 })
   narrow ← when told flag true
   extra ← when told (u32 (Const 0) (Const 1) (Offset 2 4) (Offset 1 12) >>= λ n. repeated n extra_channel) []
   xyb ← when told flag true
@@ -67,21 +67,21 @@ image_header = do
   tone ← tone_mapping more
   extensions ← when told extensions 0
   _ ← matrices xyb
-  let display : Display = record { orientation = turned + 1; intrinsic = own; preview = preview; animation = animation }
-  let samples : Samples = record { depth = depth; narrow = narrow }
-  let shown : Shown = record { xyb = xyb; colour = colour; tone = tone; extensions = extensions }
-  give (record { size = sides; display = display; samples = samples; extra = extra; shown = shown })
+  let display : Display = record { orientation = turned + 1; intrinsic_size = own; preview = preview; animation = animation }
+  let samples : Samples = record { bit_depth = depth; modular_16bit_buffers = narrow }
+  let shown : Shown = record { xyb_encoded = xyb; colour_encoding = colour; tone_mapping = tone; extensions = extensions }
+  give (record { size = sides; display = display; samples = samples; ec_info = extra; shown = shown })
 
 -- what extra channels have that is not supported, by the first that has something
 abbrev pub channels_refusal : List ExtraChannel → Option Refusal
 channels_refusal [] = None
 channels_refusal (c ∷ cs) =
-    if not (c.depth.exponent_bits == 0) then Some ExtraFloats else if nat_lt 3 c.shift then Some ExtraSize else channels_refusal cs
+    if not (c.bit_depth.exp_bits == 0) then Some ExtraFloats else if nat_lt 3 c.dim_shift then Some ExtraSize else channels_refusal cs
 
 -- what an image has that is not supported, by the first of its fields that says so
 abbrev pub image_refusal : Image → Option Refusal
 image_refusal h =
     if is_some h.display.preview then Some Preview else
     if is_some h.display.animation then Some Animated else
-    if not (h.samples.depth.exponent_bits == 0) && not ((h.samples.depth.exponent_bits == 8) && (h.samples.depth.bits == 32)) then Some FloatDepth else
-    option_or (channels_refusal h.extra) (if h.shown.xyb then Some Xyb else None)
+    if not (h.samples.bit_depth.exp_bits == 0) && not ((h.samples.bit_depth.exp_bits == 8) && (h.samples.bit_depth.bits_per_sample == 32)) then Some FloatDepth else
+    option_or (channels_refusal h.ec_info) (if h.shown.xyb_encoded then Some Xyb else None)

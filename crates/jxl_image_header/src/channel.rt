@@ -14,9 +14,9 @@ use jxlm_bits::bits::{Bitstream, BitstreamError, U32Spec};
 #[derive(Clone, Copy)]
 pub struct BitDepth {
     /// How many bits it has: of whole numbers from 1 to 31, of floats up to 32.
-    pub bits: u32,
+    pub bits_per_sample: u32,
     /// How many of these are a float's exponent, from 2 to 8; 0 for whole numbers.
-    pub exponent_bits: u32,
+    pub exp_bits: u32,
 }
 
 /// What is told of a channel beside the colours.
@@ -26,26 +26,26 @@ pub struct ExtraChannel {
     /// known, 16 something that may be left out.
     pub kind: u32,
     /// How its samples are stored.
-    pub depth: BitDepth,
+    pub bit_depth: BitDepth,
     /// Its sides are those of the picture by 2 to the power of this, rounded up.
-    pub shift: u32,
+    pub dim_shift: u32,
     /// How many bytes its name has.
-    pub name_bytes: u32,
+    pub name_len: u32,
     /// Of alpha, whether colours were multiplied by it.
-    pub premultiplied: bool,
+    pub alpha_associated: bool,
 }
 
 const USUAL_DEPTH: BitDepth = BitDepth {
-    bits: 8,
-    exponent_bits: 0,
+    bits_per_sample: 8,
+    exp_bits: 0,
 };
 
 const USUAL_CHANNEL: ExtraChannel = ExtraChannel {
     kind: 0,
-    depth: USUAL_DEPTH,
-    shift: 0,
-    name_bytes: 0,
-    premultiplied: false,
+    bit_depth: USUAL_DEPTH,
+    dim_shift: 0,
+    name_len: 0,
+    alpha_associated: false,
 };
 
 // How many bits a sample has.
@@ -117,15 +117,15 @@ impl BitDepth {
         let all = sample_bits(bits, float)?;
         let exponent_bits = exponent_bits(bits, float, all)?;
         Ok(BitDepth {
-            bits: all,
-            exponent_bits,
+            bits_per_sample: all,
+            exp_bits: exponent_bits,
         })
     }
 
     // How samples are stored, where that is told.
     pub(crate) fn parse_if(bits: &mut Bitstream<'_>, there: bool) -> Result<BitDepth>
         ensures gives { Reads (λ v. v) result (position_of bits.new)
-            ((when there bit_depth (record { bits = 8; exponent_bits = 0 })).read
+            ((when there bit_depth (record { bits_per_sample = 8; exp_bits = 0 })).read
             (bytes_of bits.old) (position_of bits.old)) }
         ensures bytes { bytes_of bits.new ≡ bytes_of bits.old }
     {
@@ -217,10 +217,10 @@ impl ExtraChannel {
         filter_channel(bits, kind)?;
         Ok(ExtraChannel {
             kind,
-            depth,
-            shift,
-            name_bytes,
-            premultiplied,
+            bit_depth: depth,
+            dim_shift: shift,
+            name_len: name_bytes,
+            alpha_associated: premultiplied,
         })
     }
 }

@@ -57,14 +57,14 @@ pub struct Transfer {
 #[derive(Clone, Copy)]
 pub struct ColourEncoding {
     /// Whether a profile follows the headers, which tells it.
-    pub profile: bool,
+    pub want_icc: bool,
     /// 0 for red, green and blue, 1 for grey, 2 for XYB, 3 for one that the profile alone tells.
-    pub space: u32,
-    pub white: White,
-    pub basis: Basis,
-    pub transfer: Transfer,
+    pub colour_space: u32,
+    pub white_point: White,
+    pub primaries: Basis,
+    pub transfer_function: Transfer,
     /// 0 perceptual, 1 relative, 2 by saturation, 3 absolute.
-    pub intent: u32,
+    pub rendering_intent: u32,
 }
 
 /// What is told of brightness: floats of 16 bits, as the numbers of their bits.
@@ -75,7 +75,7 @@ pub struct ToneMapping {
     /// The brightness of the minimum, in nits.
     pub min_nits: u32,
     /// Whether `linear_below` is a part of the display's maximum.
-    pub relative: bool,
+    pub relative_to_max_display: bool,
     /// Below this brightness nothing is changed.
     pub linear_below: u32,
 }
@@ -322,12 +322,12 @@ impl ColourEncoding {
         let transfer = Transfer::parse(bits, listed & (space != 2))?;
         let intent = intent(bits, listed)?;
         Ok(ColourEncoding {
-            profile,
-            space,
-            white,
-            basis,
-            transfer,
-            intent,
+            want_icc: profile,
+            colour_space: space,
+            white_point: white,
+            primaries: basis,
+            transfer_function: transfer,
+            rendering_intent: intent,
         })
     }
 }
@@ -357,7 +357,7 @@ impl ToneMapping {
         Ok(ToneMapping {
             intensity_target,
             min_nits,
-            relative,
+            relative_to_max_display: relative,
             linear_below,
         })
     }

@@ -24,12 +24,12 @@ use std::alloc::Global;
 #[derive(Clone, Copy)]
 pub struct Animation {
     /// So many units of time, by the denominator, make a second.
-    pub numerator: u32,
-    pub denominator: u32,
+    pub tps_numerator: u32,
+    pub tps_denominator: u32,
     /// How often the pictures are shown, 0 for ever.
-    pub loops: u32,
+    pub num_loops: u32,
     /// Whether frames have time codes.
-    pub timecodes: bool,
+    pub have_timecodes: bool,
 }
 
 /// How the image is to be shown.
@@ -38,7 +38,7 @@ pub struct Display {
     /// From 1, as it is, to 8: mirrored or turned, as Exif numbers it.
     pub orientation: u32,
     /// At which size it is to be shown.
-    pub intrinsic: Option<Size>,
+    pub intrinsic_size: Option<Size>,
     /// The size of a smaller picture that comes first.
     pub preview: Option<Size>,
     /// When its pictures change.
@@ -48,18 +48,18 @@ pub struct Display {
 /// How the samples of colours are stored.
 #[derive(Clone, Copy)]
 pub struct Samples {
-    pub depth: BitDepth,
+    pub bit_depth: BitDepth,
     /// Whether 16 bits are enough for each number while it is decoded.
-    pub narrow: bool,
+    pub modular_16bit_buffers: bool,
 }
 
 /// What samples mean.
 #[derive(Clone, Copy)]
 pub struct Shown {
     /// Whether colours are stored as XYB.
-    pub xyb: bool,
-    pub colour: ColourEncoding,
-    pub tone: ToneMapping,
+    pub xyb_encoded: bool,
+    pub colour_encoding: ColourEncoding,
+    pub tone_mapping: ToneMapping,
     /// A bit for each extension that there is; what they hold is passed.
     pub extensions: u64,
 }
@@ -71,7 +71,7 @@ pub struct ImageHeader {
     pub display: Display,
     pub samples: Samples,
     /// The channels beside the colours.
-    pub extra: Vec<ExtraChannel>,
+    pub ec_info: Vec<ExtraChannel>,
     pub shown: Shown,
 }
 
@@ -126,10 +126,10 @@ impl Animation {
         )?;
         let timecodes = bits.read_bool()?;
         Ok(Animation {
-            numerator,
-            denominator,
-            loops,
-            timecodes,
+            tps_numerator: numerator,
+            tps_denominator: denominator,
+            num_loops: loops,
+            have_timecodes: timecodes,
         })
     }
 
@@ -248,19 +248,19 @@ fn signature(bits: &mut Bitstream<'_>) -> Result<u32>
 
 // Whether a depth is of floats, and not of 32 bits with 8 of exponent.
 fn is_other_float(depth: BitDepth) -> bool
-    ensures { result ≡ not (depth.exponent_bits == 0) && not ((depth.exponent_bits == 8) && (depth.bits == 32)) }
+    ensures { result ≡ not (depth.exp_bits == 0) && not ((depth.exp_bits == 8) && (depth.bits_per_sample == 32)) }
 {
-    depth.exponent_bits != 0 && !(depth.exponent_bits == 8 && depth.bits == 32)
+    depth.exp_bits != 0 && !(depth.exp_bits == 8 && depth.bits_per_sample == 32)
 }
 
 fn channels_refusal(channels: &[ExtraChannel]) -> Option<Refusal>
     ensures { result ≡ the_channels_refusal channels.now }
 {
     for channel in channels {
-        if channel.depth.exponent_bits != 0 {
+        if channel.bit_depth.exp_bits != 0 {
             return Some(Refusal::ExtraFloats);
         }
-        if channel.shift > 3 {
+        if channel.dim_shift > 3 {
             return Some(Refusal::ExtraSize);
         }
     }
@@ -308,16 +308,19 @@ impl ImageHeader {
             size,
             display: Display {
                 orientation,
-                intrinsic,
+                intrinsic_size: intrinsic,
                 preview,
                 animation,
             },
-            samples: Samples { depth, narrow },
-            extra,
+            samples: Samples {
+                bit_depth: depth,
+                modular_16bit_buffers: narrow,
+            },
+            ec_info: extra,
             shown: Shown {
-                xyb,
-                colour,
-                tone,
+                xyb_encoded: xyb,
+                colour_encoding: colour,
+                tone_mapping: tone,
                 extensions,
             },
         })
@@ -331,10 +334,10 @@ impl ImageHeader {
             Some(Refusal::Preview)
         } else if self.display.animation.is_some() {
             Some(Refusal::Animation)
-        } else if is_other_float(self.samples.depth) {
+        } else if is_other_float(self.samples.bit_depth) {
             Some(Refusal::FloatDepth)
         } else {
-            channels_refusal(&self.extra).or(xyb_refusal(self.shown.xyb))
+            channels_refusal(&self.ec_info).or(xyb_refusal(self.shown.xyb_encoded))
         }
     }
 }

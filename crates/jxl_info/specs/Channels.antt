@@ -12,11 +12,11 @@ use Rattle.jxl_info.specs.Names.{kind_name}
 -- how samples are stored
 unfoldable pub depth_text : BitDepth → List ℕ
 depth_text d =
-    decimal d.bits ++ codes "-bit" ++ (if d.exponent_bits == 0 then [] else codes " float (" ++ decimal d.exponent_bits ++ codes " exponent bits)")
+    decimal d.bits_per_sample ++ codes "-bit" ++ (if d.exp_bits == 0 then [] else codes " float (" ++ decimal d.exp_bits ++ codes " exponent bits)")
 
 -- one of them is black
 abbrev pub has_black : Image → Bool
-has_black image = list_any (λ c. c.kind == 4) image.extra
+has_black image = list_any (λ c. c.kind == 4) image.ec_info
 
 -- the kind of colours, with black or alpha
 unfoldable pub colours_name : Image → List ℕ
@@ -37,7 +37,7 @@ kinds_but told [] = []
 kinds_but told (c ∷ cs) = if c.kind == told then kinds cs else codes "+" ++ kind_name c.kind ++ kinds_but told cs
 
 unfoldable pub channels_text : Image → List ℕ
-channels_text image = colours_name image ++ kinds_but (told_kind image) image.extra
+channels_text image = colours_name image ++ kinds_but (told_kind image) image.ec_info
 
 -- its sides are those of the picture by 2 to the power of its shift
 unfoldable pub shift_text : ℕ → List ℕ
@@ -49,8 +49,8 @@ premultiplied_text premultiplied = if premultiplied then codes ", premultiplied"
 
 -- what is told of an extra channel
 unfoldable pub extra_line : ℕ → ExtraChannel → List ℕ
-extra_line number c = line (codes "extra channel " ++ decimal number ++ codes ": " ++ kind_name c.kind ++ codes ", " ++ depth_text c.depth
-    ++ shift_text c.shift ++ premultiplied_text c.premultiplied)
+extra_line number c = line (codes "extra channel " ++ decimal number ++ codes ": " ++ kind_name c.kind ++ codes ", " ++ depth_text c.bit_depth
+    ++ shift_text c.dim_shift ++ premultiplied_text c.alpha_associated)
 
 -- the extra channels, which are numbered from 0
 abbrev pub extra_lines : List ExtraChannel → List ℕ

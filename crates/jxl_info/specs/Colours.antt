@@ -41,15 +41,15 @@ transfer_text t =
 
 -- grey mixes no colours, and XYB has its own white, colours and curve
 unfoldable pub mixed_text : ColourEncoding → List ℕ
-mixed_text c = if c.space == 1 then [] else codes ", " ++ basis_text c.basis
+mixed_text c = if c.colour_space == 1 then [] else codes ", " ++ basis_text c.primaries
 
 unfoldable pub light_text : ColourEncoding → List ℕ
 light_text c =
-    if c.space == 2 then [] else codes ", " ++ white_text c.white ++ mixed_text c ++ codes ", " ++ transfer_text c.transfer ++ codes " transfer function"
+    if c.colour_space == 2 then [] else codes ", " ++ white_text c.white_point ++ mixed_text c ++ codes ", " ++ transfer_text c.transfer_function ++ codes " transfer function"
 
 -- what samples of colours mean, by a profile or else in words
 unfoldable pub meaning_text : ColourEncoding → List ℕ
-meaning_text c = if c.profile then codes ", ICC profile" else light_text c ++ codes ", rendering intent: " ++ intent_name c.intent
+meaning_text c = if c.want_icc then codes ", ICC profile" else light_text c ++ codes ", rendering intent: " ++ intent_name c.rendering_intent
 
 unfoldable pub colour_text : ColourEncoding → List ℕ
-colour_text c = codes "Color space: " ++ space_name c.space ++ meaning_text c
+colour_text c = codes "Color space: " ++ space_name c.colour_space ++ meaning_text c

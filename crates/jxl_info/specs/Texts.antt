@@ -24,12 +24,12 @@ image_kind image = if is_some image.display.animation then codes "animation" els
 
 -- samples that are not XYB may have been coded without loss
 unfoldable pub loss : Image → List ℕ
-loss image = if image.shown.xyb then codes "lossy" else codes "(possibly) lossless"
+loss image = if image.shown.xyb_encoded then codes "lossy" else codes "(possibly) lossless"
 
 -- size, depth and channels
 unfoldable pub image_line : Image → List ℕ
 image_line image = line (codes "JPEG XL " ++ image_kind image ++ codes ", " ++ size_text image.size ++ codes ", " ++ loss image
-    ++ codes ", " ++ depth_text image.samples.depth ++ codes " " ++ channels_text image)
+    ++ codes ", " ++ depth_text image.samples.bit_depth ++ codes " " ++ channels_text image)
 
 -- a smaller picture comes first
 unfoldable pub preview_line : Option Size → List ℕ
@@ -42,8 +42,8 @@ flag_text flag = if flag then codes "1" else codes "0"
 -- when the pictures of an animation change; 0 loops are shown for ever
 unfoldable pub rate_lines : Animation → List ℕ
 rate_lines a =
-    line (codes "ticks per second (numerator / denominator): " ++ decimal a.numerator ++ codes " / " ++ decimal a.denominator)
-    ++ line (codes "num_loops: " ++ decimal a.loops) ++ line (codes "have_timecodes: " ++ flag_text a.timecodes)
+    line (codes "ticks per second (numerator / denominator): " ++ decimal a.tps_numerator ++ codes " / " ++ decimal a.tps_denominator)
+    ++ line (codes "num_loops: " ++ decimal a.num_loops) ++ line (codes "have_timecodes: " ++ flag_text a.have_timecodes)
 
 unfoldable pub animation_lines : Option Animation → List ℕ
 animation_lines (Some a) = rate_lines a
@@ -55,7 +55,7 @@ intrinsic_line (Some size) = line (codes "Intrinsic dimensions: " ++ size_text s
 intrinsic_line None = []
 
 unfoldable pub display_lines : Display → List ℕ
-display_lines d = preview_line d.preview ++ animation_lines d.animation ++ intrinsic_line d.intrinsic
+display_lines d = preview_line d.preview ++ animation_lines d.animation ++ intrinsic_line d.intrinsic_size
     ++ line (codes "Orientation: " ++ decimal d.orientation ++ codes " (" ++ orientation_name d.orientation ++ codes ")")
 
 -- why the picture is not decoded, where that is so
@@ -65,5 +65,5 @@ reason_line None = []
 
 -- what is told of a file whose codestream has this image header, and is not decoded for this reason
 abbrev pub info_text : Bool → Image → Option FrontError → List ℕ
-info_text boxed image reason = container_line boxed ++ image_line image ++ extra_lines image.extra ++ display_lines image.display
-    ++ line (colour_text image.shown.colour) ++ reason_line reason
+info_text boxed image reason = container_line boxed ++ image_line image ++ extra_lines image.ec_info ++ display_lines image.display
+    ++ line (colour_text image.shown.colour_encoding) ++ reason_line reason

@@ -15,7 +15,7 @@ use jxlm_base::grid::OutOfMemory;
 pub fn append_depth(text: &mut String, depth: BitDepth) -> Result<(), OutOfMemory>
     ensures { OnOk result (string_bytes text.new ≡ string_bytes text.old ++ depth_text depth) }
 {
-    let (bits, exponent) = (depth.bits, depth.exponent_bits);
+    let (bits, exponent) = (depth.bits_per_sample, depth.exp_bits);
     write!(text, "{bits}-bit")?;
     if exponent != 0 {
         write!(text, " float ({exponent} exponent bits)")?;
@@ -26,7 +26,7 @@ pub fn append_depth(text: &mut String, depth: BitDepth) -> Result<(), OutOfMemor
 fn has_black(header: &ImageHeader) -> bool
     ensures { result ≡ the_has_black (image_of header.now) }
 {
-    header.extra.iter().any(|channel| channel.kind == 4)
+    header.ec_info.iter().any(|channel| channel.kind == 4)
 }
 
 #[tactic(auto, unfolding(crate::specs::Channels::colours_name))]
@@ -79,7 +79,7 @@ pub fn append_channels(text: &mut String, header: &ImageHeader) -> Result<(), Ou
 {
     let name = colours_name(header);
     write!(text, "{name}")?;
-    append_kinds(text, told_kind(header), &header.extra)
+    append_kinds(text, told_kind(header), &header.ec_info)
 }
 
 #[tactic(auto, unfolding(crate::specs::Channels::shift_text))]
@@ -108,9 +108,9 @@ fn append_extra(text: &mut String, number: usize, channel: &ExtraChannel) -> Res
 {
     let name = kind_name(channel.kind);
     write!(text, "extra channel {number}: {name}, ")?;
-    append_depth(text, channel.depth)?;
-    append_shift(text, channel.shift)?;
-    append_premultiplied(text, channel.premultiplied)?;
+    append_depth(text, channel.bit_depth)?;
+    append_shift(text, channel.dim_shift)?;
+    append_premultiplied(text, channel.alpha_associated)?;
     writeln!(text)?;
     Ok(())
 }

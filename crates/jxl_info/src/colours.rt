@@ -102,9 +102,9 @@ fn append_transfer(text: &mut String, transfer: Transfer) -> Result<(), OutOfMem
 fn append_mixed(text: &mut String, colour: ColourEncoding) -> Result<(), OutOfMemory>
     ensures { OnOk result (string_bytes text.new ≡ string_bytes text.old ++ mixed_text colour) }
 {
-    if colour.space != 1 {
+    if colour.colour_space != 1 {
         write!(text, ", ")?;
-        append_basis(text, colour.basis)?;
+        append_basis(text, colour.primaries)?;
     }
     Ok(())
 }
@@ -113,12 +113,12 @@ fn append_mixed(text: &mut String, colour: ColourEncoding) -> Result<(), OutOfMe
 fn append_light(text: &mut String, colour: ColourEncoding) -> Result<(), OutOfMemory>
     ensures { OnOk result (string_bytes text.new ≡ string_bytes text.old ++ light_text colour) }
 {
-    if colour.space != 2 {
+    if colour.colour_space != 2 {
         write!(text, ", ")?;
-        append_white(text, colour.white)?;
+        append_white(text, colour.white_point)?;
         append_mixed(text, colour)?;
         write!(text, ", ")?;
-        append_transfer(text, colour.transfer)?;
+        append_transfer(text, colour.transfer_function)?;
         write!(text, " transfer function")?;
     }
     Ok(())
@@ -128,10 +128,10 @@ fn append_light(text: &mut String, colour: ColourEncoding) -> Result<(), OutOfMe
 fn append_meaning(text: &mut String, colour: ColourEncoding) -> Result<(), OutOfMemory>
     ensures { OnOk result (string_bytes text.new ≡ string_bytes text.old ++ meaning_text colour) }
 {
-    if colour.profile {
+    if colour.want_icc {
         write!(text, ", ICC profile")?;
     } else {
-        let intent = intent_name(colour.intent);
+        let intent = intent_name(colour.rendering_intent);
         append_light(text, colour)?;
         write!(text, ", rendering intent: {intent}")?;
     }
@@ -143,7 +143,7 @@ fn append_meaning(text: &mut String, colour: ColourEncoding) -> Result<(), OutOf
 pub fn append_colour(text: &mut String, colour: ColourEncoding) -> Result<(), OutOfMemory>
     ensures { OnOk result (string_bytes text.new ≡ string_bytes text.old ++ colour_text colour) }
 {
-    let space = space_name(colour.space);
+    let space = space_name(colour.colour_space);
     write!(text, "Color space: {space}")?;
     append_meaning(text, colour)
 }

@@ -52,7 +52,7 @@ fn image_kind(header: &ImageHeader) -> &'static str
 fn loss(header: &ImageHeader) -> &'static str
     ensures { result.now ≡ the_loss (image_of header.now) }
 {
-    if header.shown.xyb {
+    if header.shown.xyb_encoded {
         "lossy"
     } else {
         "(possibly) lossless"
@@ -67,7 +67,7 @@ fn append_image(text: &mut String, header: &ImageHeader) -> Result<(), OutOfMemo
     write!(text, "JPEG XL {kind}, ")?;
     append_size(text, header.size)?;
     write!(text, ", {loss}, ")?;
-    append_depth(text, header.samples.depth)?;
+    append_depth(text, header.samples.bit_depth)?;
     write!(text, " ")?;
     append_channels(text, header)?;
     writeln!(text)?;
@@ -109,8 +109,8 @@ fn flag_text(flag: bool) -> &'static str
 fn append_rate(text: &mut String, animation: Animation) -> Result<(), OutOfMemory>
     ensures { OnOk result (string_bytes text.new ≡ string_bytes text.old ++ rate_lines animation) }
 {
-    let (ticks, second) = (animation.numerator, animation.denominator);
-    let (loops, timecodes) = (animation.loops, flag_text(animation.timecodes));
+    let (ticks, second) = (animation.tps_numerator, animation.tps_denominator);
+    let (loops, timecodes) = (animation.num_loops, flag_text(animation.have_timecodes));
     writeln!(
         text,
         "ticks per second (numerator / denominator): {ticks} / {second}"
@@ -136,7 +136,7 @@ fn append_display(text: &mut String, display: Display) -> Result<(), OutOfMemory
 {
     append_preview(text, display.preview)?;
     append_animation(text, display.animation)?;
-    append_intrinsic(text, display.intrinsic)?;
+    append_intrinsic(text, display.intrinsic_size)?;
     let orientation = display.orientation;
     let name = orientation_name(orientation);
     writeln!(text, "Orientation: {orientation} ({name})")?;
@@ -175,8 +175,8 @@ pub fn info_text(
     let mut text = String::new(alloc);
     append_container(&mut text, boxed)?;
     append_image(&mut text, header)?;
-    append_extras(&mut text, &header.extra)?;
+    append_extras(&mut text, &header.ec_info)?;
     append_display(&mut text, header.display)?;
-    append_end(&mut text, header.shown.colour, reason)?;
+    append_end(&mut text, header.shown.colour_encoding, reason)?;
     Ok(text)
 }

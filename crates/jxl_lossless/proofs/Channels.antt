@@ -28,7 +28,7 @@ use Rattle.jxl_lossless.specs.Frames.{channel_in, channels_given}
 use Rattle.jxl_lossless.specs.Inner.Given.{in_file, of_file}
 
 abbrev extra_in : ℕ → ℕ → ExtraChannel → ModularChannelParams
-extra_in w h c = in_file w h c.shift
+extra_in w h c = in_file w h c.dim_shift
 
 -- they are of one picture
 same_picture : (w h a b : ℕ) → is_of_picture_of (image_channel (in_file w h a)) (image_channel (in_file w h b)) ≡ true
@@ -36,7 +36,7 @@ same_picture w h a b = grind (arith, nat_tests)
 
 extras_alike : (w h a : ℕ) (cs : List ExtraChannel) → list_all (is_of_picture_of (image_channel (in_file w h a))) (map image_channel (map (extra_in w h) cs)) ≡ true
 extras_alike w h a [] = refl
-extras_alike w h a (c ∷ cs) = rw (same_picture w h a c.shift, extras_alike w h a cs) refl
+extras_alike w h a (c ∷ cs) = rw (same_picture w h a c.dim_shift, extras_alike w h a cs) refl
 
 all_alike : (n w h a : ℕ) (cs : List ExtraChannel) → list_all (is_of_picture_of (image_channel (in_file w h a))) (map image_channel (of_file n cs w h)) ≡ true
 all_alike zero w h a cs = extras_alike w h a cs
@@ -44,7 +44,7 @@ all_alike (suc n) w h a cs = rw (same_picture w h a 0, all_alike n w h a cs) ref
 
 alike_of : (n w h : ℕ) (cs : List ExtraChannel) → one_picture (map image_channel (of_file n cs w h)) ≡ true
 alike_of zero w h [] = refl
-alike_of zero w h (c ∷ cs) = extras_alike w h c.shift cs
+alike_of zero w h (c ∷ cs) = extras_alike w h c.dim_shift cs
 alike_of (suc n) w h cs = all_alike n w h 0 cs
 
 pub alike : (n w h : ℕ) (cs : List ExtraChannel) (list : List ModularChannelParams) → list ≡ of_file n cs w h → one_picture (image_list list).channels ≡ true
@@ -55,13 +55,13 @@ valid_colours : (n w h : ℕ) → IsSide w → IsSide h → All IsValidChannel (
 valid_colours zero w h wide high = All-nil IsValidChannel
 valid_colours (suc n) w h wide high = All-cons IsValidChannel (in_file w h 0) (replicate n (in_file w h 0)) (wide, high, omega arith) (valid_colours n w h wide high)
 
-valid_extra : (w h : ℕ) (cs : List ExtraChannel) → IsSide w → IsSide h → All (λ c. c.shift ≤ 3) cs → All IsValidChannel (map (extra_in w h) cs)
+valid_extra : (w h : ℕ) (cs : List ExtraChannel) → IsSide w → IsSide h → All (λ c. c.dim_shift ≤ 3) cs → All IsValidChannel (map (extra_in w h) cs)
 valid_extra w h [] wide high low = All-nil IsValidChannel
 valid_extra w h (c ∷ cs) wide high low =
-    let first : c.shift ≤ 3 = All-head (λ (c : ExtraChannel). c.shift ≤ 3) c cs low in
-    All-cons IsValidChannel (extra_in w h c) (map (extra_in w h) cs) (wide, high, omega (arith, first)) (valid_extra w h cs wide high (All-tail (λ (c : ExtraChannel). c.shift ≤ 3) c cs low))
+    let first : c.dim_shift ≤ 3 = All-head (λ (c : ExtraChannel). c.dim_shift ≤ 3) c cs low in
+    All-cons IsValidChannel (extra_in w h c) (map (extra_in w h) cs) (wide, high, omega (arith, first)) (valid_extra w h cs wide high (All-tail (λ (c : ExtraChannel). c.dim_shift ≤ 3) c cs low))
 
-pub valid : (n w h : ℕ) (cs : List ExtraChannel) → IsSide w → IsSide h → All (λ c. c.shift ≤ 3) cs → All IsValidChannel (of_file n cs w h)
+pub valid : (n w h : ℕ) (cs : List ExtraChannel) → IsSide w → IsSide h → All (λ c. c.dim_shift ≤ 3) cs → All IsValidChannel (of_file n cs w h)
 valid n w h cs wide high low =
     All-append IsValidChannel (replicate n (in_file w h 0)) (map (extra_in w h) cs) (valid_colours n w h wide high) (valid_extra w h cs wide high low)
 
@@ -69,7 +69,7 @@ count_of : (n w h : ℕ) (cs : List ExtraChannel) → length (of_file n cs w h) 
 count_of n w h cs =
     length-append (replicate n (in_file w h 0)) (map (extra_in w h) cs) ∙ ap (λ k. k + length (map (extra_in w h) cs)) (length-replicate n (in_file w h 0)) ∙ ap (λ k. n + k) (length-map cs (extra_in w h))
 
-pub valid_params : {D : Type 0} (p : ModularParams D) (n w h : ℕ) (cs : List ExtraChannel) → p.channels.items ≡ of_file n cs w h → n + length cs ≤ 2 ^ 20 → IsSide w → IsSide h → All (λ c. c.shift ≤ 3) cs →
+pub valid_params : {D : Type 0} (p : ModularParams D) (n w h : ℕ) (cs : List ExtraChannel) → p.channels.items ≡ of_file n cs w h → n + length cs ≤ 2 ^ 20 → IsSide w → IsSide h → All (λ c. c.dim_shift ≤ 3) cs →
     IsGroupDim p.group_dim → p.bit_depth ≤ 32 → IsValidParams p
 valid_params p n w h cs is many wide high low dim deep = record {
   group_dim = dim;
@@ -96,19 +96,19 @@ halved_by size s h = record (channel_in size s) { hshift = h; vshift = h }
 one_given : (size : Size) (s : ℕ) → s ≤ 3 → image_channel (in_file size.width size.height s) ≡ channel_in size s
 one_given size s low = ap (halved_by size s) (low_cast s low)
 
-all_given : (size : Size) (n : ℕ) (cs : List ExtraChannel) → All (λ c. c.shift ≤ 3) cs →
-    map image_channel (of_file n cs size.width size.height) ≡ map (channel_in size) (replicate n 0 ++ map (λ (c : ExtraChannel). c.shift) cs)
+all_given : (size : Size) (n : ℕ) (cs : List ExtraChannel) → All (λ c. c.dim_shift ≤ 3) cs →
+    map image_channel (of_file n cs size.width size.height) ≡ map (channel_in size) (replicate n 0 ++ map (λ (c : ExtraChannel). c.dim_shift) cs)
 all_given size zero [] low = refl
 all_given size zero (c ∷ cs) low =
-    let first : c.shift ≤ 3 = All-head (λ (c : ExtraChannel). c.shift ≤ 3) c cs low in
-    ap (λ (x : Channel). x ∷ map image_channel (of_file 0 cs size.width size.height)) (one_given size c.shift first)
-    ∙ ap (λ (xs : List Channel). channel_in size c.shift ∷ xs) (all_given size zero cs (All-tail (λ (c : ExtraChannel). c.shift ≤ 3) c cs low))
+    let first : c.dim_shift ≤ 3 = All-head (λ (c : ExtraChannel). c.dim_shift ≤ 3) c cs low in
+    ap (λ (x : Channel). x ∷ map image_channel (of_file 0 cs size.width size.height)) (one_given size c.dim_shift first)
+    ∙ ap (λ (xs : List Channel). channel_in size c.dim_shift ∷ xs) (all_given size zero cs (All-tail (λ (c : ExtraChannel). c.dim_shift ≤ 3) c cs low))
 all_given size (suc n) cs low =
     ap (λ (x : Channel). x ∷ map image_channel (of_file n cs size.width size.height)) (one_given size 0 (omega arith))
     ∙ ap (λ (xs : List Channel). channel_in size 0 ∷ xs) (all_given size n cs low)
 
-pub are_given : (image : Image) (size : Size) (list : List ModularChannelParams) → All (λ c. c.shift ≤ 3) image.extra → list ≡ of_file (colour_count image) image.extra size.width size.height → image_list list ≡ channels_given image size
-are_given image size list low is = ap image_list is ∙ ap {B = ChannelList} (λ (cs : List Channel). record { channels = cs; nb_meta = 0 }) (all_given size (colour_count image) image.extra low)
+pub are_given : (image : Image) (size : Size) (list : List ModularChannelParams) → All (λ c. c.dim_shift ≤ 3) image.ec_info → list ≡ of_file (colour_count image) image.ec_info size.width size.height → image_list list ≡ channels_given image size
+are_given image size list low is = ap image_list is ∙ ap {B = ChannelList} (λ (cs : List Channel). record { channels = cs; nb_meta = 0 }) (all_given size (colour_count image) image.ec_info low)
 
 -- grids of their sides are all channels of a frame
 zip_sides : (size : Size) (ss : List ℕ) (gs : List (Grid ℤ)) → AreGridsOf (map (channel_in size) ss) gs → AllZip (HasShift size) ss gs
@@ -122,8 +122,8 @@ are_channels image size grids s = zip_sides size (shifts_of image) grids s
 
 count_shifts : (image : Image) → length (shifts_of image) ≡ channel_count image
 count_shifts image =
-    let rest = map (λ (c : ExtraChannel). c.shift) image.extra in
-    length-append (replicate (colour_count image) 0) rest ∙ ap (λ k. k + length rest) (length-replicate (colour_count image) 0) ∙ ap (λ k. colour_count image + k) (length-map image.extra (λ (c : ExtraChannel). c.shift))
+    let rest = map (λ (c : ExtraChannel). c.dim_shift) image.ec_info in
+    length-append (replicate (colour_count image) 0) rest ∙ ap (λ k. k + length rest) (length-replicate (colour_count image) 0) ∙ ap (λ k. colour_count image + k) (length-map image.ec_info (λ (c : ExtraChannel). c.dim_shift))
 
 -- where no extra channel has a size of its own, all have one size
 or_false : (a b : Bool) → (a || b) ≡ false → (a ≡ false) × (b ≡ false)
@@ -135,20 +135,20 @@ not_false true e = refl
 not_false false e = cc
 
 abbrev some_shifted : List ExtraChannel → Bool
-some_shifted cs = list_any (λ c. not (c.shift == 0)) cs
+some_shifted cs = list_any (λ c. not (c.dim_shift == 0)) cs
 
-unshifted : (c : ExtraChannel) → not (c.shift == 0) ≡ false → c.shift ≡ 0
-unshifted c e = eqb-true c.shift 0 (not_false (c.shift == 0) e)
+unshifted : (c : ExtraChannel) → not (c.dim_shift == 0) ≡ false → c.dim_shift ≡ 0
+unshifted c e = eqb-true c.dim_shift 0 (not_false (c.dim_shift == 0) e)
 
 abbrev IsNone : ℕ → Type 0
 IsNone s = s ≡ 0
 
-none_halved : (n : ℕ) (cs : List ExtraChannel) → some_shifted cs ≡ false → All IsNone (replicate n 0 ++ map (λ (c : ExtraChannel). c.shift) cs)
+none_halved : (n : ℕ) (cs : List ExtraChannel) → some_shifted cs ≡ false → All IsNone (replicate n 0 ++ map (λ (c : ExtraChannel). c.dim_shift) cs)
 none_halved zero [] none = All-nil IsNone
 none_halved zero (c ∷ cs) none =
-    let parts = or_false (not (c.shift == 0)) (some_shifted cs) none in
-    All-cons IsNone c.shift (map (λ (c : ExtraChannel). c.shift) cs) (unshifted c parts.0) (none_halved zero cs parts.1)
-none_halved (suc n) cs none = All-cons IsNone 0 (replicate n 0 ++ map (λ (c : ExtraChannel). c.shift) cs) refl (none_halved n cs none)
+    let parts = or_false (not (c.dim_shift == 0)) (some_shifted cs) none in
+    All-cons IsNone c.dim_shift (map (λ (c : ExtraChannel). c.dim_shift) cs) (unshifted c parts.0) (none_halved zero cs parts.1)
+none_halved (suc n) cs none = All-cons IsNone 0 (replicate n 0 ++ map (λ (c : ExtraChannel). c.dim_shift) cs) refl (none_halved n cs none)
 
 abbrev Sides : Size → Grid ℤ → Type 0
 Sides size g = (g.width ≡ size.width) × (g.height ≡ size.height)
@@ -181,7 +181,7 @@ none_shifted false shifts is e = cc
 
 pub one_size : (image : Image) (size : Size) (grids : List (Grid ℤ)) → has_shifts image ≡ false → AreChannels image size grids → AreOfSize (channel_count image) size grids
 one_size image size grids none are =
-    let all = all_full size (shifts_of image) grids (none_halved (colour_count image) image.extra none) are in
+    let all = all_full size (shifts_of image) grids (none_halved (colour_count image) image.ec_info none) are in
     record {
       count = zip_length (HasShift size) (shifts_of image) grids are ∙ count_shifts image;
       sides = record {
@@ -193,7 +193,7 @@ one_size image size grids none are =
 pub of_one_size : (image : Image) (size : Size) (grids : List (Grid ℤ)) → has_shifts image ≡ false → AreOfSize (channel_count image) size grids → AreChannels image size grids
 of_one_size image size grids none are =
     let all = All-from_get_or (Sides size) grids (grid 0 0 []) (λ c lt. (are.sides.width c lt, are.sides.height c lt)) in
-    of_full size (shifts_of image) grids (none_halved (colour_count image) image.extra none) (are.count ∙ sym (count_shifts image)) all
+    of_full size (shifts_of image) grids (none_halved (colour_count image) image.ec_info none) (are.count ∙ sym (count_shifts image)) all
 
 -- so many channels have a frame
 pub count_channels : (image : Image) (size : Size) (grids : List (Grid ℤ)) → AreChannels image size grids → length grids ≡ channel_count image

@@ -36,7 +36,7 @@ module _ {D : Type 0} (d : Meaning D) (image : Image) (slots : Slots) (frame : F
   -- patches were read, and what comes after them has this error
   pub made_fails : (patches : Option Patches) (begin : ℕ) → BeginsWith d image slots frame first patches begin → (e : FileError) →
       CodedFails {S = ℤ} d w32 (λ (v : ℤ). v) (pos 0) image (frame_size image.size frame) frame.group_dim first begin places e → MadeFails d image slots frame first places e
-  made_fails patches begin stands errors.NoMemory h = tt
+  made_fails patches begin stands errors.OutOfMemory h = tt
   made_fails patches begin stands (errors.Start e) h = record { patches = patches; begin = begin; dictionary = stands; fails = h }
   made_fails patches begin stands (errors.Tree e) h = record { patches = patches; begin = begin; dictionary = stands; fails = h }
   made_fails patches begin stands (errors.Samples e) h = record { patches = patches; begin = begin; dictionary = stands; fails = h }
@@ -44,17 +44,17 @@ module _ {D : Type 0} (d : Meaning D) (image : Image) (slots : Slots) (frame : F
   made_fails patches begin stands (errors.File e) h = absurd h
   made_fails patches begin stands (errors.Front e) h = absurd h
 
-  module _ (size : Size) (extra : ℕ) (sizes : List (Option Size)) (bytes : List ℕ) (p q : ℕ) (is_size : size ≡ frame_size image.size frame) (is_extra : extra ≡ length image.extra)
+  module _ (size : Size) (extra : ℕ) (sizes : List (Option Size)) (bytes : List ℕ) (p q : ℕ) (is_size : size ≡ frame_size image.size frame) (is_extra : extra ≡ length image.ec_info)
       (are : sizes ≡ slots.sizes) (lies : bytes ≡ first) (start : p ≡ 0) where
     -- what was read is what stands at the begin of the first section
     read_there : (optional_patches d frame.coding.flags.patches size extra sizes).read bytes p ≡
-        (optional_patches d frame.coding.flags.patches (frame_size image.size frame) (length image.extra) slots.sizes).read first 0
+        (optional_patches d frame.coding.flags.patches (frame_size image.size frame) (length image.ec_info) slots.sizes).read first 0
     read_there =
         ap (λ (z : Size). (optional_patches d frame.coding.flags.patches z extra sizes).read bytes p) is_size
         ∙ ap (λ n. (optional_patches d frame.coding.flags.patches (frame_size image.size frame) n sizes).read bytes p) is_extra
-        ∙ ap (λ (zs : List (Option Size)). (optional_patches d frame.coding.flags.patches (frame_size image.size frame) (length image.extra) zs).read bytes p) are
-        ∙ ap (λ (b : List ℕ). (optional_patches d frame.coding.flags.patches (frame_size image.size frame) (length image.extra) slots.sizes).read b p) lies
-        ∙ ap (λ n. (optional_patches d frame.coding.flags.patches (frame_size image.size frame) (length image.extra) slots.sizes).read first n) start
+        ∙ ap (λ (zs : List (Option Size)). (optional_patches d frame.coding.flags.patches (frame_size image.size frame) (length image.ec_info) zs).read bytes p) are
+        ∙ ap (λ (b : List ℕ). (optional_patches d frame.coding.flags.patches (frame_size image.size frame) (length image.ec_info) slots.sizes).read b p) lies
+        ∙ ap (λ n. (optional_patches d frame.coding.flags.patches (frame_size image.size frame) (length image.ec_info) slots.sizes).read first n) start
 
     pub begins : (patches : Option Patches) → (optional_patches d frame.coding.flags.patches size extra sizes).read bytes p ≡ Ok (record { value = patches; position = q }) →
         BeginsWith d image slots frame first patches q
@@ -81,20 +81,20 @@ module _ {D : Type 0} (d : Meaning D) (image : Image) (slots : Slots) (bytes : L
   its = section_of (layout_in image frame.header) (sections_in bytes frame)
 
   abbrev Still : Option (Config D) → ℕ → List Pass → (SectionPart → Option (List ℕ × ℕ)) → List (Grid ℤ) → ℕ → ℕ → Type 0
-  Still global begin ps f = IsStill {S = ℤ} d w32 (λ (v : ℤ). v) (pos 0) global (channels_given image size) frame.header.group_dim image.samples.depth.bits first begin ps f
+  Still global begin ps f = IsStill {S = ℤ} d w32 (λ (v : ℤ). v) (pos 0) global (channels_given image size) frame.header.group_dim image.samples.bit_depth.bits_per_sample first begin ps f
 
   abbrev Fails : Option (Config D) → ℕ → List Pass → (SectionPart → Option (List ℕ × ℕ)) → FrameError → Type 0
-  Fails global begin ps f = StillFails {S = ℤ} d w32 (λ (v : ℤ). v) (pos 0) global (channels_given image size) frame.header.group_dim image.samples.depth.bits first begin ps f
+  Fails global begin ps f = StillFails {S = ℤ} d w32 (λ (v : ℤ). v) (pos 0) global (channels_given image size) frame.header.group_dim image.samples.bit_depth.bits_per_sample first begin ps f
 
   -- the places are those of the frame
   still_of : (global : Option (Config D)) (begin : ℕ) (grids : List (Grid ℤ)) (before after : ℕ) → Still global begin (own_passes places) (section_at places) grids before after → Still global begin told its grids before after
   still_of global begin grids before after s =
-      still_too d w32 (λ (v : ℤ). v) (pos 0) global (channels_given image size) frame.header.group_dim image.samples.depth.bits first begin told (section_at places) its alike grids before after
+      still_too d w32 (λ (v : ℤ). v) (pos 0) global (channels_given image size) frame.header.group_dim image.samples.bit_depth.bits_per_sample first begin told (section_at places) its alike grids before after
       (subst (λ (ps : List Pass). Still global begin ps (section_at places) grids before after) (ap passes_of passes) s)
 
   fails_of : (global : Option (Config D)) (begin : ℕ) (e : FrameError) → Fails global begin (own_passes places) (section_at places) e → Fails global begin told its e
   fails_of global begin e s =
-      fails_too d w32 (λ (v : ℤ). v) (pos 0) global (channels_given image size) frame.header.group_dim image.samples.depth.bits first begin told (section_at places) its alike e
+      fails_too d w32 (λ (v : ℤ). v) (pos 0) global (channels_given image size) frame.header.group_dim image.samples.bit_depth.bits_per_sample first begin told (section_at places) its alike e
       (subst (λ (ps : List Pass). Fails global begin ps (section_at places) e) (ap passes_of passes) s)
 
   abbrev has_patches : (patches : Option Patches) (begin : ℕ) → BeginsWith d image slots frame.header first patches begin → HasPatches d image slots bytes frame
@@ -116,7 +116,7 @@ module _ {D : Type 0} (d : Meaning D) (image : Image) (slots : Slots) (bytes : L
   framed grids before after (Err e) h = tt
 
   bad : (e : FileError) → MadeFails d image slots frame.header first places e → FrameFails d image slots bytes frame e
-  bad errors.NoMemory h = tt
+  bad errors.OutOfMemory h = tt
   bad (errors.Patches e) h = h
   bad (errors.Start e) h = (has_patches h.patches h.begin h.dictionary, h.fails)
   bad (errors.Tree e) h = (has_patches h.patches h.begin h.dictionary, h.fails)

@@ -46,27 +46,27 @@ module _ (x : Passes) where
   ]
 
   -- after the last pass all are
-  last : (n : ℕ) → x.count ≡ n → 0 < n → least_shift x n ≡ 0
+  last : (n : ℕ) → x.num_passes ≡ n → 0 < n → least_shift x n ≡ 0
   last zero is some = absurd (omega (arith, some))
   last (suc n) is some =
-      let same : (suc n == x.count) ≡ true = eq-eqb (suc n) x.count (sym is) in
+      let same : (suc n == x.num_passes) ≡ true = eq-eqb (suc n) x.num_passes (sym is) in
       rw same refl
 
-  each : 0 < x.count → (m : ℕ) → m < 3 → list_any (holds (pos m)) (ranges 0 x.count) ≡ true
+  each : 0 < x.num_passes → (m : ℕ) → m < 3 → list_any (holds (pos m)) (ranges 0 x.num_passes) ≡ true
   each some m lt =
-      let same : x.count ≡ 0 + x.count = omega arith in
-      let none : least_shift x x.count ≡ 0 = last x.count refl some in
-      held m 0 x.count lt (subst (λ k. least_shift x k ≤ m) same (omega (arith, none)))
+      let same : x.num_passes ≡ 0 + x.num_passes = omega arith in
+      let none : least_shift x x.num_passes ≡ 0 = last x.num_passes refl some in
+      held m 0 x.num_passes lt (subst (λ k. least_shift x k ≤ m) same (omega (arith, none)))
 
-  some_passes : 0 < x.count → not (length (ranges 0 x.count) == 0) ≡ true
+  some_passes : 0 < x.num_passes → not (length (ranges 0 x.num_passes) == 0) ≡ true
   some_passes some =
-      let n : length (ranges 0 x.count) ≡ x.count = length-map _ _ ∙ length-map (range_with_len 0 x.count) _ ∙ length-range_with_len 0 x.count in
-      ap not (ne_eqb (length (ranges 0 x.count)) 0 (λ e. omega (arith, n, e, some)))
+      let n : length (ranges 0 x.num_passes) ≡ x.num_passes = length-map _ _ ∙ length-map (range_with_len 0 x.num_passes) _ ∙ length-range_with_len 0 x.num_passes in
+      ap not (ne_eqb (length (ranges 0 x.num_passes)) 0 (λ e. omega (arith, n, e, some)))
 
-pub can_be_cut : (x : Passes) → IsPassCount x.count → (entries : List (ℕ × (ℤ × ℤ))) → entries ≡ shifts_held x → can_group (ranges_of entries) [] ≡ true
+pub can_be_cut : (x : Passes) → IsPassCount x.num_passes → (entries : List (ℕ × (ℤ × ℤ))) → entries ≡ shifts_held x → can_group (ranges_of entries) [] ≡ true
 can_be_cut x count entries are =
     subst (λ (es : List (ℕ × (ℤ × ℤ))). can_group (ranges_of es) [] ≡ true) (sym are)
-    (all_four (not (length (ranges x 0 x.count) == 0)) (list_all (λ p. nat_le p.number 255) (ranges x 0 x.count)) (list_any (holds (pos 0)) (ranges x 0 x.count)) (list_any (holds (pos 1)) (ranges x 0 x.count)) (list_any (holds (pos 2)) (ranges x 0 x.count))
-    (some_passes x count.some) (all_small x 0 x.count (let few = count.few in omega (arith, few))) (each x count.some 0 (omega arith)) (each x count.some 1 (omega arith)) (each x count.some 2 (omega arith))) where
+    (all_four (not (length (ranges x 0 x.num_passes) == 0)) (list_all (λ p. nat_le p.number 255) (ranges x 0 x.num_passes)) (list_any (holds (pos 0)) (ranges x 0 x.num_passes)) (list_any (holds (pos 1)) (ranges x 0 x.num_passes)) (list_any (holds (pos 2)) (ranges x 0 x.num_passes))
+    (some_passes x count.some) (all_small x 0 x.num_passes (let few = count.few in omega (arith, few))) (each x count.some 0 (omega arith)) (each x count.some 1 (omega arith)) (each x count.some 2 (omega arith))) where
       all_four : (a b c d e : Bool) → a ≡ true → b ≡ true → c ≡ true → d ≡ true → e ≡ true → (true && a && b && (c && d && e)) ≡ true
       all_four a b c d e p q r s t = rw (p, q, r, s, t) refl

@@ -35,7 +35,7 @@ module _ {D : Type 0} (d : Meaning D) (bytes : List ℕ) (image : Image) where
       AreSaved d bytes image decoded no_slots slots before after → FrameFails d image slots bytes f e → FramesFail d bytes image frames e
   first_bad frames decoded others f slots before after e are saved fails = by e fails where
     by : (e : FileError) → FrameFails d image slots bytes f e → FramesFail d bytes image frames e
-    by errors.NoMemory h = tt
+    by errors.OutOfMemory h = tt
     by (errors.Patches e) h = (decoded, f, others, are, slots, before, after, saved, h)
     by (errors.Start e) h = (decoded, f, others, are, slots, before, after, saved, h)
     by (errors.Tree e) h = (decoded, f, others, are, slots, before, after, saved, h)

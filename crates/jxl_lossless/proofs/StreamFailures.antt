@@ -20,7 +20,7 @@ module _ (limits : Limits) (bytes : List ℕ) (image : Image) (saved : List Fram
 
   -- what is wrong with a frame is wrong with the codestream
   pub stream_fails : (e : FileError) → FramesFail (entropy decoder_at) bytes image (saved ++ shown ∷ []) e → StreamFails limits bytes e
-  stream_fails errors.NoMemory h = (stands, h)
+  stream_fails errors.OutOfMemory h = (stands, h)
   stream_fails (errors.Patches e) h = (stands, h)
   stream_fails (errors.Start e) h = (stands, h)
   stream_fails (errors.Tree e) h = (stands, h)
@@ -38,7 +38,7 @@ module _ (limits : Limits) (file stream : List ℕ) (found : HasCodestream file 
   of_file before after (Err e) h = tt
 
   fails : (e : FileError) → StreamFails limits stream e → FileFails limits file e
-  fails errors.NoMemory h = (front h.0, h.1)
+  fails errors.OutOfMemory h = (front h.0, h.1)
   fails (errors.Patches e) h = (front h.0, h.1)
   fails (errors.Start e) h = (front h.0, h.1)
   fails (errors.Tree e) h = (front h.0, h.1)

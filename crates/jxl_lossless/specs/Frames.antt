@@ -72,7 +72,7 @@ module _ {D : Type 0} (d : Meaning D) (image : Image) (slots : Slots) (bytes : L
 
   -- what its first section begins with: patches of the frames that the slots hold, or none
   abbrev pub dictionary : Grammar (Option Patches)
-  dictionary = optional_patches d frame.header.coding.flags.patches sides (length image.extra) slots.sizes
+  dictionary = optional_patches d frame.header.coding.flags.patches sides (length image.ec_info) slots.sizes
 
   -- They stand there,
   pub record HasPatches : Type 0 where
@@ -91,7 +91,7 @@ module _ {D : Type 0} (d : Meaning D) (image : Image) (slots : Slots) (bytes : L
   pub record IsFrame (grids : List (Grid ℤ)) (before after : ℕ) : Type 0 where
     pub tree : HasTree
     pub own : List (Grid ℤ)
-    pub still : IsStill d w32 (λ (v : ℤ). v) (pos 0) tree.global (channels_given image sides) frame.header.group_dim image.samples.depth.bits
+    pub still : IsStill d w32 (λ (v : ℤ). v) (pos 0) tree.global (channels_given image sides) frame.header.group_dim image.samples.bit_depth.bits_per_sample
         first tree.begin (passes_of (shifts_held frame.header.passes)) (section_of (layout_in image frame.header) (sections_in bytes frame)) own before after
     pub put : ArePut slots (colour_count image) tree.after.patches own grids
 
@@ -101,6 +101,6 @@ module _ {D : Type 0} (d : Meaning D) (image : Image) (slots : Slots) (bytes : L
   FrameFails (errors.Start e) = (s : HasPatches) × FailsAt section_start first s.begin (kind_of e)
   FrameFails (errors.Tree e) = (s : HasPatches) × UnlessMemory (kind_of e) (TreeFails d sides (channel_count image) first s.begin (kind_of e))
   FrameFails (errors.Samples e) = (s : HasTree) × StillFails {S = ℤ} d w32 (λ (v : ℤ). v) (pos 0) s.global (channels_given image sides) frame.header.group_dim
-      image.samples.depth.bits first s.begin (passes_of (shifts_held frame.header.passes)) (section_of (layout_in image frame.header) (sections_in bytes frame)) e
-  FrameFails errors.NoMemory = Unit {0}
+      image.samples.bit_depth.bits_per_sample first s.begin (passes_of (shifts_held frame.header.passes)) (section_of (layout_in image frame.header) (sections_in bytes frame)) e
+  FrameFails errors.OutOfMemory = Unit {0}
   FrameFails e = ⊥

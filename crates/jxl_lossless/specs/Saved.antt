@@ -33,6 +33,6 @@ module _ {D : Type 0} (d : Meaning D) (bytes : List ℕ) (image : Image) where
 
   -- what each error says of the frames of a codestream: those before one are decoded, which has this error
   abbrev pub FramesFail : List FrameAt → FileError → Type 0
-  FramesFail frames errors.NoMemory = Unit {0}
+  FramesFail frames errors.OutOfMemory = Unit {0}
   FramesFail frames e = (decoded : List FrameAt) × (frame : FrameAt) × (others : List FrameAt) × (frames ≡ decoded ++ frame ∷ others)
       × (slots : Slots) × (before : ℕ) × (after : ℕ) × AreSaved decoded no_slots slots before after × FrameFails d image slots bytes frame e

@@ -33,15 +33,15 @@ pub enum FileError {
     Samples(FrameError),
     /// Out of memory.
     #[error("out of memory")]
-    NoMemory,
+    OutOfMemory,
 }
 
 impl From<OutOfMemory> for FileError {
-    ghost use Rattle.jxl_lossless.specs.declared.error.FileError.TheVariants.{NoMemory};
+    ghost use Rattle.jxl_lossless.specs.declared.error.FileError.TheVariants.{OutOfMemory};
 
-    ghost from_gives = { λ _ e. e ≡ NoMemory };
+    ghost from_gives = { λ _ e. e ≡ OutOfMemory };
 
     fn from(_error: OutOfMemory) -> FileError {
-        FileError::NoMemory
+        FileError::OutOfMemory
     }
 }

@@ -65,7 +65,7 @@ fn channel_list(
     let colour = channel_of(size, 0);
     let mut list = vec![in alloc; colour; colours]?;
     for channel in extra {
-        list.push(channel_of(size, channel.shift))?;
+        list.push(channel_of(size, channel.dim_shift))?;
     }
     Ok(list)
 }
@@ -77,9 +77,9 @@ fn channels_of(
     size: Size,
 ) -> Result<Vec<ModularChannelParams>, OutOfMemory>
     ensures list { IfOk result (λ v. v.items
-        ≡ of_file (colour_count (image_of image.now)) image.now.extra.items size.width size.height) }
+        ≡ of_file (colour_count (image_of image.now)) image.now.ec_info.items size.width size.height) }
 {
-    channel_list(alloc, size, colours(image), &image.extra)
+    channel_list(alloc, size, colours(image), &image.ec_info)
 }
 
 // The image of a frame of this size, by its first section, from the reader's position on, and those of its groups.
@@ -95,7 +95,7 @@ fn decode_coded<'a, S: Sample, D: Decoder, P: Progress>(
 ) -> Result<ModularImageDestination<S, D>, FileError>
     requires wide { size.width ≤ 2 ^ 30 }
     requires high { size.height ≤ 2 ^ 30 }
-    requires deep { image.now.samples.depth.bits ≤ 32 }
+    requires deep { image.now.samples.bit_depth.bits_per_sample ≤ 32 }
     requires many { channel_count (image_of image.now) ≤ 2 ^ 20 }
     requires low { HasLowShifts (image_of image.now) }
     requires dim { IsGroupDim group_dim }
@@ -108,10 +108,10 @@ fn decode_coded<'a, S: Sample, D: Decoder, P: Progress>(
     ensures err { IfErr result (CodedFails D.meaning S.width S.to_int (S.from_int (pos 0)) (image_of image.now) size
         group_dim (bytes_of bits.entry) (position_of bits.entry) places.entry) }
 {
-    let channels = colours(image) + image.extra.len();
+    let channels = colours(image) + image.ec_info.len();
     let tree = shared_tree::<D>(alloc, &mut bits, size, channels)?;
     let list = channels_of(alloc, image, size)?;
-    let depth = image.samples.depth.bits;
+    let depth = image.samples.bit_depth.bits_per_sample;
     let params = ModularParams::with_channels(group_dim, depth, list, tree.as_ref());
     match decode_frame::<S, D, P>(alloc, bits, params, places, steps, progress) {
         Ok(Some(image)) => Ok(image),
@@ -133,7 +133,7 @@ fn decode_grids<'a, D: Decoder, P: Progress>(
 ) -> Result<Vec<AlignedGrid<i32>>, FileError>
     requires wide { size.width ≤ 2 ^ 30 }
     requires high { size.height ≤ 2 ^ 30 }
-    requires deep { image.now.samples.depth.bits ≤ 32 }
+    requires deep { image.now.samples.bit_depth.bits_per_sample ≤ 32 }
     requires many { channel_count (image_of image.now) ≤ 2 ^ 20 }
     requires low { HasLowShifts (image_of image.now) }
     requires dim { IsGroupDim group_dim }
@@ -163,7 +163,7 @@ fn decode_made<'a, D: Decoder, P: Progress>(
 ) -> Result<Vec<AlignedGrid<i32>>, FileError>
     requires wide { (frame_size image.now.size (frame_of header.now)).width ≤ 2 ^ 30 }
     requires high { (frame_size image.now.size (frame_of header.now)).height ≤ 2 ^ 30 }
-    requires deep { image.now.samples.depth.bits ≤ 32 }
+    requires deep { image.now.samples.bit_depth.bits_per_sample ≤ 32 }
     requires many { channel_count (image_of image.now) ≤ 2 ^ 20 }
     requires low { HasLowShifts (image_of image.now) }
     requires dim { IsGroupDim header.now.group_dim }
@@ -179,7 +179,7 @@ fn decode_made<'a, D: Decoder, P: Progress>(
 {
     let size = header.size(image.size);
     let there = header.coding.flags.patches;
-    let extra = image.extra.len();
+    let extra = image.ec_info.len();
     let mut bits = Bitstream::new(first);
     let patches = match read_patches::<D>(alloc, &mut bits, there, size, extra, &slots.sizes) {
         Ok(patches) => patches,
@@ -214,7 +214,7 @@ pub fn decode_channels<D: Decoder, P: Progress>(
     progress: &mut P,
 ) -> Result<Vec<AlignedGrid<i32>>, FileError>
     requires ready { IsReadyFrame bytes.now (image_of image.now) frame.now }
-    requires deep { image.now.samples.depth.bits ≤ 32 }
+    requires deep { image.now.samples.bit_depth.bits_per_sample ≤ 32 }
     requires many { channel_count (image_of image.now) ≤ 2 ^ 20 }
     requires low { HasLowShifts (image_of image.now) }
     requires held { HoldChannels (image_of image.now) (slots_of slots.now) }

@@ -90,8 +90,8 @@ fn decode_codestream<P: Progress>(
 /// # Errors
 ///
 /// The first in the order of the bits, but that what is not supported is told before what is wrong with samples, and by
-/// its name (docs/FILES.md); and `NoMemory` at any time. Nothing is left behind. Sizes are compared with the limits before
-/// memory is taken for samples.
+/// its name (docs/FILES.md); and `OutOfMemory` at any time. Nothing is left behind. Sizes are compared with the limits
+/// before memory is taken for samples.
 pub fn decode_lossless(
     alloc: Global,
     file: &[u8],

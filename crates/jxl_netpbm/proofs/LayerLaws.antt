@@ -56,20 +56,20 @@ or_true : (a b : Bool) → (not a || b) ≡ true → a ≡ true → b ≡ true
 or_true true b e is = e
 or_true false b e is = cc
 
-pub whole_some : (most : ℕ) (d : BitDepth) → is_whole most d ≡ true → (1 ≤ d.bits) × (d.bits ≤ most)
+pub whole_some : (most : ℕ) (d : BitDepth) → is_whole most d ≡ true → (1 ≤ d.bits_per_sample) × (d.bits_per_sample ≤ most)
 whole_some most d e =
-    let (front, few) = both_true ((d.exponent_bits == 0) && nat_le 1 d.bits) (nat_le d.bits most) e in
-    let (exponent, some) = both_true (d.exponent_bits == 0) (nat_le 1 d.bits) front in
-    (leb-true 1 d.bits some, leb-true d.bits most few)
+    let (front, few) = both_true ((d.exp_bits == 0) && nat_le 1 d.bits_per_sample) (nat_le d.bits_per_sample most) e in
+    let (exponent, some) = both_true (d.exp_bits == 0) (nat_le 1 d.bits_per_sample) front in
+    (leb-true 1 d.bits_per_sample some, leb-true d.bits_per_sample most few)
 
 abbrev CoversAll : Size → Layer → Type 0
 CoversAll size l = Cover size.width size.height l
 
-first_or_later : (size : Size) (g : Grid ℤ) (c : ExtraChannel) (later : List Layer) (b : Bool) → is_full_alpha c ≡ b → can_stand c ≡ true → HasShiftedSides size c g → All (CoversAll size) later → All (CoversAll size) (cond b (record { grid = g; own = maximum c.depth.bits } ∷ []) later)
+first_or_later : (size : Size) (g : Grid ℤ) (c : ExtraChannel) (later : List Layer) (b : Bool) → is_full_alpha c ≡ b → can_stand c ≡ true → HasShiftedSides size c g → All (CoversAll size) later → All (CoversAll size) (cond b (record { grid = g; own = maximum c.bit_depth.bits_per_sample } ∷ []) later)
 first_or_later size g c later true is stands sides all =
-    let some = (whole_some 31 c.depth (or_true (is_full_alpha c) (is_whole 31 c.depth) stands is)).0 in
-    let none : c.shift ≡ 0 = eqb-true c.shift 0 (both_true (is_alpha c) (c.shift == 0) is).1 in
-    All-cons (CoversAll size) (record { grid = g; own = maximum c.depth.bits }) [] (one_covers size.width size.height (maximum c.depth.bits) g (maximum_some c.depth.bits some) (full_sides size c g none sides)) (All-nil (CoversAll size))
+    let some = (whole_some 31 c.bit_depth (or_true (is_full_alpha c) (is_whole 31 c.bit_depth) stands is)).0 in
+    let none : c.dim_shift ≡ 0 = eqb-true c.dim_shift 0 (both_true (is_alpha c) (c.dim_shift == 0) is).1 in
+    All-cons (CoversAll size) (record { grid = g; own = maximum c.bit_depth.bits_per_sample }) [] (one_covers size.width size.height (maximum c.bit_depth.bits_per_sample) g (maximum_some c.bit_depth.bits_per_sample some) (full_sides size c g none sides)) (All-nil (CoversAll size))
 first_or_later size g c later false is stands sides all = all
 
 pub alpha_covers : (size : Size) (gs : List (Grid ℤ)) (cs : List ExtraChannel) → AllZip (HasShiftedSides size) cs gs → list_all can_stand cs ≡ true → All (CoversAll size) (first_alpha gs cs)
@@ -79,16 +79,16 @@ alpha_covers size (g ∷ gs) (c ∷ cs) all e =
     let parts = both_true (can_stand c) (list_all can_stand cs) e in
     first_or_later size g c (first_alpha gs cs) (is_full_alpha c) refl parts.0 all.0 (alpha_covers size gs cs all.1 parts.1)
 
-pub colours_cover : (image : Image) (channels : List (Grid ℤ)) → IsWhole image channels → is_whole 16 image.samples.depth ≡ true → All (Cover image.size.width image.size.height) (colour_layers image channels)
+pub colours_cover : (image : Image) (channels : List (Grid ℤ)) → IsWhole image channels → is_whole 16 image.samples.bit_depth ≡ true → All (Cover image.size.width image.size.height) (colour_layers image channels)
 colours_cover image channels whole depth =
-    grids_cover image.size.width image.size.height (most_of image) (colours_of image channels) (maximum_some image.samples.depth.bits (whole_some 16 image.samples.depth depth).0)
+    grids_cover image.size.width image.size.height (most_of image) (colours_of image channels) (maximum_some image.samples.bit_depth.bits_per_sample (whole_some 16 image.samples.bit_depth depth).0)
     (have_sides image image.size channels whole).colours
 
-pub pam_covers : (image : Image) (channels : List (Grid ℤ)) → IsWhole image channels → (is_whole 16 image.samples.depth && list_all can_stand image.extra) ≡ true → All (Cover image.size.width image.size.height) (pam_layers image channels)
+pub pam_covers : (image : Image) (channels : List (Grid ℤ)) → IsWhole image channels → (is_whole 16 image.samples.bit_depth && list_all can_stand image.ec_info) ≡ true → All (Cover image.size.width image.size.height) (pam_layers image channels)
 pam_covers image channels whole suits =
-    let (depth, alpha) = both_true (is_whole 16 image.samples.depth) (list_all can_stand image.extra) suits in
+    let (depth, alpha) = both_true (is_whole 16 image.samples.bit_depth) (list_all can_stand image.ec_info) suits in
     All-append (Cover image.size.width image.size.height) (colour_layers image channels) _ (colours_cover image channels whole depth)
-    (alpha_covers image.size _ image.extra (have_sides image image.size channels whole).extra alpha)
+    (alpha_covers image.size _ image.ec_info (have_sides image image.size channels whole).extra alpha)
 
 one_has : (w h : ℕ) (g : Grid ℤ) → HasSides w h g → Has w h g
 one_has w h g s = record { wide = omega (arith, s.wide); high = omega (arith, s.high) }
@@ -111,7 +111,7 @@ pub layers_all : (own : ℕ) (gs : List (Grid ℤ)) (i : ℕ) (ls : List Held) �
 layers_all own gs i ls all e = e ∙ ap (map {B = Layer} (λ (g : Grid ℤ). record { grid = g; own = own })) (take_all i gs all)
 
 pub alpha_here : (gs : List (Grid ℤ)) (cs : List ExtraChannel) (k : ℕ) (g : Grid ℤ) (c : ExtraChannel) → k < length gs → k < length cs →
-    first_alpha (drop k gs) (drop k cs) ≡ cond (is_full_alpha (get_or cs k c)) (record { grid = get_or gs k g; own = maximum (get_or cs k c).depth.bits } ∷ []) (first_alpha (drop (k + 1) gs) (drop (k + 1) cs))
+    first_alpha (drop k gs) (drop k cs) ≡ cond (is_full_alpha (get_or cs k c)) (record { grid = get_or gs k g; own = maximum (get_or cs k c).bit_depth.bits_per_sample } ∷ []) (first_alpha (drop (k + 1) gs) (drop (k + 1) cs))
 alpha_here gs cs k g c a b = rw (add-one, drop-cons gs k g, drop-cons cs k c) refl
 
 pub no_more_alpha : (gs : List (Grid ℤ)) (cs : List ExtraChannel) (k : ℕ) → length cs ≤ k → first_alpha (drop k gs) (drop k cs) ≡ []

@@ -6,7 +6,7 @@ use Rattle.std.proofs.lemmas.List.{take_all}
 use Rattle.std.proofs.lemmas.List.Folds.{flat_map-map}
 use Rattle.jxlm_base.specs.Grid.{Grid, at, cell}
 use Rattle.jxlm_base.proofs.GridLaws.{at_from_cell}
-use Rattle.jxl_netpbm.specs.Rasters.{level, rescaled, number_text, sample_text, pixel_text, float_text}
+use Rattle.jxl_netpbm.specs.Rasters.{level, rescaled_sample, number_text, sample_text, pixel_text, float_text}
 use Rattle.jxl_netpbm.specs.Inner.Layers.{layer_of, layers_of}
 use Rattle.jxl_netpbm.specs.declared.raster.Layer.{Layer as Held}
 use Rattle.jxl_netpbm.proofs.Growing.{take_piece}
@@ -21,10 +21,10 @@ abbrev held_text : ℕ → ℕ → ℕ → Held → List ℕ
 held_text most x y l = sample_text most x y (layer_of l)
 
 pub sample_piece : (most x y : ℕ) (layers : List Held) (i : ℕ) (item : Held) (v : ℤ) → i < length layers → item ≡ get_or layers i item → cell item.grid.now x y ≡ Some v →
-    flat_map (λ k. sample_text most x y (layer_of k)) (take (i + 1) layers) ≡ flat_map (λ k. sample_text most x y (layer_of k)) (take i layers) ++ number_text most (rescaled item.own most (level item.own v))
+    flat_map (λ k. sample_text most x y (layer_of k)) (take (i + 1) layers) ≡ flat_map (λ k. sample_text most x y (layer_of k)) (take i layers) ++ number_text most (rescaled_sample item.own most (level item.own v))
 sample_piece most x y layers i item v within is here =
     let same : held_text most x y (get_or layers i item) ≡ held_text most x y item = sym (ap (held_text most x y) is) in
-    let text : held_text most x y item ≡ number_text most (rescaled item.own most (level item.own v)) = ap (λ n. number_text most (rescaled item.own most (level item.own n))) (at_from_cell item.grid.now x y v here) in
+    let text : held_text most x y item ≡ number_text most (rescaled_sample item.own most (level item.own v)) = ap (λ n. number_text most (rescaled_sample item.own most (level item.own n))) (at_from_cell item.grid.now x y v here) in
     take_piece (held_text most x y) layers i item within ∙ ap (λ t. flat_map (held_text most x y) (take i layers) ++ t) (same ∙ text)
 
 pub all_samples : (most x y i : ℕ) (layers : List Held) (before after : List ℕ) → length layers ≤ i → after ≡ before ++ flat_map (λ k. sample_text most x y (layer_of k)) (take i layers) →

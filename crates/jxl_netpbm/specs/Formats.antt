@@ -14,25 +14,25 @@ use Rattle.jxl_netpbm.specs.declared.format.Format.TheVariants.{Pgm, Ppm, Pam, P
 
 -- whole numbers of so many bits at most
 abbrev pub is_whole : ℕ → BitDepth → Bool
-is_whole most d = (d.exponent_bits == 0) && nat_le 1 d.bits && nat_le d.bits most
+is_whole most d = (d.exp_bits == 0) && nat_le 1 d.bits_per_sample && nat_le d.bits_per_sample most
 
 -- a channel that does not keep a picture from being a PAM file: it is no alpha of the picture's size, or one of whole numbers
 abbrev pub can_stand : ExtraChannel → Bool
-can_stand c = not (is_full_alpha c) || is_whole 31 c.depth
+can_stand c = not (is_full_alpha c) || is_whole 31 c.bit_depth
 
 -- the format can hold the picture's colours, PAM its alpha of the same size too, and decimal numbers all of it
 abbrev pub suits : Format → Image → Bool
-suits Pgm image = is_grey image && is_whole 16 image.samples.depth
-suits Ppm image = not (is_grey image) && is_whole 16 image.samples.depth
-suits Pam image = is_whole 16 image.samples.depth && list_all can_stand image.extra
-suits Pfm image = (image.samples.depth.exponent_bits == 8) && (image.samples.depth.bits == 32)
+suits Pgm image = is_grey image && is_whole 16 image.samples.bit_depth
+suits Ppm image = not (is_grey image) && is_whole 16 image.samples.bit_depth
+suits Pam image = is_whole 16 image.samples.bit_depth && list_all can_stand image.ec_info
+suits Pfm image = (image.samples.bit_depth.exp_bits == 8) && (image.samples.bit_depth.bits_per_sample == 32)
 suits Text image = true
 
 -- how many channels the format leaves out
 abbrev pub left_out : Format → Image → ℕ
 left_out Text image = 0
-left_out Pam image = if has_full_alpha image then length image.extra - 1 else length image.extra
-left_out format image = length image.extra
+left_out Pam image = if has_full_alpha image then length image.ec_info - 1 else length image.ec_info
+left_out format image = length image.ec_info
 
 -- the format in which a picture is written where none is asked for: PGM or PPM, PAM where there is alpha of the picture's size,
 -- PFM for floats
@@ -44,7 +44,7 @@ usual image = if suits Pfm image then Some Pfm else if suits (usual_whole image)
 
 -- the maximum of colours
 abbrev pub most_of : Image → ℕ
-most_of image = maximum image.samples.depth.bits
+most_of image = maximum image.samples.bit_depth.bits_per_sample
 
 -- the channels of colours
 abbrev pub colours_of : Image → List (Grid ℤ) → List (Grid ℤ)
@@ -55,11 +55,11 @@ colour_layers image channels = map (λ g. record { grid = g; own = most_of image
 
 -- the first alpha channel of the picture's size among extra ones, where there is one
 abbrev pub first_alpha : List (Grid ℤ) → List ExtraChannel → List Layer
-first_alpha (g ∷ gs) (c ∷ cs) = if is_full_alpha c then record { grid = g; own = maximum c.depth.bits } ∷ [] else first_alpha gs cs
+first_alpha (g ∷ gs) (c ∷ cs) = if is_full_alpha c then record { grid = g; own = maximum c.bit_depth.bits_per_sample } ∷ [] else first_alpha gs cs
 first_alpha _ _ = []
 
 abbrev pub pam_layers : Image → List (Grid ℤ) → List Layer
-pam_layers image channels = colour_layers image channels ++ first_alpha (drop (colour_count image) channels) image.extra
+pam_layers image channels = colour_layers image channels ++ first_alpha (drop (colour_count image) channels) image.ec_info
 
 -- the sides, with a space between
 abbrev pub size_line : Image → List ℕ

@@ -14,8 +14,8 @@ level most (pos n) = min n most
 level most (negsuc n) = 0
 
 -- the number from 0 to `most` that is nearest to a number from 0 to `own`, as parts of their maxima
-abbrev pub rescaled : ℕ → ℕ → ℕ → ℕ
-rescaled own most n = if own == most then n else (2 * n * most + own) / (2 * own)
+abbrev pub rescaled_sample : ℕ → ℕ → ℕ → ℕ
+rescaled_sample own most n = if own == most then n else (2 * n * most + own) / (2 * own)
 
 -- a number as bytes: one where all up to the maximum fit it, else two, the first the most significant
 abbrev pub number_text : ℕ → ℕ → List ℕ
@@ -29,7 +29,7 @@ pub record Layer : Type 0 where
 module _ (most : ℕ) where
   -- the sample of a channel in column x of row y
   abbrev pub sample_text : ℕ → ℕ → Layer → List ℕ
-  sample_text x y layer = number_text most (rescaled layer.own most (level layer.own (at layer.grid x y)))
+  sample_text x y layer = number_text most (rescaled_sample layer.own most (level layer.own (at layer.grid x y)))
 
   -- the samples of all channels there, one after the other
   abbrev pub pixel_text : List Layer → ℕ → ℕ → List ℕ

@@ -5,20 +5,20 @@ use Rattle.std.proofs.lemmas.List.{get_or-set_same, get_or-set_other}
 use Rattle.jxlm_base.specs.Grid.{Grid}
 use Rattle.jxl_patches.specs.Dictionaries.{place_at}
 use Rattle.jxl_patches.specs.Patches.{Patches}
-use Rattle.jxl_patches.specs.Patched.{channel_of, kinds_of, mode_at, patched, put}
+use Rattle.jxl_patches.specs.Patched.{channel_of, kinds_of, mode_at, patched_sample, sample_put}
 use Rattle.jxl_patches.specs.Inner.Rows.{kind_of}
 use Rattle.jxl_patches.specs.declared.dictionary.Place.{Place}
 use Rattle.jxl_patches.specs.declared.dictionary.PatchMode.{PatchMode}
 
 module _ (frames : List (List (Grid ℤ))) (patches : Patches) (kinds kind channel x y : ℕ) (v : ℤ) where
-  pub none_patched : v ≡ patched frames patches kinds kind channel x y 0 v
-  unfolding patched
+  pub none_patched : v ≡ patched_sample frames patches kinds kind channel x y 0 v
+  unfolding patched_sample
   none_patched = refl
 
   -- one place more
   pub patched_more : (n : ℕ) (source : Grid ℤ) (p : Place) (mode : PatchMode) (old new : ℤ) → source ≡ channel_of frames p.source.slot channel → p ≡ place_at patches n → mode ≡ mode_at patches kinds kind n →
-      old ≡ patched frames patches kinds kind channel x y n v → new ≡ put source p mode x y old → new ≡ patched frames patches kinds kind channel x y (n + 1) v
-  unfolding patched
+      old ≡ patched_sample frames patches kinds kind channel x y n v → new ≡ sample_put source p mode x y old → new ≡ patched_sample frames patches kinds kind channel x y (n + 1) v
+  unfolding patched_sample
   patched_more n source p mode old new s e m o i = rw (add-one n) (i ∙ rw (s, e, m, o) refl)
 
 module _ (old now : List (Grid ℤ)) (k : ℕ) (g d : Grid ℤ) where

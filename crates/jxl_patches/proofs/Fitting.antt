@@ -11,7 +11,7 @@ use Rattle.jxl_image_header.specs.declared.size.Size.{Size}
 use Rattle.jxlm_bits.proofs.Cases.{less_or_same}
 use Rattle.jxlm_bits.specs.Tokens.{After, token}
 use Rattle.jxlm_bits.specs.Turns.{chained}
-use Rattle.jxl_patches.specs.Patches.{Patches, checked, source, moved, nowhere, coordinate, one_mode, one_place, one_rectangle, dictionary}
+use Rattle.jxl_patches.specs.Patches.{Patches, checked, source, coordinate_of, nowhere, coordinate, one_mode, one_place, one_rectangle, dictionary}
 use Rattle.jxl_patches.specs.Dictionaries.{IsWithin, AreWithin}
 use Rattle.jxl_patches.specs.Inner.Steps.{inside}
 use Rattle.jxl_patches.specs.declared.dictionary.Place.{Place}
@@ -102,8 +102,8 @@ module _ {S : Type 0} (d : Meaning S) (size : Size) (kinds : ℕ) (slots : List 
 
   coordinate_fits : (later : Bool) (before extent side : ℕ) (s : S) (bytes : List ℕ) (p : ℕ) (y : After S ℕ) (q : ℕ) → (coordinate d later before extent side s).Stands bytes p y q → y.value + extent ≤ side
   coordinate_fits later before extent side s bytes p y q st =
-      let ok = token_ok d (if later then 6 else 4) (λ v. inside extent side v (moved later before v)) s bytes p y q st in
-      inside_fits extent side ok.0 (moved later before ok.0) y.value ok.1
+      let ok = token_ok d (if later then 6 else 4) (λ v. inside extent side v (coordinate_of later before v)) s bytes p y q st in
+      inside_fits extent side ok.0 (coordinate_of later before ok.0) y.value ok.1
 
   place_more : (k : ℕ) (r : Rectangle) → InFrame slots r → (a : Patches) (s : S) (b : After S Patches) (bytes : List ℕ) (p q : ℕ) → Framed 0 a → (one_place d size kinds k r a s).Stands bytes p b q → Framed 0 b.value
   place_more k r i a s b bytes p q f st =

@@ -2,7 +2,7 @@
 use Rattle.std.proofs.Common.{◌≡◌, ℕ, ℤ, pos, ◌+◌, ◌-◌, ◌<◌, ◌≤◌, List, ◌++◌, length, get_or, take, drop, set, ◌⊎◌, inl, inr, refl, ap, ◌∙◌, arith}
 use Rattle.std.proofs.lemmas.Bool.{cases_lt}
 use Rattle.std.proofs.lemmas.List.{length-append, length-take-le, length-drop, length-set, get_or-append-add, get_or-append_right, get_or_append_left, get_or-take, get_or-drop, get_or-set_same, get_or-set_other}
-use Rattle.jxl_patches.specs.Patched.{mixed}
+use Rattle.jxl_patches.specs.Patched.{mixed_sample}
 use Rattle.jxl_patches.specs.Inner.Rows.{IsRowMixed}
 use Rattle.jxl_patches.specs.declared.dictionary.PatchMode.TheVariants.{Keep, Replace, Add}
 
@@ -39,20 +39,20 @@ module _ (old from new : List ℤ) (start finish : ℕ) (e : start + length from
 -- so many samples were added
 pub record IsPartlyAdded (start i : ℕ) (from old new : List ℤ) : Type 0 where
   pub same : length new ≡ length old
-  pub inside : (k : ℕ) → k < i → get_or new (start + k) (pos 0) ≡ mixed Add (get_or old (start + k) (pos 0)) (get_or from k (pos 0))
+  pub inside : (k : ℕ) → k < i → get_or new (start + k) (pos 0) ≡ mixed_sample Add (get_or old (start + k) (pos 0)) (get_or from k (pos 0))
   pub outside : (k : ℕ) → (k < start) ⊎ (start + i ≤ k) → get_or new k (pos 0) ≡ get_or old k (pos 0)
 
 pub none_added : (start : ℕ) (from row : List ℤ) → IsPartlyAdded start 0 from row row
 none_added start from row = record { same = refl; inside = λ k h. absurd (omega (arith, h)); outside = λ k h. refl }
 
 module _ (start i : ℕ) (from old new : List ℤ) (v : ℤ) (so_far : IsPartlyAdded start i from old new) (h : start + i < length old)
-    (is : v ≡ mixed Add (get_or new (start + i) (pos 0)) (get_or from i (pos 0))) where
-  here : get_or (set new (start + i) v) (start + i) (pos 0) ≡ mixed Add (get_or old (start + i) (pos 0)) (get_or from i (pos 0))
+    (is : v ≡ mixed_sample Add (get_or new (start + i) (pos 0)) (get_or from i (pos 0))) where
+  here : get_or (set new (start + i) v) (start + i) (pos 0) ≡ mixed_sample Add (get_or old (start + i) (pos 0)) (get_or from i (pos 0))
   here =
       let was = so_far.outside (start + i) (inr (omega arith)) in
-      get_or-set_same new (start + i) v (pos 0) (omega (arith, h, so_far.same)) ∙ is ∙ ap (λ (u : ℤ). mixed Add u (get_or from i (pos 0))) was
+      get_or-set_same new (start + i) v (pos 0) (omega (arith, h, so_far.same)) ∙ is ∙ ap (λ (u : ℤ). mixed_sample Add u (get_or from i (pos 0))) was
 
-  at_place : (k : ℕ) → k < i + 1 → (k < i) ⊎ (i ≤ k) → get_or (set new (start + i) v) (start + k) (pos 0) ≡ mixed Add (get_or old (start + k) (pos 0)) (get_or from k (pos 0))
+  at_place : (k : ℕ) → k < i + 1 → (k < i) ⊎ (i ≤ k) → get_or (set new (start + i) v) (start + k) (pos 0) ≡ mixed_sample Add (get_or old (start + k) (pos 0)) (get_or from k (pos 0))
   at_place k lt (inl before) = get_or-set_other new (start + i) (start + k) v (pos 0) (λ e. omega (arith, e, before)) ∙ so_far.inside k before
   at_place k lt (inr ge) = let same : k ≡ i = omega (arith, lt, ge) in rw same here
 

@@ -4,7 +4,7 @@ use Rattle.std.specs.Prelude.{◌==◌, nat_lt, if◌then◌else◌, ◌+ℤ◌,
 use Rattle.std.proofs.lemmas.Int.{ints}
 use Rattle.std.proofs.lemmas.Bool.{ltb-true, ltb-false}
 use Rattle.jxlm_bits.specs.Numbers.{unpack}
-use Rattle.jxl_patches.specs.Patches.{moved}
+use Rattle.jxl_patches.specs.Patches.{coordinate_of}
 
 module _ (before v c : ℕ) where
   by_tests : (a b : Bool) → nat_lt (v / 2) before ≡ b →
@@ -18,5 +18,5 @@ module _ (before v c : ℕ) where
       let ge = ltb-false (v / 2) before t in
       ((λ h. cc), (λ h. absurd (omega (arith, ints, h, ge))))
 
-  pub moved_signed : (moved true before v ≡ Some c) ↔ (pos before +ℤ unpack v ≡ pos c)
+  pub moved_signed : (coordinate_of true before v ≡ Some c) ↔ (pos before +ℤ unpack v ≡ pos c)
   moved_signed = by_tests (v % 2 == 0) (nat_lt (v / 2) before) refl

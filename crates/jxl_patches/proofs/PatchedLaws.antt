@@ -5,37 +5,37 @@ use Rattle.jxlm_base.specs.Grid.{Grid, grid}
 use Rattle.jxlm_bits.proofs.Cases.{less_or_same}
 use Rattle.jxl_patches.specs.Dictionaries.{IsWithin, place_at}
 use Rattle.jxl_patches.specs.Patches.{Patches}
-use Rattle.jxl_patches.specs.Patched.{covers, laid, channel_of, kinds_of, mode_at, patched, PlaceFits, AreSaved, HaveSides, ReadPatchesFit}
+use Rattle.jxl_patches.specs.Patched.{covers, sample_laid, channel_of, kinds_of, mode_at, patched_sample, PlaceFits, AreSaved, HaveSides, ReadPatchesFit}
 use Rattle.jxl_patches.specs.declared.dictionary.Place.{Place}
 use Rattle.jxl_patches.specs.declared.dictionary.PatchMode.TheVariants.{Replace}
 
 module _ (frames : List (List (Grid ℤ))) (patches : Patches) (kinds kind channel x y : ℕ) (v : ℤ) where
   abbrev so_far : ℕ → ℤ
-  so_far n = patched frames patches kinds kind channel x y n v
+  so_far n = patched_sample frames patches kinds kind channel x y n v
 
   -- a place that does not cover the cell leaves it
   passed : (n : ℕ) → covers (place_at patches n) x y ≡ false → so_far (suc n) ≡ so_far n
-  unfolding patched
+  unfolding patched_sample
   passed n h = rw h refl
 
   -- and one that replaces its samples leaves its own
   placed : (n : ℕ) → covers (place_at patches n) x y ≡ true → mode_at patches kinds kind n ≡ Replace →
-      so_far (suc n) ≡ laid (channel_of frames (place_at patches n).source.slot channel) (place_at patches n) x y
-  unfolding patched
+      so_far (suc n) ≡ sample_laid (channel_of frames (place_at patches n).source.slot channel) (place_at patches n) x y
+  unfolding patched_sample
   placed n h r = rw (h, r) refl
 
   pub uncovered : (k : ℕ) → ((n : ℕ) → n < k → covers (place_at patches n) x y ≡ false) → so_far k ≡ v
-  unfolding patched
+  unfolding patched_sample
   uncovered zero h = refl
   uncovered (suc k) h = passed k (h k (omega arith)) ∙ uncovered k (λ n lt. h n (omega (arith, lt)))
 
   pub replaced : (k n : ℕ) → n < k → covers (place_at patches n) x y ≡ true → mode_at patches kinds kind n ≡ Replace → ((m : ℕ) → n < m → m < k → covers (place_at patches m) x y ≡ false) →
-      so_far k ≡ laid (channel_of frames (place_at patches n).source.slot channel) (place_at patches n) x y
+      so_far k ≡ sample_laid (channel_of frames (place_at patches n).source.slot channel) (place_at patches n) x y
   replaced zero n lt h r after = absurd (omega (arith, lt))
   replaced (suc k) n lt h r after = last (λ before. replaced k n before h r (λ m a b. after m a (omega (arith, b)))) (less_or_same n k lt)
     where
-      last : (n < k → so_far k ≡ laid (channel_of frames (place_at patches n).source.slot channel) (place_at patches n) x y) → (n < k) ⊎ (n ≡ k) →
-          so_far (suc k) ≡ laid (channel_of frames (place_at patches n).source.slot channel) (place_at patches n) x y
+      last : (n < k → so_far k ≡ sample_laid (channel_of frames (place_at patches n).source.slot channel) (place_at patches n) x y) → (n < k) ⊎ (n ≡ k) →
+          so_far (suc k) ≡ sample_laid (channel_of frames (place_at patches n).source.slot channel) (place_at patches n) x y
       last earlier (inl before) = passed k (after k before (omega arith)) ∙ earlier before
       last earlier (inr same) = rw (← same) (placed n h r)
 

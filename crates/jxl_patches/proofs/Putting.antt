@@ -8,7 +8,7 @@ use Rattle.jxlm_base.specs.Grid.{Grid, at, row, with_row, IsFull}
 use Rattle.jxlm_base.specs.Subgrid.{IsOutside}
 use Rattle.jxlm_base.proofs.GridLaws.{at_from_cell, cell_from_at}
 use Rattle.jxlm_base.proofs.RegionRows.{get_part, get_row, length-row, cell-with_row_same, cell-with_row_other, IsFull-with_row}
-use Rattle.jxl_patches.specs.Patched.{covers, laid, mixed, put, PlaceFits}
+use Rattle.jxl_patches.specs.Patched.{covers, sample_laid, mixed_sample, sample_put, PlaceFits}
 use Rattle.jxl_patches.specs.Inner.Rows.{IsRowMixed, top_rows}
 use Rattle.jxl_patches.specs.declared.dictionary.Place.{Place}
 use Rattle.jxl_patches.specs.declared.dictionary.PatchMode.{PatchMode}
@@ -65,17 +65,17 @@ covers_outside p x y (inr (inl a)) = let h = le-ltb x (p.x + p.source.width) a i
 covers_outside p x y (inr (inr (inl a))) = let h = lt-leb p.y y a in grind (arith, nat_tests)
 covers_outside p x y (inr (inr (inr a))) = let h = le-ltb y (p.y + p.source.height) a in grind (arith, nat_tests)
 
-pub put_inside : (source : Grid ℤ) (p : Place) (mode : PatchMode) (x y : ℕ) (v : ℤ) → IsInside p x y → put source p mode x y v ≡ mixed mode v (laid source p x y)
+pub put_inside : (source : Grid ℤ) (p : Place) (mode : PatchMode) (x y : ℕ) (v : ℤ) → IsInside p x y → sample_put source p mode x y v ≡ mixed_sample mode v (sample_laid source p x y)
 put_inside source p mode x y v i = rw (covers_inside p x y i) refl
 
-pub put_outside : (source : Grid ℤ) (p : Place) (mode : PatchMode) (x y : ℕ) (v : ℤ) → Out p x y → put source p mode x y v ≡ v
+pub put_outside : (source : Grid ℤ) (p : Place) (mode : PatchMode) (x y : ℕ) (v : ℤ) → Out p x y → sample_put source p mode x y v ≡ v
 put_outside source p mode x y v o = rw (covers_outside p x y o) refl
 
 -- ---- one row more
 
 module _ (source : Grid ℤ) (p : Place) (mode : PatchMode) (old g : Grid ℤ) (j : ℕ) (full : IsFull g) (wide : g.width ≡ old.width) (high : g.height ≡ old.height)
     (fits : PlaceFits p source old) (below : j < p.source.height)
-    (so_far : (x y : ℕ) → x < old.width → y < old.height → at g x y ≡ put source (top_rows p j) mode x y (at old x y))
+    (so_far : (x y : ℕ) → x < old.width → y < old.height → at g x y ≡ sample_put source (top_rows p j) mode x y (at old x y))
     (from vs : List ℤ) (from_at : (i : ℕ) → i < p.source.width → get_or from i (pos 0) ≡ at source (p.source.x0 + i) (p.source.y0 + j))
     (long_from : length from ≡ p.source.width) (mix : IsRowMixed mode p.x from (row g (p.y + j)) vs) where
   line : p.y + j < g.height
@@ -85,19 +85,19 @@ module _ (source : Grid ℤ) (p : Place) (mode : PatchMode) (old g : Grid ℤ) (
   long = mix.same ∙ length-row g full (p.y + j) line
 
   -- a cell of this row, in a column of the place
-  now_inside : (x y : ℕ) → x < old.width → y ≡ p.y + j → p.x ≤ x → x < p.x + p.source.width → at (with_row g (p.y + j) vs) x y ≡ mixed mode (at old x y) (laid source p x y)
+  now_inside : (x y : ℕ) → x < old.width → y ≡ p.y + j → p.x ≤ x → x < p.x + p.source.width → at (with_row g (p.y + j) vs) x y ≡ mixed_sample mode (at old x y) (sample_laid source p x y)
   now_inside x y h same left right =
       let column : p.x + (x - p.x) ≡ x = omega (arith, left) in
       let within : x - p.x < length from = omega (arith, long_from, right, left) in
       let mixed_in = mix.inside (x - p.x) within in
-      let here : get_or vs x (pos 0) ≡ mixed mode (get_or (row g (p.y + j)) x (pos 0)) (get_or from (x - p.x) (pos 0)) = rw column at mixed_in in
+      let here : get_or vs x (pos 0) ≡ mixed_sample mode (get_or (row g (p.y + j)) x (pos 0)) (get_or from (x - p.x) (pos 0)) = rw column at mixed_in in
       let was : get_or (row g (p.y + j)) x (pos 0) ≡ at g x (p.y + j) = at_row g x (p.y + j) full (omega (arith, h, wide)) line in
       let before : at g x (p.y + j) ≡ at old x (p.y + j) =
       so_far x (p.y + j) h (omega (arith, line, high)) ∙ put_outside source (top_rows p j) mode x (p.y + j) (at old x (p.y + j)) (inr (inr (inr (omega arith)))) in
       let down : p.y + j - p.y ≡ j = omega arith in
-      let sample : get_or from (x - p.x) (pos 0) ≡ laid source p x (p.y + j) = from_at (x - p.x) (omega (arith, right, left)) ∙ ap (λ (n : ℕ). at source (p.source.x0 + (x - p.x)) (p.source.y0 + n)) (sym down) in
+      let sample : get_or from (x - p.x) (pos 0) ≡ sample_laid source p x (p.y + j) = from_at (x - p.x) (omega (arith, right, left)) ∙ ap (λ (n : ℕ). at source (p.source.x0 + (x - p.x)) (p.source.y0 + n)) (sym down) in
       let there = at_same g full (p.y + j) line vs long x (omega (arith, h, wide)) in
-      rw same (there ∙ here ∙ ap (λ (v : ℤ). mixed mode v (get_or from (x - p.x) (pos 0))) (was ∙ before) ∙ ap (λ (v : ℤ). mixed mode (at old x (p.y + j)) v) sample)
+      rw same (there ∙ here ∙ ap (λ (v : ℤ). mixed_sample mode v (get_or from (x - p.x) (pos 0))) (was ∙ before) ∙ ap (λ (v : ℤ). mixed_sample mode (at old x (p.y + j)) v) sample)
 
   -- any other cell stays
   now_outside : (x y : ℕ) → x < old.width → y < old.height → ((y ≢ p.y + j) ⊎ ((x < p.x) ⊎ (p.x + p.source.width ≤ x))) → at (with_row g (p.y + j) vs) x y ≡ at g x y
@@ -112,7 +112,7 @@ module _ (source : Grid ℤ) (p : Place) (mode : PatchMode) (old g : Grid ℤ) (
   row_full = IsFull-with_row g full (p.y + j) line vs long
 
   by_cases : (x y : ℕ) → x < old.width → y < old.height → (IsInside (top_rows p (j + 1)) x y) ⊎ (Out (top_rows p (j + 1)) x y) → (y < p.y + j) ⊎ (p.y + j ≤ y) →
-      at (with_row g (p.y + j) vs) x y ≡ put source (top_rows p (j + 1)) mode x y (at old x y)
+      at (with_row g (p.y + j) vs) x y ≡ sample_put source (top_rows p (j + 1)) mode x y (at old x y)
   by_cases x y h k (inr out) before =
       let still : (y ≢ p.y + j) ⊎ ((x < p.x) ⊎ (p.x + p.source.width ≤ x)) = elsewhere out in
       let above : Out (top_rows p j) x y = shorter out in
@@ -139,11 +139,11 @@ module _ (source : Grid ℤ) (p : Place) (mode : PatchMode) (old g : Grid ℤ) (
       now_inside x y h same i.left i.right ∙ sym (put_inside source (top_rows p (j + 1)) mode x y (at old x y) i)
 
   -- the first j + 1 rows of the place are put
-  pub row_put : (x y : ℕ) → x < old.width → y < old.height → at (with_row g (p.y + j) vs) x y ≡ put source (top_rows p (j + 1)) mode x y (at old x y)
+  pub row_put : (x y : ℕ) → x < old.width → y < old.height → at (with_row g (p.y + j) vs) x y ≡ sample_put source (top_rows p (j + 1)) mode x y (at old x y)
   row_put x y h k = by_cases x y h k (in_or_out (top_rows p (j + 1)) x y) (cases_lt y (p.y + j))
 
 -- no row was put yet
-pub no_row_put : (source : Grid ℤ) (p : Place) (mode : PatchMode) (x y : ℕ) (v : ℤ) → v ≡ put source (top_rows p 0) mode x y v
+pub no_row_put : (source : Grid ℤ) (p : Place) (mode : PatchMode) (x y : ℕ) (v : ℤ) → v ≡ sample_put source (top_rows p 0) mode x y v
 no_row_put source p mode x y v = sym (put_outside source (top_rows p 0) mode x y v (none (cases_lt y p.y)))
   where
     none : (y < p.y) ⊎ (p.y ≤ y) → Out (top_rows p 0) x y

@@ -15,10 +15,10 @@ abbrev pub covers : Place → ℕ → ℕ → Bool
 covers p x y = nat_le p.x x && nat_lt x (p.x + p.source.width) && (nat_le p.y y && nat_lt y (p.y + p.source.height))
 
 -- what a sample and one of the rectangle make; sums are taken modulo 2 ^ 32
-abbrev pub mixed : PatchMode → ℤ → ℤ → ℤ
-mixed Keep v r = v
-mixed Replace v r = r
-mixed Add v r = int_wrap w32 (v +ℤ r)
+abbrev pub mixed_sample : PatchMode → ℤ → ℤ → ℤ
+mixed_sample Keep v r = v
+mixed_sample Replace v r = r
+mixed_sample Add v r = int_wrap w32 (v +ℤ r)
 
 -- the channels of each slot
 abbrev pub frames_of : List (Vec (Grid ℤ)) → List (List (Grid ℤ))
@@ -29,14 +29,14 @@ abbrev pub channel_of : List (List (Grid ℤ)) → ℕ → ℕ → Grid ℤ
 channel_of frames slot channel = get_or (get_or frames slot []) channel (grid 0 0 [])
 
 -- what a place makes of a sample in column x of row y, on which a cell of its rectangle lies, the left top one at the place
-abbrev pub put : Grid ℤ → Place → PatchMode → ℕ → ℕ → ℤ → ℤ
-put source p mode x y v = if covers p x y then mixed mode v (at source (p.source.x0 + (x - p.x)) (p.source.y0 + (y - p.y))) else v
+abbrev pub sample_put : Grid ℤ → Place → PatchMode → ℕ → ℕ → ℤ → ℤ
+sample_put source p mode x y v = if covers p x y then mixed_sample mode v (at source (p.source.x0 + (x - p.x)) (p.source.y0 + (y - p.y))) else v
 
 -- What the first n places make of a sample in column x of row y of a channel, one after another.
-unfoldable pub patched : List (List (Grid ℤ)) → Patches → ℕ → ℕ → ℕ → ℕ → ℕ → ℕ → ℤ → ℤ
-patched frames patches kinds kind channel x y zero v = v
-patched frames patches kinds kind channel x y (suc n) v = let p : Place = get_or patches.places n nowhere in
-    put (channel_of frames p.source.slot channel) p (get_or patches.modes (n * kinds + kind) Keep) x y (patched frames patches kinds kind channel x y n v)
+unfoldable pub patched_sample : List (List (Grid ℤ)) → Patches → ℕ → ℕ → ℕ → ℕ → ℕ → ℕ → ℤ → ℤ
+patched_sample frames patches kinds kind channel x y zero v = v
+patched_sample frames patches kinds kind channel x y (suc n) v = let p : Place = get_or patches.places n nowhere in
+    sample_put (channel_of frames p.source.slot channel) p (get_or patches.modes (n * kinds + kind) Keep) x y (patched_sample frames patches kinds kind channel x y n v)
 
 -- how many modes a place has; its mode for a kind of channels, of so many kinds
 abbrev pub kinds_of : ℕ → ℕ → ℕ
@@ -46,8 +46,8 @@ abbrev pub mode_at : Patches → ℕ → ℕ → ℕ → PatchMode
 mode_at patches kinds kind n = get_or patches.modes (n * kinds + kind) Keep
 
 -- the sample of the rectangle that lies on column x of row y, once its left top cell lies at the place
-abbrev pub laid : Grid ℤ → Place → ℕ → ℕ → ℤ
-laid source p x y = at source (p.source.x0 + (x - p.x)) (p.source.y0 + (y - p.y))
+abbrev pub sample_laid : Grid ℤ → Place → ℕ → ℕ → ℤ
+sample_laid source p x y = at source (p.source.x0 + (x - p.x)) (p.source.y0 + (y - p.y))
 
 -- A place lies within a channel, and its rectangle in the grid that it is of.
 pub record PlaceFits (p : Place) (source target : Grid ℤ) : Type 0 where
@@ -88,15 +88,15 @@ pub record ArePatched (frames : List (List (Grid ℤ))) (colours : ℕ) (patches
   pub width : (c : ℕ) → c < length old → (get_or new c (grid 0 0 [])).width ≡ (get_or old c (grid 0 0 [])).width
   pub height : (c : ℕ) → c < length old → (get_or new c (grid 0 0 [])).height ≡ (get_or old c (grid 0 0 [])).height
   pub each : (c x y : ℕ) → c < length old → x < (get_or old c (grid 0 0 [])).width → y < (get_or old c (grid 0 0 [])).height → at (get_or new c (grid 0 0 [])) x y
-      ≡ patched frames patches (1 + (length old - colours)) (1 + c - colours) c x y (length patches.places) (at (get_or old c (grid 0 0 [])) x y)
+      ≡ patched_sample frames patches (1 + (length old - colours)) (1 + c - colours) c x y (length patches.places) (at (get_or old c (grid 0 0 [])) x y)
 
 -- A cell that no place covers stays as it is.
 abbrev pub UncoveredCellsStay : Type 0
 UncoveredCellsStay = (frames : List (List (Grid ℤ))) (patches : Patches) (kinds kind channel x y n : ℕ) (v : ℤ) →
-    ((m : ℕ) → m < n → covers (place_at patches m) x y ≡ false) → patched frames patches kinds kind channel x y n v ≡ v
+    ((m : ℕ) → m < n → covers (place_at patches m) x y ≡ false) → patched_sample frames patches kinds kind channel x y n v ≡ v
 
 -- A cell whose last place replaces it has the sample of the rectangle, whatever was there.
 abbrev pub LastReplacementStays : Type 0
 LastReplacementStays = (frames : List (List (Grid ℤ))) (patches : Patches) (kinds kind channel x y n m : ℕ) (v : ℤ) → m < n →
     covers (place_at patches m) x y ≡ true → mode_at patches kinds kind m ≡ Replace → ((l : ℕ) → m < l → l < n → covers (place_at patches l) x y ≡ false) →
-    patched frames patches kinds kind channel x y n v ≡ laid (channel_of frames (place_at patches m).source.slot channel) (place_at patches m) x y
+    patched_sample frames patches kinds kind channel x y n v ≡ sample_laid (channel_of frames (place_at patches m).source.slot channel) (place_at patches m) x y

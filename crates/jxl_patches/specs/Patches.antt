@@ -5,9 +5,9 @@ use Rattle.std.specs.Option.{ok_or, option_and_then, option_map_or}
 use Rattle.jxlm_bits.specs.Decoding.{Meaning}
 use Rattle.jxlm_bits.specs.ErrorKind.{ErrorKind, BadEnum, BadProfile}
 use Rattle.jxlm_bits.specs.Grammar.{Grammar, give, fail}
-use Rattle.jxl_image_header.specs.Fields.{meant}
+use Rattle.jxl_image_header.specs.Fields.{number_meant}
 use Rattle.jxl_image_header.specs.declared.size.Size.{Size}
-use Rattle.jxlm_bits.specs.Tokens.{Tokens, token, coded}
+use Rattle.jxlm_bits.specs.Tokens.{Tokens, token, coded_tokens}
 use Rattle.jxlm_bits.specs.Turns.{◌>>=◌, chained}
 use Rattle.jxl_patches.specs.declared.dictionary.Rectangle.{Rectangle}
 use Rattle.jxl_patches.specs.declared.dictionary.Place.{Place}
@@ -26,7 +26,7 @@ checked (Err error) = fail error
 -- a rectangle of the frame that a slot holds: the slot, the corner, and the sides less one; it lies in that frame
 abbrev pub source : {S : Type 0} → Meaning S → List (Option Size) → Tokens S Rectangle
 source d slots = do
-  slot ← token d 1 (λ v. meant (codes "slot of a patch") (is_some (get_or slots v None)) v)
+  slot ← token d 1 (λ v. number_meant (codes "slot of a patch") (is_some (get_or slots v None)) v)
   x0 ← token d 3 give
   y0 ← token d 3 give
   w ← token d 2 give
@@ -34,14 +34,14 @@ source d slots = do
       then Ok (record { slot = slot; x0 = x0; y0 = y0; width = w + 1; height = h + 1 }) else Err (BadEnum (codes "rectangle of a patch") slot)))
 
 -- a coordinate is told as it is; a later one as how far it lies from the one before: 2k for k, 2k + 1 for -k - 1, if at 0 or above
-abbrev pub moved : Bool → ℕ → ℕ → Option ℕ
-moved later before v =
+abbrev pub coordinate_of : Bool → ℕ → ℕ → Option ℕ
+coordinate_of later before v =
     if later then (if v % 2 == 0 then Some (before + v / 2) else if nat_lt (v / 2) before then Some (before - (v / 2 + 1)) else None) else Some v
 
 -- such a coordinate, from which so much lies within a side
 abbrev pub coordinate : {S : Type 0} → Meaning S → Bool → ℕ → ℕ → ℕ → Tokens S ℕ
 coordinate d later before extent side = token d (if later then 6 else 4) (λ v.
-    checked (ok_or (option_and_then (λ c. if nat_le (c + extent) side then Some c else None) (moved later before v)) (BadEnum (codes "place of a patch") v)))
+    checked (ok_or (option_and_then (λ c. if nat_le (c + extent) side then Some c else None) (coordinate_of later before v)) (BadEnum (codes "place of a patch") v)))
 
 -- patches, in the order in which they are put; of each place one mode for the colours, and one for each extra channel
 pub record Patches : Type 0 where
@@ -79,5 +79,5 @@ one_rectangle d size kinds slots limit a = do
 
 -- the dictionary of a frame of this size with so many extra channels, of slots with these sizes, that puts at most so many cells
 abbrev pub dictionary : {S : Type 0} → Meaning S → Size → ℕ → List (Option Size) → ℕ → Grammar Patches
-dictionary d size extra slots limit = coded d 10 (token d 0 (λ v. meant (codes "count of patches") (nat_le v (most_rectangles size)) v) >>= λ n.
+dictionary d size extra slots limit = coded_tokens d 10 (token d 0 (λ v. number_meant (codes "count of patches") (nat_le v (most_rectangles size)) v) >>= λ n.
     chained (one_rectangle d size (1 + extra) slots limit) n (record { places = []; modes = [] }))

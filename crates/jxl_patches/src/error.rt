@@ -22,7 +22,7 @@ pub enum PatchError {
     TooLarge,
     /// Out of memory.
     #[error("out of memory")]
-    Memory,
+    OutOfMemory,
 }
 
 /// The result of a call that reads patches.
@@ -38,13 +38,13 @@ impl From<DecoderError> for PatchError {
     }
 }
 
-/// `Memory`, so that `?` serves on the calls that allocate; the value is dropped.
+/// `OutOfMemory`, so that `?` serves on the calls that allocate; the value is dropped.
 impl<T: Drop> From<AllocFailed<T>> for PatchError {
-    ghost use Rattle.jxl_patches.specs.declared.error.PatchError.TheVariants.{Memory};
+    ghost use Rattle.jxl_patches.specs.declared.error.PatchError.TheVariants.{OutOfMemory};
 
-    ghost from_gives = { λ _ e. e ≡ Memory };
+    ghost from_gives = { λ _ e. e ≡ OutOfMemory };
 
     fn from(_cause: AllocFailed<T>) -> PatchError {
-        PatchError::Memory
+        PatchError::OutOfMemory
     }
 }

@@ -4,7 +4,7 @@ ghost use Rattle.std.specs.Prelude.{◌≡◌, ℕ, List, Option, Some, pos, ◌
 ghost use Rattle.jxl_image_header.specs.declared.size.Size.{Size as TheSize};
 ghost use Rattle.jxlm_bits.specs.Grammar.{IsExact};
 ghost use Rattle.jxlm_bits.specs.Numbers.{unpack};
-ghost use Rattle.jxl_patches.specs.Patches.{dictionary, moved};
+ghost use Rattle.jxl_patches.specs.Patches.{dictionary, coordinate_of};
 ghost use Rattle.jxl_patches.specs.Patched.{LastReplacementStays, ReadPatchesFit, UncoveredCellsStay};
 
 use jxlm_bits::decoder::Decoder;
@@ -17,7 +17,7 @@ pub fn dictionaries_are_read_exactly<D: Decoder>()
 
 /// A later coordinate is told as a signed number, how far it lies from the one before.
 pub fn moves_are_signed()
-    ensures { (before token c : ℕ) → (moved true before token ≡ Some c) ↔ (pos before +ℤ unpack token ≡ pos c) }
+    ensures { (before token c : ℕ) → (coordinate_of true before token ≡ Some c) ↔ (pos before +ℤ unpack token ≡ pos c) }
 {}
 
 /// What is read for a frame fits its channels, and the frames that were saved, so that it may be applied.

@@ -3,7 +3,7 @@
 ghost use Rattle.std.specs.Prelude.{◌≡◌, ◌<◌, ◌^◌, ◌-◌, length, get_or, IfOk, IfSome};
 ghost use Rattle.jxlm_bits.specs.Bits.{bytes_of, position_of};
 ghost use Rattle.jxlm_bits.specs.Turns.{chained};
-ghost use Rattle.jxl_patches.specs.Patches.{moved as the_moved, nowhere, coordinate as the_coordinate, mode_of as the_mode_of, one_mode, one_place};
+ghost use Rattle.jxl_patches.specs.Patches.{coordinate_of as the_moved, nowhere, coordinate as the_coordinate, mode_of as the_mode_of, one_mode, one_place};
 ghost use Rattle.jxl_patches.specs.Dictionaries.{patches_of};
 ghost use Rattle.jxl_patches.specs.Inner.Steps.{TokenRead, Checks, StepRead, inside as the_inside};
 

@@ -23,13 +23,13 @@ zip_length R [] (y ∷ ys) s = absurd s
 zip_length R (x ∷ xs) [] s = absurd s
 zip_length R (x ∷ xs) (y ∷ ys) s = ap suc (zip_length R xs ys s.1)
 
-to_extra : (size : Size) (cs : List ExtraChannel) (gs : List (Grid ℤ)) → AllZip (HasShift size) (map (λ (c : ExtraChannel). c.shift) cs) gs → AllZip (HasShiftedSides size) cs gs
+to_extra : (size : Size) (cs : List ExtraChannel) (gs : List (Grid ℤ)) → AllZip (HasShift size) (map (λ (c : ExtraChannel). c.dim_shift) cs) gs → AllZip (HasShiftedSides size) cs gs
 to_extra size [] [] s = tt
 to_extra size [] (g ∷ gs) s = absurd s
 to_extra size (c ∷ cs) [] s = absurd s
 to_extra size (c ∷ cs) (g ∷ gs) s = (record { wide = s.0.0; high = s.0.1 }, to_extra size cs gs s.1)
 
-of_extra : (size : Size) (cs : List ExtraChannel) (gs : List (Grid ℤ)) → AllZip (HasShiftedSides size) cs gs → AllZip (HasShift size) (map (λ (c : ExtraChannel). c.shift) cs) gs
+of_extra : (size : Size) (cs : List ExtraChannel) (gs : List (Grid ℤ)) → AllZip (HasShiftedSides size) cs gs → AllZip (HasShift size) (map (λ (c : ExtraChannel). c.dim_shift) cs) gs
 of_extra size [] [] s = tt
 of_extra size [] (g ∷ gs) s = absurd s
 of_extra size (c ∷ cs) [] s = absurd s
@@ -44,7 +44,7 @@ record Parts (size : Size) (n : ℕ) (cs : List ExtraChannel) (gs : List (Grid �
 abbrev Sides : Size → Grid ℤ → Type 0
 Sides size g = HasSides size.width size.height g
 
-to_parts : (size : Size) (n : ℕ) (cs : List ExtraChannel) (gs : List (Grid ℤ)) → AllZip (HasShift size) (replicate n 0 ++ map (λ (c : ExtraChannel). c.shift) cs) gs → Parts size n cs gs
+to_parts : (size : Size) (n : ℕ) (cs : List ExtraChannel) (gs : List (Grid ℤ)) → AllZip (HasShift size) (replicate n 0 ++ map (λ (c : ExtraChannel). c.dim_shift) cs) gs → Parts size n cs gs
 to_parts size zero cs gs s =
     let extra = to_extra size cs gs s in
     record { count = omega (arith, zip_length (HasShiftedSides size) cs gs extra); colours = All-nil (Sides size); extra = extra }
@@ -57,7 +57,7 @@ to_parts size (suc n) cs (g ∷ gs) s =
       extra = rest.extra;
     }
 
-of_parts : (size : Size) (n : ℕ) (cs : List ExtraChannel) (gs : List (Grid ℤ)) → Parts size n cs gs → AllZip (HasShift size) (replicate n 0 ++ map (λ (c : ExtraChannel). c.shift) cs) gs
+of_parts : (size : Size) (n : ℕ) (cs : List ExtraChannel) (gs : List (Grid ℤ)) → Parts size n cs gs → AllZip (HasShift size) (replicate n 0 ++ map (λ (c : ExtraChannel). c.dim_shift) cs) gs
 of_parts size zero cs gs s = of_extra size cs gs s.extra
 of_parts size (suc n) cs [] s = absurd (omega (arith, s.count))
 of_parts size (suc n) cs (g ∷ gs) s =
@@ -67,11 +67,11 @@ of_parts size (suc n) cs (g ∷ gs) s =
 
 pub have_sides : (image : Image) (size : Size) (channels : List (Grid ℤ)) → AreChannels image size channels → HaveSides image size channels
 have_sides image size channels s =
-    let are = to_parts size (colour_count image) image.extra channels s in
+    let are = to_parts size (colour_count image) image.ec_info channels s in
     record { count = are.count; colours = are.colours; extra = are.extra }
 
 pub are_channels : (image : Image) (size : Size) (channels : List (Grid ℤ)) → HaveSides image size channels → AreChannels image size channels
-are_channels image size channels s = of_parts size (colour_count image) image.extra channels (record { count = s.count; colours = s.colours; extra = s.extra })
+are_channels image size channels s = of_parts size (colour_count image) image.ec_info channels (record { count = s.count; colours = s.colours; extra = s.extra })
 
 -- what tells the one tells the other
 pub tells_whole : (image : Image) (channels : List (Grid ℤ)) (b : Bool) → (IsTrue b ↔ HaveSides image image.size channels) → (IsTrue b ↔ IsWhole image channels)

@@ -27,13 +27,13 @@ shifted_far shift n far small =
     rw (none, rest) (omega arith)
 
 -- a channel of no shift has the sides of the picture
-pub full_sides : (size : Size) (c : ExtraChannel) (g : Grid ℤ) → c.shift ≡ 0 → HasShiftedSides size c g → HasSides size.width size.height g
+pub full_sides : (size : Size) (c : ExtraChannel) (g : Grid ℤ) → c.dim_shift ≡ 0 → HasShiftedSides size c g → HasSides size.width size.height g
 full_sides size c g none s = record {
   wide = s.wide ∙ ap (λ k. shifted k size.width) none ∙ shifted_none size.width;
   high = s.high ∙ ap (λ k. shifted k size.height) none ∙ shifted_none size.height;
 }
 
-pub sides_of_full : (size : Size) (c : ExtraChannel) (g : Grid ℤ) → c.shift ≡ 0 → HasSides size.width size.height g → HasShiftedSides size c g
+pub sides_of_full : (size : Size) (c : ExtraChannel) (g : Grid ℤ) → c.dim_shift ≡ 0 → HasSides size.width size.height g → HasShiftedSides size c g
 sides_of_full size c g none s = record {
   wide = s.wide ∙ sym (ap (λ k. shifted k size.width) none ∙ shifted_none size.width);
   high = s.high ∙ sym (ap (λ k. shifted k size.height) none ∙ shifted_none size.height);

@@ -3,7 +3,7 @@ use Rattle.std.proofs.Common.{◌≡◌, ℕ, ◌<◌, ℤ, Bool, true, false, r
 use Rattle.std.specs.Prelude.{◌==◌, ◌||◌, if◌then◌else◌}
 use Rattle.std.proofs.lemmas.Bool.Decides.{nat_tests}
 use Rattle.jxlm_base.specs.Grid.{Grid, cell}
-use Rattle.jxl_picture.specs.Orientations.{IsOriented, counted, is_turned, undoing}
+use Rattle.jxl_picture.specs.Orientations.{IsOriented, place_counted, is_turned, undoing}
 
 -- which orientations count columns from the right, and rows from the bottom
 abbrev from_right : ℕ → Bool
@@ -13,11 +13,11 @@ abbrev from_bottom : ℕ → Bool
 from_bottom o = (o == 3) || (o == 4) || (o == 6) || (o == 7)
 
 -- a place that is counted from the front or from the back is one of them, and counted again it is the first
-counted_below : (b : Bool) (n i : ℕ) → i < n → counted b n i < n
+counted_below : (b : Bool) (n i : ℕ) → i < n → place_counted b n i < n
 counted_below true n i h = omega (arith, h)
 counted_below false n i h = h
 
-counted_twice : (b : Bool) (n i : ℕ) → i < n → counted b n (counted b n i) ≡ i
+counted_twice : (b : Bool) (n i : ℕ) → i < n → place_counted b n (place_counted b n i) ≡ i
 counted_twice true n i h = omega (arith, h)
 counted_twice false n i h = refl
 
@@ -41,23 +41,23 @@ same_cell g a b x y e f = rw (e, f) refl
 module _ (coded shown : Grid ℤ) where
   Shows : Bool → Bool → Bool → Grid ℤ → Grid ℤ → Type 0
   Shows turned right bottom from to = (x y : ℕ) → x < to.width → y < to.height → cell to x y
-      ≡ cell from (counted right from.width (if turned then y else x)) (counted bottom from.height (if turned then x else y))
+      ≡ cell from (place_counted right from.width (if turned then y else x)) (place_counted bottom from.height (if turned then x else y))
 
   shown_back : (turned right bottom : Bool) → shown.width ≡ (if turned then coded.height else coded.width) → shown.height ≡ (if turned then coded.width else coded.height) →
       Shows turned right bottom coded shown → Shows turned (crossed turned right bottom) (crossed turned bottom right) shown coded
   unfolding Shows
   shown_back true right bottom wide high cells x y h k =
-      let column : counted bottom shown.width y < shown.width = rw wide (counted_below bottom coded.height y k) in
-      let row : counted right shown.height x < shown.height = rw high (counted_below right coded.width x h) in
-      let is_column : counted right coded.width (counted right shown.height x) ≡ x = rw high (counted_twice right coded.width x h) in
-      let is_row : counted bottom coded.height (counted bottom shown.width y) ≡ y = rw wide (counted_twice bottom coded.height y k) in
-      sym (cells (counted bottom shown.width y) (counted right shown.height x) column row ∙ same_cell coded _ _ x y is_column is_row)
+      let column : place_counted bottom shown.width y < shown.width = rw wide (counted_below bottom coded.height y k) in
+      let row : place_counted right shown.height x < shown.height = rw high (counted_below right coded.width x h) in
+      let is_column : place_counted right coded.width (place_counted right shown.height x) ≡ x = rw high (counted_twice right coded.width x h) in
+      let is_row : place_counted bottom coded.height (place_counted bottom shown.width y) ≡ y = rw wide (counted_twice bottom coded.height y k) in
+      sym (cells (place_counted bottom shown.width y) (place_counted right shown.height x) column row ∙ same_cell coded _ _ x y is_column is_row)
   shown_back false right bottom wide high cells x y h k =
-      let column : counted right shown.width x < shown.width = rw wide (counted_below right coded.width x h) in
-      let row : counted bottom shown.height y < shown.height = rw high (counted_below bottom coded.height y k) in
-      let is_column : counted right coded.width (counted right shown.width x) ≡ x = rw wide (counted_twice right coded.width x h) in
-      let is_row : counted bottom coded.height (counted bottom shown.height y) ≡ y = rw high (counted_twice bottom coded.height y k) in
-      sym (cells (counted right shown.width x) (counted bottom shown.height y) column row ∙ same_cell coded _ _ x y is_column is_row)
+      let column : place_counted right shown.width x < shown.width = rw wide (counted_below right coded.width x h) in
+      let row : place_counted bottom shown.height y < shown.height = rw high (counted_below bottom coded.height y k) in
+      let is_column : place_counted right coded.width (place_counted right shown.width x) ≡ x = rw wide (counted_twice right coded.width x h) in
+      let is_row : place_counted bottom coded.height (place_counted bottom shown.height y) ≡ y = rw high (counted_twice bottom coded.height y k) in
+      sym (cells (place_counted right shown.width x) (place_counted bottom shown.height y) column row ∙ same_cell coded _ _ x y is_column is_row)
 
   by_same : (t t' r r' b b' : Bool) → t ≡ t' → r ≡ r' → b ≡ b' → Shows t' r' b' shown coded → Shows t r b shown coded
   by_same t t' r r' b b' e f g all = rw (e, f, g) all

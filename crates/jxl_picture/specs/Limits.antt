@@ -7,7 +7,7 @@ use Rattle.jxl_picture.specs.declared.limits.Limits.{Limits}
 
 -- how many channels a picture has
 abbrev pub channel_count : Image → ℕ
-channel_count image = colour_count image + length image.extra
+channel_count image = colour_count image + length image.ec_info
 
 -- how many cells a channel of this size has
 abbrev pub cells_of : Size → ℕ
@@ -22,6 +22,6 @@ AllowFrame limits image used size = (size.width ≤ 2 ^ 30) × (size.height ≤ 
 -- the picture is within the limits: so is a first frame of its size, and its samples and channels are
 pub record Allow (limits : Limits) (image : Image) : Type 0 where
   pub frame : AllowFrame limits image 0 image.size
-  pub deep : image.samples.depth.bits ≤ 32
+  pub deep : image.samples.bit_depth.bits_per_sample ≤ 32
   pub channels : channel_count image ≤ limits.channels
   pub most : channel_count image ≤ 2 ^ 20

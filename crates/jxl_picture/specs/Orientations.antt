@@ -10,16 +10,16 @@ abbrev pub is_turned : ℕ → Bool
 is_turned o = nat_lt 4 o
 
 -- place i of n, counted from the front or from the back
-abbrev pub counted : Bool → ℕ → ℕ → ℕ
-counted back n i = if back then n - 1 - i else i
+abbrev pub place_counted : Bool → ℕ → ℕ → ℕ
+place_counted back n i = if back then n - 1 - i else i
 
 -- The second grid shows the cells of the first by this orientation: some count columns from the right, some rows from the bottom.
 pub record IsOriented {S : Type 0} (o : ℕ) (coded shown : Grid S) : Type 0 where
   pub wide : shown.width ≡ (if is_turned o then coded.height else coded.width)
   pub high : shown.height ≡ (if is_turned o then coded.width else coded.height)
   pub cells : (x y : ℕ) → x < shown.width → y < shown.height → cell shown x y
-      ≡ cell coded (counted ((o == 2) || (o == 3) || (o == 7) || (o == 8)) coded.width (if is_turned o then y else x))
-      (counted ((o == 3) || (o == 4) || (o == 6) || (o == 7)) coded.height (if is_turned o then x else y))
+      ≡ cell coded (place_counted ((o == 2) || (o == 3) || (o == 7) || (o == 8)) coded.width (if is_turned o then y else x))
+      (place_counted ((o == 3) || (o == 4) || (o == 6) || (o == 7)) coded.height (if is_turned o then x else y))
 
 -- the orientation that undoes this one
 abbrev pub undoing : ℕ → ℕ

@@ -9,7 +9,7 @@ use Rattle.jxl_image_header.specs.declared.size.Size.{Size}
 
 -- colours are grey
 abbrev pub is_grey : Image → Bool
-is_grey image = image.shown.colour.space == 1
+is_grey image = image.shown.colour_encoding.colour_space == 1
 
 -- how many channels colours have
 abbrev pub colour_count : Image → ℕ
@@ -20,18 +20,18 @@ abbrev pub is_alpha : ExtraChannel → Bool
 is_alpha c = c.kind == 0
 
 abbrev pub has_alpha : Image → Bool
-has_alpha image = list_any is_alpha image.extra
+has_alpha image = list_any is_alpha image.ec_info
 
 -- it is alpha, and as large as the picture; and whether there is such a channel
 abbrev pub is_full_alpha : ExtraChannel → Bool
-is_full_alpha c = is_alpha c && (c.shift == 0)
+is_full_alpha c = is_alpha c && (c.dim_shift == 0)
 
 abbrev pub has_full_alpha : Image → Bool
-has_full_alpha image = list_any is_full_alpha image.extra
+has_full_alpha image = list_any is_full_alpha image.ec_info
 
 -- how often each channel is halved: those of colours not at all, extra channels by their shifts
 abbrev pub shifts_of : Image → List ℕ
-shifts_of image = replicate (colour_count image) 0 ++ map (λ c. c.shift) image.extra
+shifts_of image = replicate (colour_count image) 0 ++ map (λ c. c.dim_shift) image.ec_info
 
 -- these are all channels of a frame of this size: each has its sides, halved so often and rounded up
 abbrev pub AreChannels : Image → Size → List (Grid ℤ) → Type 0

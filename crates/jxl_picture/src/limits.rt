@@ -39,7 +39,7 @@ impl Limits {
     pub fn allow(&self, header: &ImageHeader) -> bool
         ensures { IsTrue result ↔ Allow self.now (image_of header.now) }
     {
-        let extra = header.extra.len();
+        let extra = header.ec_info.len();
         if extra > 1 << 20 {
             return false;
         }
@@ -48,7 +48,10 @@ impl Limits {
             return false;
         }
         let size = header.size;
-        if size.width > 1 << 30 || size.height > 1 << 30 || header.samples.depth.bits > 32 {
+        if size.width > 1 << 30
+            || size.height > 1 << 30
+            || header.samples.bit_depth.bits_per_sample > 32
+        {
             return false;
         }
         let pixels = u64::from(size.width) * u64::from(size.height);

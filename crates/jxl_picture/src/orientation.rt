@@ -4,7 +4,7 @@ ghost use Rattle.std.specs.Prelude.{◌≡◌, ◌==◌, ◌||◌, ◌<◌, ℕ,
 ghost use Rattle.std.specs.List.{AllZip};
 ghost use Rattle.jxlm_base.specs.Grid.{cell};
 ghost use Rattle.jxl_picture.specs.Inner.Cells.{column_of as the_column, row_of as the_row};
-ghost use Rattle.jxl_picture.specs.Orientations.{AreUndone, IsOriented, is_turned as turned, counted as the_counted, shown_size as the_shown_size};
+ghost use Rattle.jxl_picture.specs.Orientations.{AreUndone, IsOriented, is_turned as turned, place_counted as the_counted, shown_size as the_shown_size};
 
 use jxl_image_header::size::Size;
 use jxlm_base::grid::{AlignedGrid, OutOfMemory};

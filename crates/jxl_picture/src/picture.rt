@@ -31,7 +31,7 @@ pub struct Picture {
 pub fn is_grey(header: &ImageHeader) -> bool
     ensures { result ≡ colours_are_grey (image_of header.now) }
 {
-    header.shown.colour.space == 1
+    header.shown.colour_encoding.colour_space == 1
 }
 
 /// How many channels colours have: 1 or 3.
@@ -45,21 +45,21 @@ pub fn colours(header: &ImageHeader) -> usize
 pub fn has_alpha(header: &ImageHeader) -> bool
     ensures { result ≡ there_is_alpha (image_of header.now) }
 {
-    header.extra.iter().any(|channel| channel.kind == 0)
+    header.ec_info.iter().any(|channel| channel.kind == 0)
 }
 
 /// Whether a channel is alpha that is as large as the picture.
 pub fn is_full_alpha(channel: &ExtraChannel) -> bool
     ensures { result ≡ the_full_alpha channel.now }
 {
-    channel.kind == 0 && channel.shift == 0
+    channel.kind == 0 && channel.dim_shift == 0
 }
 
 /// Whether one of the extra channels is alpha that is as large as the picture.
 pub fn has_full_alpha(header: &ImageHeader) -> bool
     ensures { result ≡ there_is_full_alpha (image_of header.now) }
 {
-    header.extra.iter().any(|channel| is_full_alpha(channel))
+    header.ec_info.iter().any(|channel| is_full_alpha(channel))
 }
 
 // A side of so many samples in a channel of this shift.
@@ -83,8 +83,8 @@ fn has_sides(grid: &AlignedGrid<i32>, width: u32, height: u32) -> bool
 fn has_shifted_sides(channel: &ExtraChannel, grid: &AlignedGrid<i32>, size: Size) -> bool
     ensures { IsTrue result ↔ HasShiftedSides size channel.now grid.now }
 {
-    let width = shifted(channel.shift, size.width);
-    let height = shifted(channel.shift, size.height);
+    let width = shifted(channel.dim_shift, size.width);
+    let height = shifted(channel.dim_shift, size.height);
     has_sides(grid, width, height)
 }
 
@@ -109,7 +109,7 @@ impl Picture {
     {
         let size = self.header.size;
         let colours = colours(&self.header);
-        let extra = &self.header.extra;
+        let extra = &self.header.ec_info;
         if self.channels.len() < colours || self.channels.len() - colours != extra.len() {
             return false;
         }

@@ -7,7 +7,7 @@ use Rattle.std.proofs.lemmas.List.Elements.{All-nil, All-cons, All-append}
 use Rattle.jxlm_groups.specs.declared.part.SectionPart.{SectionPart}
 use Rattle.jxl_modular.specs.declared.sections.Section.{Section}
 use Rattle.jxlm_section_split.proofs.PartLists.{IsAmong, among_filter, among_range}
-use Rattle.jxl_still.specs.Places.{held}
+use Rattle.jxl_still.specs.Places.{section_held}
 use Rattle.jxl_still.specs.Inner.Listing.{AddingFails, AreAdded, IsOfGroup, IsPlaced, Lacks}
 use Rattle.jxl_still.specs.declared.error.FrameError.{FrameError}
 use Rattle.jxl_still.specs.declared.error.FrameError.TheVariants as errors
@@ -56,7 +56,7 @@ among_of part (q ∷ ps) (suc k, t, lt, is, same) = inr (among_of part ps (k, t,
 -- what fails for some parts fails for others among which they are
 pub fails_wider : (x : Places) (ps qs : List SectionPart) → ((q : SectionPart) → IsAmong q ps → IsAmong q qs) → (e : FrameError) → AddingFails x ps e → AddingFails x qs e
 fails_wider x ps qs wider errors.NoSection h = record { part = h.part; asked = any_of h.part qs (wider h.part (among_of h.part ps h.asked)); none = h.none }
-fails_wider x ps qs wider errors.NoMemory h = tt
+fails_wider x ps qs wider errors.OutOfMemory h = tt
 fails_wider x ps qs wider (errors.Header e) h = absurd h
 fails_wider x ps qs wider errors.WeightedPalette h = absurd h
 fails_wider x ps qs wider errors.NoGroups h = absurd h
@@ -79,5 +79,5 @@ pub pushed : (x : Places) (part : SectionPart) (before after : List Section) (s 
 pushed x part before after s placed e = one_added x part before after s placed e
 
 -- one part that has no section
-pub lacks_one : (x : Places) (part : SectionPart) → held x part ≡ None → Lacks x (part ∷ [])
+pub lacks_one : (x : Places) (part : SectionPart) → section_held x part ≡ None → Lacks x (part ∷ [])
 lacks_one x part none = record { part = part; asked = any_of part (part ∷ []) (inl refl); none = none }

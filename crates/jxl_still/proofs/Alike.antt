@@ -56,4 +56,4 @@ module _ {S D : Type 0} (d : Meaning D) (w : Width) (to_int : S → ℤ) (zero :
   fails_too errors.NoSection h = let (s, cut, part, is, none) = h in (stands_too s, cut, part, is, sym (alike part) ∙ none)
   fails_too errors.GroupWeightedPalette h = (has_too h.0, h.1)
   fails_too (errors.Samples e) h = unless_so (kind_of e) (λ f. let (s, left, before, after, stops) = f in (can_too s, left, before, after, stops)) h
-  fails_too errors.NoMemory h = tt
+  fails_too errors.OutOfMemory h = tt

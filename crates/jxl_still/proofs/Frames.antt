@@ -107,7 +107,7 @@ module _ {S D : Type 0} (d : Meaning D) (w : Width) (to_int : S → ℤ) (zero :
   pub open_fails : (e : FrameError) → OpenFails d global given bytes p e → Fails e
   open_fails (errors.Header e) h = unless_so (kind_of e) (λ f. (none_there bytes p f.0, f.1.0, f.1.1)) h
   open_fails errors.WeightedPalette h = stands_there bytes p h
-  open_fails errors.NoMemory h = tt
+  open_fails errors.OutOfMemory h = tt
   open_fails errors.NoGroups h = absurd h
   open_fails errors.NoSection h = absurd h
   open_fails errors.GroupWeightedPalette h = absurd h
@@ -134,7 +134,7 @@ module _ {S D : Type 0} (d : Meaning D) (w : Width) (to_int : S → ℤ) (zero :
       of_lacking (λ part. (part ≡ parts.Global → ⊥) × (0 < cell_count (channels_in image passes part))) (groups_in_order image passes) (all_ones image passes) lacks,
       ap (with_stream (stream_of places lacks.part)) lacks.none,
     )
-    list_fails errors.NoMemory h = tt
+    list_fails errors.OutOfMemory h = tt
     list_fails (errors.Header e) h = absurd h
     list_fails errors.WeightedPalette h = absurd h
     list_fails errors.GroupWeightedPalette h = absurd h
@@ -230,7 +230,7 @@ module _ {S D : Type 0} (d : Meaning D) (w : Width) (to_int : S → ℤ) (zero :
         samples_fail errors.NoGroups plain h = absurd h
         samples_fail errors.NoSection plain h = absurd h
         samples_fail errors.GroupWeightedPalette plain h = absurd h
-        samples_fail errors.NoMemory plain h = absurd h
+        samples_fail errors.OutOfMemory plain h = absurd h
 
         -- or there is the frame
         pub made : list_any section_is_weighted sections ≡ false → (grids : List (Grid ℤ)) (before after : ℕ) → AreDecoded d w to_int zero image passes global sections grids before after → Made grids before after

@@ -19,7 +19,7 @@ use Rattle.jxl_still.proofs.Adding.{added_then, fails_wider}
 -- what fails for all parts of an image fails for it
 of_all : {S D : Type 0} (x : Places) (image : Image S D) → (e : FrameError) → IsTrue (can_cut image.group_dim (coded_list image)) → AddingFails x (groups_in_order image (own_passes x)) e → ListingFails x image e
 of_all x image errors.NoSection cut h = (cut, h)
-of_all x image errors.NoMemory cut h = tt
+of_all x image errors.OutOfMemory cut h = tt
 of_all x image (errors.Header e) cut h = absurd h
 of_all x image errors.WeightedPalette cut h = absurd h
 of_all x image errors.NoGroups cut h = absurd h

@@ -13,7 +13,7 @@ use Rattle.jxl_modular.specs.declared.sections.Section.{Section}
 use Rattle.jxlm_section_split.proofs.PartLists.{each_of_range, each_section}
 use Rattle.jxl_still.proofs.Passes.{all_passes}
 use Rattle.jxl_still.specs.Inner.Listing.{IsOfGroup}
-use Rattle.jxl_still.specs.Places.{held, place_of, stream_of}
+use Rattle.jxl_still.specs.Places.{section_held, place_of, stream_of}
 use Rattle.jxl_still.specs.declared.places.Places.{Places}
 
 module _ {X : Type 0} (R : X → X → Type 0) where
@@ -86,7 +86,7 @@ module _ (x : Places) where
   none_is e = cc
 
   -- a group of a pass that has a section is one of as many as a pass has
-  within_pass : (p k : ℕ) (y : Bor (List ℕ)) → held x (parts.Pass p k) ≡ Some y → k < x.each
+  within_pass : (p k : ℕ) (y : Bor (List ℕ)) → section_held x (parts.Pass p k) ≡ Some y → k < x.each
   within_pass p k y e = by (nat_lt k x.each) refl e where
     by : (b : Bool) → nat_lt k x.each ≡ b → (if b then slice_get x.groups.now (place_of x p k) else None) ≡ Some y → k < x.each
     by true is e = ltb-true k x.each is
@@ -98,7 +98,7 @@ module _ (x : Places) where
   later_pass n (suc p) (suc q) j k lt low = let rest = later_pass n p q j k (omega (arith, lt)) low in omega (arith, rest)
 
   -- where two parts have sections, the index of the stream of the earlier one is smaller
-  rises : (a b : SectionPart) (y z : Bor (List ℕ)) → held x a ≡ Some y → held x b ≡ Some z → Before a b → stream_of x a < stream_of x b
+  rises : (a b : SectionPart) (y z : Bor (List ℕ)) → section_held x a ≡ Some y → section_held x b ≡ Some z → Before a b → stream_of x a < stream_of x b
   rises parts.Global b y z one other h = absurd (none_is one)
   rises (parts.Lf j) parts.Global y z one other h = absurd h
   rises (parts.Lf j) (parts.Lf k) y z one other h = omega (arith, h)

@@ -17,10 +17,10 @@ abbrev pub place_of : Places → ℕ → ℕ → ℕ
 place_of x pass group = pass * x.each + group
 
 -- the section that holds a part other than the global one, where the frame has one
-abbrev pub held : Places → SectionPart → Option (Bor (List ℕ))
-held x parts.Global = None
-held x (parts.Lf k) = slice_get x.low.now k
-held x (parts.Pass p k) = if nat_lt k x.each then slice_get x.groups.now (place_of x p k) else None
+abbrev pub section_held : Places → SectionPart → Option (Bor (List ℕ))
+section_held x parts.Global = None
+section_held x (parts.Lf k) = slice_get x.low.now k
+section_held x (parts.Pass p k) = if nat_lt k x.each then slice_get x.groups.now (place_of x p k) else None
 
 -- the index of a part's stream
 abbrev pub stream_of : Places → SectionPart → ℕ
@@ -30,7 +30,7 @@ stream_of x (parts.Pass p k) = 18 + 3 * length x.low.now + place_of x p k
 
 -- the bytes of that section, and the index of its stream
 abbrev pub section_at : Places → SectionPart → Option (List ℕ × ℕ)
-section_at x part = option_map (λ (bytes : Bor (List ℕ)). (bytes.now, stream_of x part)) (held x part)
+section_at x part = option_map (λ (bytes : Bor (List ℕ)). (bytes.now, stream_of x part)) (section_held x part)
 
 -- There are so few groups that the indices of their streams are numbers of 32 bits, and an image can be cut by the passes,
 -- if its channels are of one picture.

@@ -88,4 +88,4 @@ module _ {S D : Type 0} (d : Meaning D) (w : Width) (to_int : S → ℤ) (zero :
   StillFails errors.GroupWeightedPalette = (s : HasSections) × Any (λ t. IsWeightedAt (bytes_of t.bits) 0) s.groups
   StillFails (errors.Samples e) = UnlessMemory (kind_of e) ((s : CanDecode) × (left : List (Grid S)) × (before : ℕ) × (after : ℕ)
       × SectionsStop d w to_int zero s.has.stands.image passes global false (s.first ∷ s.has.groups) e s.has.stands.image.store left before after)
-  StillFails errors.NoMemory = Unit {0}
+  StillFails errors.OutOfMemory = Unit {0}

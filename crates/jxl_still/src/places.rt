@@ -33,7 +33,7 @@ pub struct Places<'a, 't> {
 
 impl<'a, 't> Places<'a, 't> {
     ghost use Rattle.jxl_modular.specs.GroupParts.{image_of, pass_count, passes_in, section_part};
-    ghost use Rattle.jxl_still.specs.Places.{AreUsable, held, own_passes};
+    ghost use Rattle.jxl_still.specs.Places.{AreUsable, section_held, own_passes};
     ghost use Rattle.jxl_still.specs.Inner.Listing.{AddingFails, AreAdded, IsPlaced};
     ghost use Rattle.jxl_still.specs.Inner.Parts.{low_parts, parts_of_pass, parts_of_passes};
 
@@ -48,7 +48,7 @@ impl<'a, 't> Places<'a, 't> {
     // The section of an LF group, with the index of its stream.
     fn low(&self, group: u64) -> Option<Section<'a>>
         requires { AreUsable self.now }
-        ensures { MatchOption result (held self.now (section_part (Part.Lf group)) ≡ None)
+        ensures { MatchOption result (section_held self.now (section_part (Part.Lf group)) ≡ None)
             (IsPlaced self.now (section_part (Part.Lf group))) }
     {
         let bytes = self.low.get(group as usize)?;
@@ -63,7 +63,7 @@ impl<'a, 't> Places<'a, 't> {
     // The section of a group of a pass, with the index of its stream.
     fn group(&self, pass: u32, group: u64) -> Option<Section<'a>>
         requires { AreUsable self.now }
-        ensures { MatchOption result (held self.now (section_part (Part.Pass pass group)) ≡ None)
+        ensures { MatchOption result (section_held self.now (section_part (Part.Pass pass group)) ≡ None)
             (IsPlaced self.now (section_part (Part.Pass pass group))) }
     {
         if group >= u64::from(self.each) {
@@ -194,7 +194,7 @@ impl<'a, 't> Places<'a, 't> {
         let groups = match image.prepare_groups(alloc, self.passes) {
             Ok(groups) => groups,
             Err(Error::InvalidSqueezeParams) => return Err(FrameError::NoGroups),
-            Err(_) => return Err(FrameError::NoMemory),
+            Err(_) => return Err(FrameError::OutOfMemory),
         };
         let mut list = Vec::new(alloc);
         let global = Section {

@@ -49,7 +49,7 @@ patch_text (patches.Invalid name value) = codes "invalid value " ++ decimal valu
 patch_text (patches.Decoder error) = codes "entropy decoder error: " ++ decoder_text error
 patch_text patches.Blended = codes "patches that are blended"
 patch_text patches.TooLarge = codes "patches of too many cells"
-patch_text patches.Memory = codes "out of memory"
+patch_text patches.OutOfMemory = codes "out of memory"
 
 -- what is wrong with the samples of a frame, or not supported
 unfoldable pub frame_text : FrameError → List ℕ
@@ -59,7 +59,7 @@ frame_text frames.NoGroups = codes "a group of no columns or rows"
 frame_text frames.NoSection = codes "a group without a section"
 frame_text frames.GroupWeightedPalette = codes "not supported: a palette with weighted deltas in a group"
 frame_text (frames.Samples error) = codes "samples: " ++ error_text error
-frame_text frames.NoMemory = codes "out of memory"
+frame_text frames.OutOfMemory = codes "out of memory"
 
 -- why a file is not decoded
 unfoldable pub file_text : FileError → List ℕ
@@ -69,4 +69,4 @@ file_text (files.Patches error) = codes "patches: " ++ patch_text error
 file_text (files.Start error) = codes "first section: " ++ error_text error
 file_text (files.Tree error) = codes "global tree: " ++ error_text error
 file_text (files.Samples error) = frame_text error
-file_text files.NoMemory = codes "out of memory"
+file_text files.OutOfMemory = codes "out of memory"

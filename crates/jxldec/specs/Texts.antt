@@ -30,8 +30,8 @@ pub record IsTextOfFile (limits : Limits) (file : List ℕ) (asked : Option Form
   pub format : Format
   pub suited : chosen asked (image_of picture.header) ≡ Some format
   pub written : text ≡ text_of format (image_of picture.header) picture.channels.items
-  pub without : others ≡ kinds_left_out format (image_of picture.header).extra
-  pub plain : profile ≡ (image_of picture.header).shown.colour.profile
+  pub without : others ≡ kinds_left_out format (image_of picture.header).ec_info
+  pub plain : profile ≡ (image_of picture.header).shown.colour_encoding.want_icc
 
 -- The headers of the file are supported, of a picture that is not written in the format that is asked for, or in any;
 pub record HeadersHaveNoFormat (limits : Limits) (file : List ℕ) (asked : Option Format) : Type 0 where
@@ -54,7 +54,7 @@ pub record IsAboveLimits (limits : Limits) (file : List ℕ) (size : Size) (extr
   pub image : Image
   pub headers : HeadersOfFile (entropy decoder_at) limits file image (Some fronts.TooLarge)
   pub sides : size ≡ image.size
-  pub channels : extra ≡ length image.extra
+  pub channels : extra ≡ length image.ec_info
   pub compared : most ≡ limits
 
 -- what each failure says of the file whose picture is asked for
@@ -62,13 +62,13 @@ abbrev pub TextFails : Limits → List ℕ → Option Format → Failure → Typ
 TextFails limits file asked (failures.File error) = FileFails limits file error
 TextFails limits file asked (failures.TooLarge size extra most) = IsAboveLimits limits file size extra most
 TextFails limits file asked failures.NoFormat = HasNoFormat limits file asked
-TextFails limits file asked failures.NoMemory = Unit {0}
+TextFails limits file asked failures.OutOfMemory = Unit {0}
 TextFails limits file asked failure = ⊥
 
 -- what each failure says of the file whose headers are asked for
 abbrev pub InfoFails : Limits → List ℕ → Failure → Type 0
 InfoFails limits file (failures.File error) = FileFails limits file error
-InfoFails limits file failures.NoMemory = Unit {0}
+InfoFails limits file failures.OutOfMemory = Unit {0}
 InfoFails limits file failure = ⊥
 
 -- what the headers of a file tell, of which nothing is left out

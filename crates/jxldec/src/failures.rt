@@ -25,7 +25,7 @@ pub enum Failure {
     /// The picture cannot be written in the format that is asked for, or in any.
     NoFormat,
     /// Out of memory for the text.
-    NoMemory,
+    OutOfMemory,
     /// The ending of the output's name is that of no format.
     Ending,
     /// The output cannot be written, for this reason.
@@ -87,7 +87,7 @@ impl fmt::Display for Failure {
             Failure::NoFormat => {
                 f.write_str("this format cannot hold the picture; --format text can")
             }
-            Failure::NoMemory => f.write_str("out of memory"),
+            Failure::OutOfMemory => f.write_str("out of memory"),
             Failure::Ending => f.write_str(
                 "no format has this ending; there are .pgm, .ppm, .pam, .pfm and .text",
             ),

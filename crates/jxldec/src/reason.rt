@@ -96,7 +96,7 @@ impl fmt::Display for PatchReason {
             }
             PatchError::Blended => f.write_str("patches that are blended"),
             PatchError::TooLarge => f.write_str("patches of too many cells"),
-            PatchError::Memory => f.write_str("out of memory"),
+            PatchError::OutOfMemory => f.write_str("out of memory"),
         }
     }
 }
@@ -127,7 +127,7 @@ impl fmt::Display for FrameReason {
                 let cause = Cause(error);
                 write!(f, "samples: {cause}")
             }
-            FrameError::NoMemory => f.write_str("out of memory"),
+            FrameError::OutOfMemory => f.write_str("out of memory"),
         }
     }
 }
@@ -163,7 +163,7 @@ impl fmt::Display for Reason {
                 let reason = FrameReason(error);
                 write!(f, "{reason}")
             }
-            FileError::NoMemory => f.write_str("out of memory"),
+            FileError::OutOfMemory => f.write_str("out of memory"),
         }
     }
 }

@@ -67,7 +67,7 @@ fn info_of_file(alloc: Global, file: &[u8], limits: &Limits) -> Result<Output, F
                 text: text.into_bytes(),
                 left_out: LeftOut::nothing(alloc),
             }),
-            Err(_) => Err(Failure::NoMemory),
+            Err(_) => Err(Failure::OutOfMemory),
         },
         Err(HeadersError::File(error)) => Err(Failure::File(FileError::File(error))),
         Err(HeadersError::Front(error)) => Err(Failure::File(FileError::Front(error))),
@@ -76,11 +76,11 @@ fn info_of_file(alloc: Global, file: &[u8], limits: &Limits) -> Result<Output, F
 
 // How far a picture is above the limits.
 fn above(limits: &Limits, header: &ImageHeader) -> Failure
-    ensures { result ≡ Failure.TooLarge (image_of header.now).size (length (image_of header.now).extra) limits.now }
+    ensures { result ≡ Failure.TooLarge (image_of header.now).size (length (image_of header.now).ec_info) limits.now }
 {
     Failure::TooLarge {
         size: header.size,
-        extra: header.extra.len(),
+        extra: header.ec_info.len(),
         limits: *limits,
     }
 }
@@ -129,11 +129,11 @@ fn write_picture(
         return Err(Failure::NoFormat);
     };
     let Ok(left_out) = LeftOut::of(alloc, format, &picture.header) else {
-        return Err(Failure::NoMemory);
+        return Err(Failure::OutOfMemory);
     };
     match format.write(alloc, picture) {
         Ok(text) => Ok(Output { text, left_out }),
-        Err(_) => Err(Failure::NoMemory),
+        Err(_) => Err(Failure::OutOfMemory),
     }
 }
 

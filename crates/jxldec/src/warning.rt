@@ -29,7 +29,7 @@ pub struct LeftOut {
 fn is_full_alpha(channel: &ExtraChannel) -> bool
     ensures { result ≡ the_full_alpha channel.now }
 {
-    channel.kind == 0 && channel.shift == 0
+    channel.kind == 0 && channel.dim_shift == 0
 }
 
 // Adds the kinds of channels, each after a space; unless `all` is set, but the first alpha of the picture's size.
@@ -52,18 +52,18 @@ impl LeftOut {
     /// What the text of a picture leaves out in this format.
     pub fn of(alloc: Global, format: Format, header: &ImageHeader) -> Result<LeftOut, OutOfMemory>
         ensures channels { IfOk result (λ l. string_bytes l.channels
-            ≡ kinds_left_out format (image_of header.now).extra) }
-        ensures profile { IfOk result (λ l. l.profile ≡ (image_of header.now).shown.colour.profile) }
+            ≡ kinds_left_out format (image_of header.now).ec_info) }
+        ensures profile { IfOk result (λ l. l.profile ≡ (image_of header.now).shown.colour_encoding.want_icc) }
     {
         let mut channels = String::new(alloc);
         match format {
             Format::Text => {}
-            Format::Pam => append_kinds(&mut channels, false, &header.extra)?,
-            _ => append_kinds(&mut channels, true, &header.extra)?,
+            Format::Pam => append_kinds(&mut channels, false, &header.ec_info)?,
+            _ => append_kinds(&mut channels, true, &header.ec_info)?,
         }
         Ok(LeftOut {
             channels,
-            profile: header.shown.colour.profile,
+            profile: header.shown.colour_encoding.want_icc,
         })
     }
 

@@ -3,7 +3,7 @@ use Rattle.std.proofs.Common.{◌≡◌, ℕ, zero, suc, List, Ok, Err, None, Re
 use Rattle.jxlm_bits.specs.Decoding.{Found, Meaning}
 use Rattle.jxlm_bits.specs.ErrorKind.{OfDecoder}
 use Rattle.jxlm_bits.specs.Grammar.{Grammar, IsExact}
-use Rattle.jxlm_bits.specs.Tokens.{Tokens, called, token, coded}
+use Rattle.jxlm_bits.specs.Tokens.{Tokens, called, token, coded_tokens}
 use Rattle.jxlm_bits.specs.Turns.{chained}
 use Rattle.jxlm_bits.specs.declared.decoder.DecoderError.{DecoderError}
 use Rattle.jxlm_bits.proofs.GrammarLaws.{bind, exact-give, found_same, none_found}
@@ -28,7 +28,7 @@ module _ {S : Type 0} (d : Meaning S) where
   pub exact-token : {X : Type 0} (context : ℕ) (means : ℕ → Grammar X) → ((v : ℕ) → IsExact (means v)) → (s : S) → IsExact (token d context means s)
   exact-token context means each s = bind (exact-called _) λ t. bind (each t.value) λ x. exact-give (record { value = x; state = t.state })
 
-  pub exact-coded : {X : Type 0} (contexts : ℕ) (tokens : Tokens S X) → ((s : S) → IsExact (tokens s)) → IsExact (coded d contexts tokens)
+  pub exact-coded : {X : Type 0} (contexts : ℕ) (tokens : Tokens S X) → ((s : S) → IsExact (tokens s)) → IsExact (coded_tokens d contexts tokens)
   exact-coded contexts tokens each =
       bind (bind (exact-called (λ bytes p. d.parse bytes p contexts)) λ s. exact-called (λ bytes p. d.begin s bytes p)) λ s.
       bind (each s) λ told. bind (exact-called _) λ u. exact-give told.value

@@ -10,13 +10,13 @@ use Rattle.jxlm_tree.proofs.FlatTrees.{reached_leaf}
 use Rattle.jxlm_samples.specs.Coded.{next_prediction}
 use Rattle.jxlm_samples.specs.Part.{Part, clamps, next_channel, next_leaf, property_by, surroundings}
 use Rattle.jxlm_samples.proofs.TokenLaw.{each_has_token}
-use Rattle.jxlm_encode_write.specs.Nodes.{packed}
+use Rattle.jxlm_encode_write.specs.Nodes.{packed_number}
 use Rattle.jxlm_encode_tokens.specs.Laws.{EachPartHasOneList}
 use Rattle.jxlm_encode_tokens.specs.Tokens.{AreTokensOf, IsSampleToken, MultipliesByOdd, MultipliesByOne}
 use Rattle.jxlm_encode_tokens.proofs.OneToken.{one_token, packed_unpack}
 
 -- a token whose number has 32 bits has 32 bits
-packed_below : (u : ℤ) → FitsSigned w32 u → packed u < 2 ^ 32
+packed_below : (u : ℤ) → FitsSigned w32 u → packed_number u < 2 ^ 32
 packed_below (pos n) h = omega (arith, ints)
 packed_below (negsuc n) h = omega (arith, ints)
 

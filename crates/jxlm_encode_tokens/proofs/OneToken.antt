@@ -7,11 +7,11 @@ use Rattle.std.proofs.Math.IntN.{+ℤ_assoc}
 use Rattle.jxlm_bits.specs.Numbers.{unpack}
 use Rattle.jxlm_tree.specs.declared.flat.Leaf.{Leaf}
 use Rattle.jxlm_samples.specs.Coded.{sample_of}
-use Rattle.jxlm_encode_write.specs.Nodes.{packed}
+use Rattle.jxlm_encode_write.specs.Nodes.{packed_number}
 use Rattle.jxlm_encode_tokens.specs.Laws.{EachHasOneToken}
 use Rattle.jxlm_encode_tokens.specs.Tokens.{IsSampleToken, MultipliesByOne}
 
-pub packed_unpack : (token : ℕ) → packed (unpack token) ≡ token
+pub packed_unpack : (token : ℕ) → packed_number (unpack token) ≡ token
 packed_unpack token =
     elim (cases_lt (token % 2) 1) [
       | inl even ↦ (
@@ -66,7 +66,7 @@ number_is w leaf predicted sample token one h =
 
 pub one_token : EachHasOneToken
 one_token w leaf predicted sample a b one ha hb =
-    sym (packed_unpack a) ∙ ap packed (number_is w leaf predicted sample a one ha ∙ sym (number_is w leaf predicted sample b one hb)) ∙ packed_unpack b
+    sym (packed_unpack a) ∙ ap packed_number (number_is w leaf predicted sample a one ha ∙ sym (number_is w leaf predicted sample b one hb)) ∙ packed_unpack b
 
 -- what is reduced to 32 bits first may be reduced to the width at once
 pub reduced_at_once : (w : Width) → ((z : ℤ) → int_wrap w (int_wrap w32 z) ≡ int_wrap w z) → (r s : ℤ) → r ≡ int_wrap w32 s → int_wrap w r ≡ int_wrap w s

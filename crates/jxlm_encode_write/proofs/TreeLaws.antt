@@ -15,7 +15,7 @@ use Rattle.jxlm_predictor.specs.declared.predictor.Predictor.{Predictor}
 use Rattle.jxlm_predictor.specs.declared.predictor.Predictor.TheVariants as p
 use Rattle.jxlm_encode_write.specs.Written.{digits, HasBits}
 use Rattle.jxlm_encode_write.specs.Tokens.{decoder_bits, one_cluster, gamma_decoder_bits, gamma_bits, one_gamma_cluster}
-use Rattle.jxlm_encode_write.specs.Nodes.{packed, number_of, node_of, node_tokens, tree_tokens}
+use Rattle.jxlm_encode_write.specs.Nodes.{packed_number, number_of, node_of, node_tokens, tree_tokens}
 use Rattle.jxlm_encode_write.specs.Trees.{leaves_in, tree_bits, gamma_tree_bits}
 use Rattle.jxlm_encode_write.specs.Laws.{TreesStand, GammaTreesStand}
 use Rattle.jxlm_encode_write.specs.declared.tree.EncodeNode.{EncodeNode}
@@ -26,7 +26,7 @@ use Rattle.jxlm_encode_write.proofs.TokenLaws.{fixed_writable}
 use Rattle.jxlm_encode_write.proofs.GammaLaws.{gamma_writable}
 
 -- a packed number is unpacked
-pub unpack_packed : (z : ℤ) → unpack (packed z) ≡ z
+pub unpack_packed : (z : ℤ) → unpack (packed_number z) ≡ z
 unpack_packed (pos k) =
     let even : 2 * k % 2 ≡ 0 = omega arith in
     let half : 2 * k / 2 ≡ k = omega arith in
@@ -96,39 +96,39 @@ module _ {S : Type 0} (d : Meaning S) (state : ℕ → S) (head : ℕ → List �
   node_stands : (q r : ℕ) (n : EncodeNode) → Fit Fits (node_tokens n) → HasBits bytes q (bits_in (node_tokens n)) → r ≡ q + length (bits_in (node_tokens n)) →
       NodeStands d bytes (at q) (node_of n) (at r)
   node_stands q r (given.Decision property value) fit h e =
-      let t1 : List ℕ = packed value ∷ [] in
+      let t1 : List ℕ = packed_number value ∷ [] in
       let q1 : ℕ = q + length (one (suc property)) in
       let k = length-append (one (suc property)) (bits_in t1) in
-      let l = length-append (one (packed value)) [] in
+      let l = length-append (one (packed_number value)) [] in
       let fit1 = rest_fits Fits (suc property) t1 fit in
       let h1 = others_have q (suc property) t1 h in (
         at q1,
-        packed value,
+        packed_number value,
         token_stands q q1 1 (suc property) t1 refl fit h refl,
-        token_stands q1 r 0 (packed value) [] refl fit1 h1 (omega (arith, e, k, l)),
+        token_stands q1 r 0 (packed_number value) [] refl fit1 h1 (omega (arith, e, k, l)),
         sym (unpack_packed value),
       )
   node_stands q r (given.Leaf predictor offset) fit h e =
       let t4 : List ℕ = 0 ∷ [] in
       let t3 : List ℕ = 0 ∷ t4 in
-      let t2 : List ℕ = packed offset ∷ t3 in
+      let t2 : List ℕ = packed_number offset ∷ t3 in
       let t1 : List ℕ = number_of predictor ∷ t2 in
       let q1 : ℕ = q + length (one 0) in
       let q2 : ℕ = q1 + length (one (number_of predictor)) in
-      let q3 : ℕ = q2 + length (one (packed offset)) in
+      let q3 : ℕ = q2 + length (one (packed_number offset)) in
       let q4 : ℕ = q3 + length (one 0) in
       let k0 = length-append (one 0) (bits_in t1) in
       let k1 = length-append (one (number_of predictor)) (bits_in t2) in
-      let k2 = length-append (one (packed offset)) (bits_in t3) in
+      let k2 = length-append (one (packed_number offset)) (bits_in t3) in
       let k3 = length-append (one 0) (bits_in t4) in
       let k4 = length-append (one 0) [] in
       let f1 = rest_fits Fits 0 t1 fit in
       let f2 = rest_fits Fits (number_of predictor) t2 f1 in
-      let f3 = rest_fits Fits (packed offset) t3 f2 in
+      let f3 = rest_fits Fits (packed_number offset) t3 f2 in
       let f4 = rest_fits Fits 0 t4 f3 in
       let h1 = others_have q 0 t1 h in
       let h2 = others_have q1 (number_of predictor) t2 h1 in
-      let h3 = others_have q2 (packed offset) t3 h2 in
+      let h3 = others_have q2 (packed_number offset) t3 h2 in
       let h4 = others_have q3 0 t4 h3 in (
         at q1,
         token_stands q q1 1 0 t1 refl fit h refl,
@@ -137,9 +137,9 @@ module _ {S : Type 0} (d : Meaning S) (state : ℕ → S) (head : ℕ → List �
           after_number = at q2;
           number_stands = token_stands q1 q2 2 (number_of predictor) t2 refl f1 h1 refl;
           predictor = found_by_number predictor;
-          offset_token = packed offset;
+          offset_token = packed_number offset;
           after_offset = at q3;
-          offset_stands = token_stands q2 q3 3 (packed offset) t3 refl f2 h2 refl;
+          offset_stands = token_stands q2 q3 3 (packed_number offset) t3 refl f2 h2 refl;
           offset = sym (unpack_packed offset);
           log = 0;
           after_log = at q4;

@@ -9,9 +9,9 @@ use Rattle.jxlm_encode_write.specs.declared.tree.EncodeNode.{EncodeNode}
 use Rattle.jxlm_encode_write.specs.declared.tree.EncodeNode.TheVariants as given
 
 -- the token of a signed number: 2k for k, and 2k + 1 for -k - 1
-abbrev pub packed : ℤ → ℕ
-packed (pos k) = 2 * k
-packed (negsuc k) = 2 * k + 1
+abbrev pub packed_number : ℤ → ℕ
+packed_number (pos k) = 2 * k
+packed_number (negsuc k) = 2 * k + 1
 
 -- the number of a predictor
 abbrev pub number_of : Predictor → ℕ
@@ -37,8 +37,8 @@ node_of (given.Leaf predictor offset) = leaf_node (record { cluster = 0; predict
 
 -- the tokens of a node
 abbrev pub node_tokens : EncodeNode → List ℕ
-node_tokens (given.Decision property value) = suc property ∷ packed value ∷ []
-node_tokens (given.Leaf predictor offset) = 0 ∷ number_of predictor ∷ packed offset ∷ 0 ∷ 0 ∷ []
+node_tokens (given.Decision property value) = suc property ∷ packed_number value ∷ []
+node_tokens (given.Leaf predictor offset) = 0 ∷ number_of predictor ∷ packed_number offset ∷ 0 ∷ 0 ∷ []
 
 -- the tokens of nodes, one after another
 abbrev pub tree_tokens : List EncodeNode → List ℕ

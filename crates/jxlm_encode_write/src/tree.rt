@@ -2,7 +2,7 @@
 
 ghost use Rattle.std.specs.Prelude.{◌≡◌, ◌++◌, ◌↔◌, true, IsTrue, IfOk, length};
 ghost use Rattle.std.specs.List.{All};
-ghost use Rattle.jxlm_encode_write.specs.Nodes.{packed, number_of as the_number, node_tokens, tree_tokens, has_token};
+ghost use Rattle.jxlm_encode_write.specs.Nodes.{packed_number, number_of as the_number, node_tokens, tree_tokens, has_token};
 
 use jxlm_predictor::predictor::Predictor;
 use std::alloc::{AllocError, Global};
@@ -28,7 +28,7 @@ pub enum EncodeNode {
 
 /// The token of a signed number: 2k for k, and 2k + 1 for -k - 1.
 pub fn pack(value: i32) -> u32
-    ensures { result ≡ packed value }
+    ensures { result ≡ packed_number value }
 {
     if value >= 0 {
         value.cast_unsigned() * 2

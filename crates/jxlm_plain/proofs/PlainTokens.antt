@@ -6,7 +6,7 @@ use Rattle.jxlm_bits.specs.Decoding.{Found, Taken, Asked, reads}
 use Rattle.jxlm_bits.specs.ErrorKind.{◌>>=◌}
 use Rattle.jxlm_plain.specs.Plain.{PlainState, number_at, gamma_at, code_of, is_runs, owed_in, last_in, begin_mode, token_at, run_at, plain_begin, plain_read, plain}
 use Rattle.jxlm_plain.specs.Inner.PlainLaws.{bind_ok, ok_same}
-use Rattle.jxlm_plain.specs.PlainTokens.{FixedTokensAreNumbers, SealsAreSums, RunsRepeat, is_sealed, counted, fixed_sum}
+use Rattle.jxlm_plain.specs.PlainTokens.{FixedTokensAreNumbers, SealsAreSums, RunsRepeat, is_sealed, summand_of, fixed_sum}
 use Rattle.jxlm_bits.specs.declared.decoder.DecoderError.{DecoderError}
 use Rattle.jxlm_bits.specs.declared.decoder.DecoderError.TheVariants.{UnexpectedEof}
 use Rattle.jxlm_plain.specs.declared.plain.Code.{Code}
@@ -67,7 +67,7 @@ taken : (v t : ℕ) → v < 256 → ((v + 256 - t % 256) % 256 + t) % 256 ≡ v
 taken v t h = omega arith
 
 token_counts : (v : ℕ) (code : Code) (bytes : List ℕ) (p : ℕ) (x : Taken ℕ Mode) → v < 256 → token_at (Sealed v) code bytes p ≡ Ok x →
-    (w : ℕ) × (x.state ≡ Sealed w) × (w < 256) × ((w + counted code x.value) % 256 ≡ v)
+    (w : ℕ) × (x.state ≡ Sealed w) × (w < 256) × ((w + summand_of code x.value) % 256 ≡ v)
 unfolding token_at
 token_counts v (Constant token) bytes p x lt h = rw (ok_same _ _ h) (v, refl, lt, omega arith)
 token_counts v (Fixed width) bytes p x lt h =
@@ -78,7 +78,7 @@ token_counts v Gamma bytes p x lt h =
     rw (ok_same _ _ b.2) ((v + 256 - b.0.value % 256) % 256, refl, omega arith, taken v b.0.value lt)
 
 read_counts : (s : PlainState) (v : ℕ) (codes : List Code) (clusters : List ℕ) (bytes : List ℕ) (p c m : ℕ) (x : Taken ℕ PlainState) → s ≡ state (Sealed v) codes clusters → v < 256 →
-    plain_read s bytes p c m ≡ Ok x → (w : ℕ) × (x.state ≡ state (Sealed w) codes clusters) × (w < 256) × ((w + counted (code_of codes c) x.value) % 256 ≡ v)
+    plain_read s bytes p c m ≡ Ok x → (w : ℕ) × (x.state ≡ state (Sealed w) codes clusters) × (w < 256) × ((w + summand_of (code_of codes c) x.value) % 256 ≡ v)
 unfolding plain_read
 read_counts s v codes clusters bytes p c m x is lt h =
     let g : plain_read (state (Sealed v) codes clusters) bytes p c m ≡ Ok x = sym (ap (λ (t : PlainState). plain_read t bytes p c m) is) ∙ h in
@@ -99,7 +99,7 @@ reads_count (asked ∷ others) s v codes clusters bytes p x is lt h =
     let first = read_counts s v codes clusters bytes p asked.cluster asked.multiplier a.0 is lt a.1 in
     let rest = reads_count others a.0.state first.0 codes clusters bytes a.0.position b.0 first.1 first.2 b.1 in
     rw (ok_same _ _ b.2)
-    (rest.0, rest.1, rest.2, all_counted rest.0 (counted (code_of codes asked.cluster) a.0.value) (fixed_sum codes others b.0.value) first.0 v lt rest.3 first.3)
+    (rest.0, rest.1, rest.2, all_counted rest.0 (summand_of (code_of codes asked.cluster) a.0.value) (fixed_sum codes others b.0.value) first.0 v lt rest.3 first.3)
 
 seal_left : (w n v : ℕ) → w < 256 → v < 256 → (w + n) % 256 ≡ v → (w == 0) ≡ (n % 256 == v)
 seal_left w n v hw hv h = grind (arith, nat_tests)

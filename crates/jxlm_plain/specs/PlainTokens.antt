@@ -23,16 +23,16 @@ is_sealed (Sealed sum) = true
 is_sealed (Runs last left) = false
 
 -- what a token adds to the sum: a constant adds nothing
-abbrev pub counted : Code → ℕ → ℕ
-counted (Constant constant) token = 0
-counted (Fixed width) token = token
-counted Gamma token = token
+abbrev pub summand_of : Code → ℕ → ℕ
+summand_of (Constant constant) token = 0
+summand_of (Fixed width) token = token
+summand_of Gamma token = token
 
 -- the sum of the fixed tokens among those that were read
 abbrev pub fixed_sum : List Code → List Asked → List ℕ → ℕ
 fixed_sum codes [] tokens = 0
 fixed_sum codes (asked ∷ others) [] = 0
-fixed_sum codes (asked ∷ others) (token ∷ tokens) = counted (code_of codes asked.cluster) token + fixed_sum codes others tokens
+fixed_sum codes (asked ∷ others) (token ∷ tokens) = summand_of (code_of codes asked.cluster) token + fixed_sum codes others tokens
 
 -- Under a seal, which is u(8) where the tokens begin, their end is Ok exactly where the fixed tokens that were read
 -- since then sum up to the seal, modulo 256; else it is Invalid(4).

@@ -2,5 +2,5 @@
 use Rattle.jxlm_predictor.specs.Neighbours.{Neighbours}
 use Rattle.jxlm_predictor.specs.declared.around.Around.{Around}
 
-abbrev pub seen : Around → Neighbours
-seen a = record { w = a.w; n = a.n; nw = a.nw; ne = a.ne; nee = a.nee; nn = a.nn; ww = a.ww }
+abbrev pub neighbours_of : Around → Neighbours
+neighbours_of a = record { w = a.w; n = a.n; nw = a.nw; ne = a.ne; nee = a.nee; nn = a.nn; ww = a.ww }

@@ -12,19 +12,19 @@ use Rattle.jxlm_predictor.specs.declared.self_correcting.PredictionResult.{Predi
 use Rattle.jxlm_predictor.specs.declared.self_correcting.SubPredictions.{SubPredictions}
 
 -- the four numbers that the code keeps
-abbrev pub counted : Counts → List ℕ
-counted c = c.s0 ∷ c.s1 ∷ c.s2 ∷ c.s3 ∷ []
+abbrev pub counts_of : Counts → List ℕ
+counts_of c = c.s0 ∷ c.s1 ∷ c.s2 ∷ c.s3 ∷ []
 
 abbrev pub predicted_by : SubPredictions → List ℤ
 predicted_by s = s.s0 ∷ s.s1 ∷ s.s2 ∷ s.s3 ∷ []
 
 -- the errors of a cell
 abbrev pub cell_errors : CellErrors → Errors
-cell_errors e = record { true_error = e.true_error; sub_errors = counted e.sub_errors }
+cell_errors e = record { true_error = e.true_error; sub_errors = counts_of e.sub_errors }
 
 -- the errors around a cell
 abbrev pub near_of : ErrorsAround → ErrorsNear
-near_of e = record { w = e.w; n = e.n; nw = e.nw; ne = e.ne; sums = counted e.sums }
+near_of e = record { w = e.w; n = e.n; nw = e.nw; ne = e.ne; sums = counts_of e.sums }
 
 -- At (x, y), with the errors of the cells before: the current row up to x, and the row above.
 pub record KeepsErrors (width x y : ℕ) (previous current errors : List Errors) : Type 0 where

@@ -2,7 +2,7 @@
 use Rattle.std.specs.Prelude.{◌≡◌, ◌<◌, ℕ, ℤ, pos, List, map, Option, slice_index_or}
 use Rattle.jxlm_base.specs.Grid.{Grid}
 use Rattle.jxlm_base.specs.Regions.{grid_of, store_meanings}
-use Rattle.jxlm_predictor.specs.Around.{seen}
+use Rattle.jxlm_predictor.specs.Around.{neighbours_of}
 use Rattle.jxlm_predictor.specs.Correcting.{IsMade}
 use Rattle.jxlm_predictor.specs.EarlierRows.{HoldRows}
 use Rattle.jxlm_predictor.specs.Neighbours.{neighbours}
@@ -36,7 +36,7 @@ module _ {S : Type 0} where
   -- They are the properties of the cell that the state is at, whichever that is.
   pub record IsCurrent (p : Properties S) : Type 0 where
     pub ready : IsReady (state_of p) (store_of p)
-    pub around_is : (s : Setting) (samples : List ℤ) → StandsAt (state_of p) s samples → seen p.around ≡ neighbours samples s.width
+    pub around_is : (s : Setting) (samples : List ℤ) → StandsAt (state_of p) s samples → neighbours_of p.around ≡ neighbours samples s.width
     pub correction_is : (s : Setting) (samples : List ℤ) → StandsAt (state_of p) s samples → IsMade p.correction s.weights s.width samples
     pub rows_are : HoldRows (state_of p) (store_of p) (rows_of p)
 

@@ -3,7 +3,7 @@
 ghost use Rattle.std.specs.Prelude.{◌≡◌, ◌+ℤ◌, ◌-ℤ◌, ◌*ℤ◌, pos, int_div, unsigned_abs, ◌<◌, ◌^◌};
 ghost use Rattle.jxlm_predictor.specs.declared.predictor.Predictor.TheVariants.{AvgAll, Select};
 ghost use Rattle.jxlm_predictor.specs.Predictions.{prediction_from};
-ghost use Rattle.jxlm_predictor.specs.Around.{seen};
+ghost use Rattle.jxlm_predictor.specs.Around.{neighbours_of};
 ghost use Rattle.jxlm_predictor.specs.Inner.CorrectingSteps.{clamped_around};
 
 use crate::predictor::Predictor;
@@ -37,7 +37,7 @@ fn average(a: i32, b: i32) -> i64
 
 impl Around {
     fn select(&self) -> i32
-        ensures { result ≡ prediction_from (seen self.now) (pos 0) Select }
+        ensures { result ≡ prediction_from (neighbours_of self.now) (pos 0) Select }
     {
         if self.n.abs_diff(self.nw) < self.w.abs_diff(self.nw) {
             self.w
@@ -61,7 +61,7 @@ impl Around {
     }
 
     fn average_of_all(&self) -> i64
-        ensures { result ≡ prediction_from (seen self.now) (pos 0) AvgAll }
+        ensures { result ≡ prediction_from (neighbours_of self.now) (pos 0) AvgAll }
     {
         (self.nearest() + self.farther() + 8) / 16
     }
@@ -70,7 +70,7 @@ impl Around {
     #[inline(always)]
     pub(crate) fn prediction(&self, corrected: i64, predictor: Predictor) -> i64
         requires { unsigned_abs corrected < 2 ^ 62 }
-        ensures { result ≡ prediction_from (seen self.now) corrected predictor }
+        ensures { result ≡ prediction_from (neighbours_of self.now) corrected predictor }
     {
         match predictor {
             Predictor::Zero => 0,
@@ -101,7 +101,7 @@ impl Around {
     /// The number clamped between the minimum and the maximum of left, above and above right, each times 8.
     pub(crate) fn clamped(&self, value: i64) -> i64
         requires { unsigned_abs value < 2 ^ 40 }
-        ensures value { result ≡ clamped_around (seen self.now) value }
+        ensures value { result ≡ clamped_around (neighbours_of self.now) value }
         ensures bound { unsigned_abs result < 2 ^ 40 }
     {
         let (n, w, ne) = (self.n as i64 * 8, self.w as i64 * 8, self.ne as i64 * 8);

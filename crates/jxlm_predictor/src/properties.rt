@@ -3,7 +3,7 @@
 ghost use Rattle.std.specs.Prelude.{◌≡◌, ◌+◌, ◌-◌, ◌<◌, ◌≤◌, ◌^◌, ℕ, ℤ, pos, List, [], ◌∷◌, ◌++◌, false, None, slice_index_or};
 ghost use Rattle.std.specs.Int.{w32, int_wrap};
 ghost use Rattle.jxlm_base.specs.Regions.{store_meanings};
-ghost use Rattle.jxlm_predictor.specs.Around.{seen};
+ghost use Rattle.jxlm_predictor.specs.Around.{neighbours_of};
 ghost use Rattle.jxlm_predictor.specs.EarlierRows.{HoldRows};
 ghost use Rattle.jxlm_predictor.specs.Inner.OwnProperties.{own_list};
 ghost use Rattle.jxlm_predictor.specs.Holding.{AreOwn, IsCurrent, surroundings, state_of, store_of};
@@ -44,7 +44,7 @@ impl<S> PredictorState<S> {
     fn own_property(&self, property: usize, around: &Around, error: i32) -> i32
         requires { property < 16 }
         ensures { result ≡ int_wrap w32 (slice_index_or
-            (own_list self.now.x self.now.y (seen around.now) self.now.gradient error) property (pos 0)) }
+            (own_list self.now.x self.now.y (neighbours_of around.now) self.now.gradient error) property (pos 0)) }
     {
         let Around { w, n, nw, .. } = *around;
         match property {

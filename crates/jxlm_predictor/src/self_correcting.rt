@@ -198,7 +198,7 @@ fn steered(sample: i32, a: i32, b: i32, c: i32, factor: u32) -> i64
 }
 
 impl ErrorsAround {
-    ghost use Rattle.jxlm_predictor.specs.Around.{seen};
+    ghost use Rattle.jxlm_predictor.specs.Around.{neighbours_of};
     ghost use Rattle.jxlm_predictor.specs.Correcting.{near_of};
     ghost use Rattle.jxlm_predictor.specs.Inner.CorrectingSteps.{clamped_around};
 
@@ -223,7 +223,7 @@ impl ErrorsAround {
     fn settled(&self, around: &Around, unclamped: i64) -> i64
         requires { unsigned_abs unclamped < 2 ^ 40 }
         ensures value { result ≡
-            if is_clamped (near_of self.now) then clamped_around (seen around.now) unclamped else unclamped }
+            if is_clamped (near_of self.now) then clamped_around (neighbours_of around.now) unclamped else unclamped }
         ensures bound { unsigned_abs result < 2 ^ 40 }
     {
         if self.is_clamped() {
@@ -246,13 +246,13 @@ impl ErrorsAround {
 }
 
 impl Counts {
-    ghost use Rattle.jxlm_predictor.specs.Correcting.{counted};
+    ghost use Rattle.jxlm_predictor.specs.Correcting.{counts_of};
     ghost use Rattle.jxlm_predictor.specs.Inner.CorrectingSteps.{sums_from};
 
     /// The sums of the errors: these are two columns to the left, and the others at the other neighbours.
     fn summed(&self, nw: &Counts, n: &Counts, w: &Counts, ne: &Counts, last: bool) -> Counts
-        ensures { counted result ≡ sums_from (counted nw.now) (counted self.now) (counted n.now) (counted w.now)
-            (counted ne.now) last }
+        ensures { counts_of result ≡ sums_from (counts_of nw.now) (counts_of self.now) (counts_of n.now)
+            (counts_of w.now) (counts_of ne.now) last }
     {
         Counts {
             s0: error_sum(nw.s0, self.s0, n.s0, w.s0, ne.s0, last),
@@ -263,15 +263,15 @@ impl Counts {
     }
 
     fn total(&self) -> u32
-        requires { sum (counted self.now) < 2 ^ 32 }
-        ensures { result ≡ sum (counted self.now) }
+        requires { sum (counts_of self.now) < 2 ^ 32 }
+        ensures { result ≡ sum (counts_of self.now) }
     {
         self.s0 + self.s1 + self.s2 + self.s3
     }
 
     fn shifted(&self) -> Counts
-        requires { sum (counted self.now) < 2 ^ 32 }
-        ensures { counted result ≡ shifted (counted self.now) }
+        requires { sum (counts_of self.now) < 2 ^ 32 }
+        ensures { counts_of result ≡ shifted (counts_of self.now) }
     {
         let shift = floor_log2((self.total() / 16) as u64);
         Counts {
@@ -285,9 +285,9 @@ impl Counts {
     /// The weights of the four sub-predictions, whose errors have these sums.
     fn weights(&self, header: &WpHeader) -> Counts
         requires { IsHeader header.now }
-        ensures value { counted result ≡ weights header.now (counted self.now) }
-        ensures least { 13 ≤ sum (counted result) }
-        ensures greatest { sum (counted result) ≤ 31 }
+        ensures value { counts_of result ≡ weights header.now (counts_of self.now) }
+        ensures least { 13 ≤ sum (counts_of result) }
+        ensures greatest { sum (counts_of result) ≤ 31 }
     {
         let weights = Counts {
             s0: weight(header.wp_w0, self.s0),
@@ -300,13 +300,13 @@ impl Counts {
 }
 
 impl SubPredictions {
-    ghost use Rattle.jxlm_predictor.specs.Around.{seen};
-    ghost use Rattle.jxlm_predictor.specs.Correcting.{counted, near_of, predicted_by};
+    ghost use Rattle.jxlm_predictor.specs.Around.{neighbours_of};
+    ghost use Rattle.jxlm_predictor.specs.Correcting.{counts_of, near_of, predicted_by};
 
     #[inline(always)]
     fn of_place(header: &WpHeader, around: &Around, errors: &ErrorsAround) -> SubPredictions
         requires { IsHeader header.now }
-        ensures { predicted_by result ≡ sub_predictions header.now (seen around.now) (near_of errors.now) }
+        ensures { predicted_by result ≡ sub_predictions header.now (neighbours_of around.now) (near_of errors.now) }
     {
         SubPredictions {
             s0: around.slope(),
@@ -319,7 +319,7 @@ impl SubPredictions {
     fn last(header: &WpHeader, around: &Around, errors: &ErrorsAround) -> i64
         requires { IsHeader header.now }
         ensures value { result ≡
-            slice_index_or (sub_predictions header.now (seen around.now) (near_of errors.now)) 3 (pos 0) }
+            slice_index_or (sub_predictions header.now (neighbours_of around.now) (near_of errors.now)) 3 (pos 0) }
         ensures bound { unsigned_abs result < 2 ^ 37 }
     {
         let down = scaled(difference(around.nn, around.n), header.wp_p3d);
@@ -329,9 +329,9 @@ impl SubPredictions {
     }
 
     fn sum(&self, weights: &Counts) -> i64
-        requires least { 13 ≤ sum (counted weights.now) }
-        requires greatest { sum (counted weights.now) ≤ 31 }
-        ensures value { result ≡ weighted_sum (predicted_by self.now) (counted weights.now) }
+        requires least { 13 ≤ sum (counts_of weights.now) }
+        requires greatest { sum (counts_of weights.now) ≤ 31 }
+        ensures value { result ≡ weighted_sum (predicted_by self.now) (counts_of weights.now) }
         ensures bound { unsigned_abs result < 2 ^ 42 }
     {
         (weights.total() / 2 - 1) as i64
@@ -343,9 +343,9 @@ impl SubPredictions {
 
     /// Their sum by these weights, divided by the sum of the weights.
     fn weighted(&self, weights: &Counts) -> i64
-        requires least { 13 ≤ sum (counted weights.now) }
-        requires greatest { sum (counted weights.now) ≤ 31 }
-        ensures value { result ≡ unclamped (predicted_by self.now) (counted weights.now) }
+        requires least { 13 ≤ sum (counts_of weights.now) }
+        requires greatest { sum (counts_of weights.now) ≤ 31 }
+        ensures value { result ≡ unclamped (predicted_by self.now) (counts_of weights.now) }
         ensures bound { unsigned_abs result < 2 ^ 40 }
     {
         let reciprocal = reciprocal(weights.total() as usize);
@@ -354,7 +354,7 @@ impl SubPredictions {
 }
 
 impl PredictionResult {
-    ghost use Rattle.jxlm_predictor.specs.Around.{seen};
+    ghost use Rattle.jxlm_predictor.specs.Around.{neighbours_of};
     ghost use Rattle.jxlm_predictor.specs.Correcting.{IsMade, cell_errors, near_of, predicted_by};
     ghost use Rattle.jxlm_predictor.specs.Inner.CorrectingSteps.{errors_from};
     ghost use Rattle.jxlm_predictor.specs.Predictions.{corrected};
@@ -387,10 +387,10 @@ impl PredictionResult {
     #[inline(always)]
     fn of_place(header: &WpHeader, around: &Around, errors: &ErrorsAround) -> PredictionResult
         requires { IsHeader header.now }
-        ensures prediction { result.prediction ≡ predicted header.now (seen around.now) (near_of errors.now) }
+        ensures prediction { result.prediction ≡ predicted header.now (neighbours_of around.now) (near_of errors.now) }
         ensures errors { result.errors ≡ errors.now }
         ensures subpred { predicted_by result.subpred ≡
-            sub_predictions header.now (seen around.now) (near_of errors.now) }
+            sub_predictions header.now (neighbours_of around.now) (near_of errors.now) }
     {
         let subpred = SubPredictions::of_place(header, around, errors);
         let unclamped = subpred.weighted(&errors.sums.weights(header));
@@ -417,8 +417,8 @@ impl PredictionResult {
 }
 
 impl Corrector {
-    ghost use Rattle.jxlm_predictor.specs.Around.{seen};
-    ghost use Rattle.jxlm_predictor.specs.Correcting.{Corrects, CorrectsBy, HasRows, IsMade, IsMadeBy, cell_errors, header_of, counted, near_of};
+    ghost use Rattle.jxlm_predictor.specs.Around.{neighbours_of};
+    ghost use Rattle.jxlm_predictor.specs.Correcting.{Corrects, CorrectsBy, HasRows, IsMade, IsMadeBy, cell_errors, header_of, counts_of, near_of};
     ghost use Rattle.jxlm_predictor.specs.Inner.CorrectingSteps.{AtPlace, CorrectsAfter, CorrectsNext, HoldsColumn, errors_above_left, errors_above_right};
     ghost use Rattle.jxlm_predictor.specs.declared.predictor.WpHeader.{WpHeader};
 
@@ -462,7 +462,7 @@ impl Corrector {
     ) -> PredictionResult
         requires in_row { x < self.now.width }
         requires inner { EDGE ≡ false → (2 ≤ y) × (2 ≤ x) × (x + 2 < self.now.width) }
-        ensures { AtPlace self.now x y (seen around.now) (IsMadeBy result) }
+        ensures { AtPlace self.now x y (neighbours_of around.now) (IsMadeBy result) }
     {
         let errors = self.errors_around::<EDGE>(x, y);
         PredictionResult::of_place(&self.header, around, &errors)
@@ -471,7 +471,7 @@ impl Corrector {
     /// The prediction in eighths before its clamp, at column `x` of row `y` with these neighbours.
     pub(crate) fn unclamped(&self, x: usize, y: usize, around: &Around) -> i64
         requires { x < self.now.width }
-        ensures { AtPlace self.now x y (seen around.now) (λ h w s. result ≡ self_unclamped h s w) }
+        ensures { AtPlace self.now x y (neighbours_of around.now) (λ h w s. result ≡ self_unclamped h s w) }
     {
         let errors = self.errors_around::<true>(x, y);
         let subpred = SubPredictions::of_place(&self.header, around, &errors);

@@ -50,7 +50,7 @@ impl<S> PredictorState<S> {
     ghost use Rattle.jxlm_predictor.specs.Inner.StateSteps.{DiffersInWeights, IsNext, KeepsSetting, RollsIn};
     ghost use Rattle.jxlm_predictor.specs.Standing.{Setting, StandsAt, Stands, HasEarlier, IsInner, HasSameRoom, setting, room_of, earlier_room_of, earlier_count, used_weights, weights_of};
     ghost use Rattle.jxlm_predictor.specs.Neighbours.{neighbours, north_east, north_east_east, north_north, west_west};
-    ghost use Rattle.jxlm_predictor.specs.Around.{seen};
+    ghost use Rattle.jxlm_predictor.specs.Around.{neighbours_of};
     ghost use Rattle.jxlm_predictor.specs.Correcting.{IsMade};
 
     /// A state that is at no cell, with no room, no weights and no earlier channel: it is to be reset before its
@@ -343,7 +343,7 @@ impl<S> PredictorState<S> {
     pub(crate) fn around<const EDGE: bool>(&self) -> Around
         requires in_row { self.now.x < self.now.width }
         requires inner { EDGE ≡ false → IsInner self.now }
-        ensures { (s : Setting) (samples : List ℤ) → StandsAt self.now s samples → seen result
+        ensures { (s : Setting) (samples : List ℤ) → StandsAt self.now s samples → neighbours_of result
             ≡ neighbours samples s.width }
     {
         Around {
@@ -361,7 +361,7 @@ impl<S> PredictorState<S> {
     pub(crate) fn correction<const EDGE: bool>(&self, around: &Around) -> Option<PredictionResult>
         requires stands { Stands self.now }
         requires inner { EDGE ≡ false → IsInner self.now }
-        ensures { (s : Setting) (samples : List ℤ) → StandsAt self.now s samples → seen around.now
+        ensures { (s : Setting) (samples : List ℤ) → StandsAt self.now s samples → neighbours_of around.now
             ≡ neighbours samples s.width → IsMade result s.weights s.width samples }
     {
         match &self.corrector {
@@ -381,7 +381,7 @@ impl<S> PredictorState<S> {
         requires stands { Stands self.now }
         requires inner { EDGE ≡ false → IsInner self.now }
         requires without { WEIGHTED ≡ false → used_weights self.now ≡ None }
-        ensures { (s : Setting) (samples : List ℤ) → StandsAt self.now s samples → seen around.now
+        ensures { (s : Setting) (samples : List ℤ) → StandsAt self.now s samples → neighbours_of around.now
             ≡ neighbours samples s.width → IsMade result s.weights s.width samples }
     {
         if WEIGHTED {

@@ -13,7 +13,7 @@ use Rattle.jxlm_transform.proofs.Halvings.{more, none}
 use Rattle.jxlm_transform.proofs.SideBounds.{came}
 use Rattle.jxlm_transform.specs.Channels.{Channel, ChannelList}
 use Rattle.jxlm_transform.specs.ChannelSteps.{Step, SqueezeStep, average_channel, default_of_all, default_of_chroma, default_squeeze, halvings, in_turn, list_after_all, one_size, range, residual_channel, squeeze_step, step_of_all, step_of_chroma}
-use Rattle.jxlm_transform.specs.DefaultSqueeze.{halved, IsLeastToEight, TakesFewestSteps, LeavesSmallSides}
+use Rattle.jxlm_transform.specs.DefaultSqueeze.{halved_side, IsLeastToEight, TakesFewestSteps, LeavesSmallSides}
 use Rattle.jxlm_transform.specs.declared.transform.SqueezeParams.{SqueezeParams}
 
 -- ---- a side that is halved
@@ -30,25 +30,25 @@ quotient_below n m k some h =
     omega arith
 
 -- a side halved once more is its half halved
-halved_next : (k side : ℕ) → halved (suc k) side ≡ halved k (div_ceil side 2)
+halved_next : (k side : ℕ) → halved_side (suc k) side ≡ halved_side k (div_ceil side 2)
 halved_next k side =
     let half : ℕ = div_ceil side 2 in
     let some = pow_pos k in
     let double : 2 ^ suc k ≡ 2 * 2 ^ k = pow-succ' 2 k in
     let twice : (m : ℕ) → m * 2 ^ suc k ≡ m * 2 ^ k * 2 = λ (m : ℕ). omega (arith, ap (λ (p : ℕ). m * p) double) in
     le_antisymm
-    (quotient_below side (halved k half) (2 ^ suc k) (pow_pos (suc k))
-    (rw (twice (halved k half)) (whole_below side (halved k half * 2 ^ k) 2 (omega arith) (whole_below half (halved k half) (2 ^ k) some (omega arith)))))
-    (quotient_below half (halved (suc k) side) (2 ^ k) some
-    (quotient_below side (halved (suc k) side * 2 ^ k) 2 (omega arith) (rw (twice (halved (suc k) side)) at (whole_below side (halved (suc k) side) (2 ^ suc k) (pow_pos (suc k)) (omega arith)))))
+    (quotient_below side (halved_side k half) (2 ^ suc k) (pow_pos (suc k))
+    (rw (twice (halved_side k half)) (whole_below side (halved_side k half * 2 ^ k) 2 (omega arith) (whole_below half (halved_side k half) (2 ^ k) some (omega arith)))))
+    (quotient_below half (halved_side (suc k) side) (2 ^ k) some
+    (quotient_below side (halved_side (suc k) side * 2 ^ k) 2 (omega arith) (rw (twice (halved_side (suc k) side)) at (whole_below side (halved_side (suc k) side) (2 ^ suc k) (pow_pos (suc k)) (omega arith)))))
 
-halved_none : (side : ℕ) → halved 0 side ≡ side
+halved_none : (side : ℕ) → halved_side 0 side ≡ side
 halved_none side = let one = div-one side in let rest : side % 1 ≡ 0 = omega arith in rw (one, rest) (omega arith)
 
 -- a side above 8 takes one more than its half
 least_more : (k side : ℕ) → 8 < side → IsLeastToEight k (div_ceil side 2) → IsLeastToEight (suc k) side
 least_more k side above h = (rw (halved_next k side) h.0, least) where
-  least : (j : ℕ) → j < suc k → 8 < halved j side
+  least : (j : ℕ) → j < suc k → 8 < halved_side j side
   least zero less = rw (halved_none side) above
   least (suc j) less = rw (halved_next j side) (h.1 j (omega arith))
 
@@ -209,17 +209,17 @@ first_kept f h l m c there step =
 
 -- a channel that was halved a times across and b times down
 abbrev IsHalvedOf : ℕ → ℕ → Channel → Channel → Type 0
-IsHalvedOf a b c d = (d.width ≡ halved a c.width) × (d.height ≡ halved b c.height)
+IsHalvedOf a b c d = (d.width ≡ halved_side a c.width) × (d.height ≡ halved_side b c.height)
 
 halved_once_more : (h : Bool) (a b : ℕ) (c d : Channel) → IsHalvedOf a b (average_channel h c) d → IsHalvedOf (cond h 1 0 + a) (cond (not h) 1 0 + b) c d
 halved_once_more true a b c d is =
     let more : 1 + a ≡ suc a = omega arith in
     let same : 0 + b ≡ b = omega arith in
-    (is.0 ∙ sym (halved_next a c.width) ∙ ap (λ (k : ℕ). halved k c.width) (sym more), is.1 ∙ ap (λ (k : ℕ). halved k c.height) (sym same))
+    (is.0 ∙ sym (halved_next a c.width) ∙ ap (λ (k : ℕ). halved_side k c.width) (sym more), is.1 ∙ ap (λ (k : ℕ). halved_side k c.height) (sym same))
 halved_once_more false a b c d is =
     let more : 1 + b ≡ suc b = omega arith in
     let same : 0 + a ≡ a = omega arith in
-    (is.0 ∙ ap (λ (k : ℕ). halved k c.width) (sym same), is.1 ∙ sym (halved_next b c.height) ∙ ap (λ (k : ℕ). halved k c.height) (sym more))
+    (is.0 ∙ ap (λ (k : ℕ). halved_side k c.width) (sym same), is.1 ∙ sym (halved_next b c.height) ∙ ap (λ (k : ℕ). halved_side k c.height) (sym more))
 
 -- steps of all channels halve the first as often as they go across and down
 first_after : (f n : ℕ) (steps : List SqueezeParams) (l m : ChannelList) (c : Channel) → All (λ s. s ≡ step_of_all f (suc n) s.horizontal) steps → slice_get l.channels f ≡ Some c →
@@ -234,7 +234,7 @@ first_after f n (s ∷ ss) l m c all there e =
     let next = first_halved f n s.horizontal l k c there (subst (λ (t : SqueezeParams). squeeze_step t l ≡ Ok k) is first) in
     let (d, ends, halves) = first_after f n ss k m (average_channel s.horizontal c) (All-tail (λ s. s ≡ step_of_all f (suc n) s.horizontal) s ss all) next rest in
     let more = halved_once_more s.horizontal (across ss) (down ss) c d halves in
-    (d, ends, (more.0 ∙ ap (λ (k : ℕ). halved k c.width) (sym (next_across s ss)), more.1 ∙ ap (λ (k : ℕ). halved k c.height) (sym (next_down s ss))))
+    (d, ends, (more.0 ∙ ap (λ (k : ℕ). halved_side k c.width) (sym (next_across s ss)), more.1 ∙ ap (λ (k : ℕ). halved_side k c.height) (sym (next_down s ss))))
 
 -- after the steps of chroma, where there are any, the first channel is as it was, and the others follow
 first_after_chroma : (f : ℕ) (b : Bool) (ss : List SqueezeParams) (l m : ChannelList) (c : Channel) → slice_get l.channels f ≡ Some c →

@@ -7,12 +7,12 @@ use Rattle.jxlm_transform.specs.Transforms.{OfSqueeze}
 use Rattle.jxlm_transform.specs.declared.transform.SqueezeParams.{SqueezeParams}
 
 -- a side that is halved k times, rounded up
-abbrev pub halved : ℕ → ℕ → ℕ
-halved k side = div_ceil side (2 ^ k)
+abbrev pub halved_side : ℕ → ℕ → ℕ
+halved_side k side = div_ceil side (2 ^ k)
 
 -- k is the least number of halvings after which a side is at most 8
 abbrev pub IsLeastToEight : ℕ → ℕ → Type 0
-IsLeastToEight k side = (halved k side ≤ 8) × ((j : ℕ) → j < k → 8 < halved j side)
+IsLeastToEight k side = (halved_side k side ≤ 8) × ((j : ℕ) → j < k → 8 < halved_side j side)
 
 -- squeezes of all n channels from f on, in place: as many across and as many down as it takes to halve the sides of c to at most 8
 pub record HalveAll (f n : ℕ) (c : Channel) (steps : List SqueezeParams) : Type 0 where

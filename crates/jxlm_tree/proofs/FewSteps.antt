@@ -8,7 +8,7 @@ use Rattle.std.specs.Prelude.{◌==◌, ◌&&◌, ◌||◌, int_lt, nat_lt}
 use Rattle.jxlm_tree.specs.ClusterTables.{LeavesAgree, in_cluster}
 use Rattle.jxlm_tree.specs.Paths.{IsPlainGradient}
 use Rattle.jxlm_tree.specs.ShortTrees.{CutsWithin, Reaches, TestsOnly, way}
-use Rattle.jxlm_tree.specs.Steps.{alike, cuts_within, each_leaf, is_tabular, leaves_within, leftmost, most_steps, number_of, plain_gradient, tests_only}
+use Rattle.jxlm_tree.specs.Steps.{are_alike, cuts_within, each_leaf, is_tabular, leaves_within, leftmost, most_steps, number_of, plain_gradient, tests_only}
 use Rattle.jxlm_tree.specs.Tree.{AllLeaves, Shape, leaf, decision, depth}
 use Rattle.jxlm_tree.specs.Inner.Pruned.{greatest, least}
 use Rattle.jxlm_tree.specs.declared.flat.Leaf.{Leaf}
@@ -112,12 +112,12 @@ cond-true b m n e = rw e
 
 tests-pass : (p : ℕ) (t : Shape Leaf) → 2 ≤ p → p ≤ 15 → TestsOnly p t → CutsWithin 1022 t → Reaches 4 t → LeavesAgree t → is_tabular p t ≡ true
 tests-pass p t from to only near four agree =
-    and-both (nat_lt 1 p && nat_lt p 16) ((tests_only p t && cuts_within 1022 t) && (nat_lt 3 (leaves_within least greatest t) && each_leaf (alike (leftmost t)) t))
+    and-both (nat_lt 1 p && nat_lt p 16) ((tests_only p t && cuts_within 1022 t) && (nat_lt 3 (leaves_within least greatest t) && each_leaf (are_alike (leftmost t)) t))
     (and-both (nat_lt 1 p) (nat_lt p 16) ((Decides-ltb 1 p).1 from) ((Decides-ltb p 16).1 (omega arith)))
-    (and-both (tests_only p t && cuts_within 1022 t) (nat_lt 3 (leaves_within least greatest t) && each_leaf (alike (leftmost t)) t)
+    (and-both (tests_only p t && cuts_within 1022 t) (nat_lt 3 (leaves_within least greatest t) && each_leaf (are_alike (leftmost t)) t)
     (and-both (tests_only p t) (cuts_within 1022 t) ((decides-tests_only p t).1 only) ((decides-cuts_within 1022 t).1 near))
-    (and-both (nat_lt 3 (leaves_within least greatest t)) (each_leaf (alike (leftmost t)) t) ((Decides-ltb 3 (leaves_within least greatest t)).1 (four_leaves t four))
-    ((decides-each_leaf {P = λ m. m ≡ in_cluster m.cluster (leftmost t)} (alike (leftmost t)) (decides-alike (leftmost t)) t).1 (agree-leftmost t agree))))
+    (and-both (nat_lt 3 (leaves_within least greatest t)) (each_leaf (are_alike (leftmost t)) t) ((Decides-ltb 3 (leaves_within least greatest t)).1 (four_leaves t four))
+    ((decides-each_leaf {P = λ m. m ≡ in_cluster m.cluster (leftmost t)} (are_alike (leftmost t)) (decides-alike (leftmost t)) t).1 (agree-leftmost t agree))))
 
 pub one_step : (t : Shape Leaf) (p : ℕ) → 2 ≤ p → p ≤ 15 → TestsOnly p t → CutsWithin 1022 t → Reaches 4 t → LeavesAgree t → most_steps t ≡ 1
 one_step (leaf l) p from to only near four agree = absurd (four.1.1 0 1 (omega arith) (omega arith) refl)

@@ -9,7 +9,7 @@ use Rattle.std.specs.Ordering.{int_eq}
 use Rattle.std.specs.Prelude.{◌==◌, ◌&&◌, ◌||◌, int_lt, nat_lt, not}
 use Rattle.jxlm_tree.specs.ClusterTables.{in_cluster}
 use Rattle.jxlm_tree.specs.ShortTrees.{CutsWithin, EachCut, TestsOnly}
-use Rattle.jxlm_tree.specs.Steps.{alike, cuts_within, each_cut, each_leaf, is_tabular, leaves_within, leftmost, most_steps, number_of, plain_gradient, tests_only}
+use Rattle.jxlm_tree.specs.Steps.{are_alike, cuts_within, each_cut, each_leaf, is_tabular, leaves_within, leftmost, most_steps, number_of, plain_gradient, tests_only}
 use Rattle.jxlm_tree.specs.Tree.{AllLeaves, Shape, leaf, decision, depth}
 use Rattle.jxlm_tree.specs.Inner.Pruned.{cuts, greatest, least}
 use Rattle.jxlm_tree.specs.declared.flat.Leaf.{Leaf}
@@ -63,7 +63,7 @@ numbered AvgAll = refl
 leaf_of : ℕ → Predictor → ℤ → ℕ → Leaf
 leaf_of c p o m = record { cluster = c; predictor = p; offset = o; multiplier = m }
 
-pub decides-alike : (l m : Leaf) → Decides (alike l m) (m ≡ in_cluster m.cluster l)
+pub decides-alike : (l m : Leaf) → Decides (are_alike l m) (m ≡ in_cluster m.cluster l)
 unfolding leaf_of
 decides-alike l m = (
   λ e.
@@ -196,11 +196,11 @@ few_within p low high (decision q v a b) only h =
 -- a tree that passes the tests is one that a table serves
 pub tabular : (p : ℕ) (t : Shape Leaf) → is_tabular p t ≡ true → Tabular p t
 tabular p t e =
-    let one = and-tells (nat_lt 1 p && nat_lt p 16) ((tests_only p t && cuts_within 1022 t) && (nat_lt 3 (leaves_within least greatest t) && each_leaf (alike (leftmost t)) t)) e in
+    let one = and-tells (nat_lt 1 p && nat_lt p 16) ((tests_only p t && cuts_within 1022 t) && (nat_lt 3 (leaves_within least greatest t) && each_leaf (are_alike (leftmost t)) t)) e in
     let numbers = and-tells (nat_lt 1 p) (nat_lt p 16) one.0 in
-    let two = and-tells (tests_only p t && cuts_within 1022 t) (nat_lt 3 (leaves_within least greatest t) && each_leaf (alike (leftmost t)) t) one.1 in
+    let two = and-tells (tests_only p t && cuts_within 1022 t) (nat_lt 3 (leaves_within least greatest t) && each_leaf (are_alike (leftmost t)) t) one.1 in
     let tests = and-tells (tests_only p t) (cuts_within 1022 t) two.0 in
-    let leaves = and-tells (nat_lt 3 (leaves_within least greatest t)) (each_leaf (alike (leftmost t)) t) two.1 in
+    let leaves = and-tells (nat_lt 3 (leaves_within least greatest t)) (each_leaf (are_alike (leftmost t)) t) two.1 in
     let only = (decides-tests_only p t).0 tests.0 in
     let four = (Decides-ltb 3 (leaves_within least greatest t)).0 leaves.0 in
     let few = few_within p least greatest t only (omega (arith, ints)) in
@@ -210,7 +210,7 @@ tabular p t e =
       only = only;
       table = cuts-table p t only ((decides-cuts_within 1022 t).0 tests.1) (omega arith);
       leaf = leftmost t;
-      agree = (decides-each_leaf {P = λ m. m ≡ in_cluster m.cluster (leftmost t)} (alike (leftmost t)) (decides-alike (leftmost t)) t).0 leaves.1;
+      agree = (decides-each_leaf {P = λ m. m ≡ in_cluster m.cluster (leftmost t)} (are_alike (leftmost t)) (decides-alike (leftmost t)) t).0 leaves.1;
     }
 
 pub tabular-leaf : (p : ℕ) (t : Shape Leaf) (e : is_tabular p t ≡ true) → (tabular p t e).leaf ≡ leftmost t

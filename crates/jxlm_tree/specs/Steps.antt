@@ -25,8 +25,8 @@ number_of AvgNorthAndNorthEast = 12
 number_of AvgAll = 13
 
 -- the leaves agree in all but the cluster
-abbrev pub alike : Leaf → Leaf → Bool
-alike l m = number_of l.predictor == number_of m.predictor && (int_eq l.offset m.offset && l.multiplier == m.multiplier)
+abbrev pub are_alike : Leaf → Leaf → Bool
+are_alike l m = number_of l.predictor == number_of m.predictor && (int_eq l.offset m.offset && l.multiplier == m.multiplier)
 
 -- the gradient with nothing to add and nothing to multiply by
 abbrev pub plain_gradient : Leaf → Bool
@@ -68,7 +68,7 @@ abbrev pub is_tabular : ℕ → Shape Leaf → Bool
 is_tabular p t =
     (nat_lt 1 p && nat_lt p 16)
     && ((tests_only p t && cuts_within 1022 t)
-    && (nat_lt 3 (leaves_within (neg_ℤ (pos (2 ^ 31))) (pos 2147483647) t) && each_leaf (alike (leftmost t)) t))
+    && (nat_lt 3 (leaves_within (neg_ℤ (pos (2 ^ 31))) (pos 2147483647) t) && each_leaf (are_alike (leftmost t)) t))
 
 -- no step for one leaf that predicts by `Zero` or by the plain gradient, one for a tree that a table serves, and else
 -- one for each node on the longest way

@@ -4,7 +4,7 @@ use Rattle.jxlm_bits.specs.Decoding.{Found, Meaning}
 use Rattle.jxlm_bits.specs.ErrorKind.{BadProfile, ErrorAt, UnlessMemory, kind_of}
 use Rattle.jxlm_bits.specs.Grammar.{Grammar, IsErrorAt, give, fail, either, ◌>>=◌}
 use Rattle.jxlm_bits.specs.declared.error.Error.{Error}
-use Rattle.jxl_image_header.specs.Fields.{long, meant}
+use Rattle.jxl_image_header.specs.Fields.{long, number_meant}
 use Rattle.jxlm_bits.specs.Tokens.{After, Tokens, called, token}
 use Rattle.jxl_codestream.specs.Orders.{context_of}
 use Rattle.jxl_codestream.specs.Profiles as profiles
@@ -26,7 +26,7 @@ decoder d contexts = called (λ bytes p. d.parse bytes p contexts) >>= λ s. cal
 
 -- how many digits a code of n numbers has
 abbrev pub told_digits : {S : Type 0} → Meaning S → ℕ → Tokens S ℕ
-told_digits d n = token d (context_of n) (λ v. meant (codes "permutation") (nat_le v n) v)
+told_digits d n = token d (context_of n) (λ v. number_meant (codes "permutation") (nat_le v n) v)
 
 -- the context of byte i of a profile, after these two
 abbrev pub context_after : ℕ → ℕ → ℕ → ℕ

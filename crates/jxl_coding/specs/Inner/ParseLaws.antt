@@ -6,8 +6,8 @@ use Rattle.jxlm_bits.specs.Decoding.{Found, IsLawful}
 use Rattle.jxlm_bits.specs.ErrorKind.{◌>>=◌}
 use Rattle.jxlm_bits.specs.declared.decoder.DecoderError.{DecoderError}
 use Rattle.jxl_coding_codes.specs.Fields.{number_at}
-use Rattle.jxl_coding_codes.specs.Reading.{steps, pushed}
-use Rattle.jxl_coding.specs.Clusters.{moved_first, moved, Listed, cluster_step, stream_clusters_at, coded_clusters_at, plain_clusters_at, count_of}
+use Rattle.jxl_coding_codes.specs.Reading.{steps, list_and_one}
+use Rattle.jxl_coding.specs.Clusters.{moved_first, clusters_of_places, Listed, cluster_step, stream_clusters_at, coded_clusters_at, plain_clusters_at, count_of}
 use Rattle.jxl_coding.specs.Tokens.{Entropy, entropy, read_at, begin_at, end_of}
 use Rattle.jxl_coding.specs.Parse.{start_of, lz77_at, nothing_coded, prefix_codes_at, log_at, ans_codes_at, clusters_codes_at, of_contexts, with_distances, contexts_with, codes_at, clusters_or_one, map_codes_at, clusters_at, decoder_codes_at, decoder_at, prefix_step, distribution_step}
 use Rattle.jxl_coding.specs.Inner.TokenLaws.{entropy_lawful}
@@ -55,7 +55,7 @@ grown {X} step size each (suc n) x bytes p =
 one_longer : (xs : List ℕ) (x : ℕ) → length (xs ++ x ∷ []) ≡ length xs + 1
 one_longer xs x = simp length-append
 
-push_grows : (read : List ℕ → ℕ → Result (Found ℕ) DecoderError) (xs bytes : List ℕ) (p : ℕ) → IfOk (pushed read xs bytes p) (λ f. length f.value ≡ length xs + 1)
+push_grows : (read : List ℕ → ℕ → Result (Found ℕ) DecoderError) (xs bytes : List ℕ) (p : ℕ) → IfOk (list_and_one read xs bytes p) (λ f. length f.value ≡ length xs + 1)
 push_grows read xs bytes p = if_bind (read bytes p) _ Any (λ f. length f.value ≡ length xs + 1) (if_any (read bytes p)) (λ x h. one_longer xs x.value)
 
 cluster_grows : (s : Listed) (bytes : List ℕ) (p : ℕ) → IfOk (cluster_step s bytes p) (λ f. length f.value.clusters ≡ length s.clusters + 1)
@@ -73,7 +73,7 @@ moved_many (suc n) places =
     let m : length (moved_first n places).clusters + 1 ≡ suc n = omega arith in
     k ∙ m
 
-either_many : (b : Bool) (cs : List ℕ) (n : ℕ) → length cs ≡ n → length (cond b (moved cs) cs) ≡ n
+either_many : (b : Bool) (cs : List ℕ) (n : ℕ) → length cs ≡ n → length (cond b (clusters_of_places cs) cs) ≡ n
 either_many true cs n h = moved_many (length cs) cs ∙ h
 either_many false cs n h = h
 
@@ -96,9 +96,9 @@ plain_many : (n : ℕ) (bytes : List ℕ) (p : ℕ) → IfOk (plain_clusters_at 
 unfolding plain_clusters_at
 plain_many n bytes p =
     if_bind (number_at bytes p 2) _ Any (λ f. length f.value ≡ n) (if_any _)
-    (λ w h. if_weaker (steps (pushed (λ all q. number_at all q w.value)) n [] bytes w.position) (λ f. length f.value ≡ 0 + n) (λ f. length f.value ≡ n)
+    (λ w h. if_weaker (steps (list_and_one (λ all q. number_at all q w.value)) n [] bytes w.position) (λ f. length f.value ≡ 0 + n) (λ f. length f.value ≡ n)
     (λ f k. let e : length f.value ≡ n = omega arith in e)
-    (grown (pushed (λ all q. number_at all q w.value)) length (push_grows (λ all q. number_at all q w.value)) n [] bytes w.position))
+    (grown (list_and_one (λ all q. number_at all q w.value)) length (push_grows (λ all q. number_at all q w.value)) n [] bytes w.position))
 
 clusters_many : (n : ℕ) (bytes : List ℕ) (p : ℕ) → IfOk (clusters_at n bytes p) (λ f. length f.value ≡ n)
 unfolding clusters_at

@@ -1,6 +1,6 @@
 -- What contracts see of tables and states.
 use Rattle.std.specs.Prelude.{◌^◌, Option, Some, None}
-use Rattle.jxl_coding.specs.Copies.{Ring, empty}
+use Rattle.jxl_coding.specs.Copies.{Ring, empty_ring}
 use Rattle.jxl_coding.specs.Symbols.{Codes}
 use Rattle.jxl_coding.specs.Tokens.{Entropy}
 use Rattle.jxl_coding.specs.Inner.Rings.{ring_of}
@@ -14,7 +14,7 @@ codes_of t = record { clusters = t.clusters.items; lz77 = t.lz77; cluster_codes 
 
 -- the ring of a window, empty where there is none
 abbrev pub ring_in : Option Window → Ring
-ring_in None = empty
+ring_in None = empty_ring
 ring_in (Some w) = ring_of w
 
 -- these codes in a state

@@ -35,7 +35,7 @@ pub record IsCoded {S D : Type 0} (d : Meaning D) (w : Width) (to_int : S → �
   pub global : Option (Config D)
   pub begin : ℕ
   pub shared : SharedTree d size (channel_count image) first p global begin
-  pub still : IsStill d w to_int zero global (channels_given image size) group_dim image.samples.depth.bits first begin (own_passes places) (section_at places) grids before after
+  pub still : IsStill d w to_int zero global (channels_given image size) group_dim image.samples.bit_depth.bits_per_sample first begin (own_passes places) (section_at places) grids before after
 
 module _ {S D : Type 0} (d : Meaning D) (w : Width) (to_int : S → ℤ) (zero : S) (image : Image) where
   -- the first section has the shared tree from bit p on, and after it the image of a frame of this size, or its samples, have
@@ -44,21 +44,21 @@ module _ {S D : Type 0} (d : Meaning D) (w : Width) (to_int : S → ℤ) (zero :
     pub global : Option (Config D)
     pub begin : ℕ
     pub shared : SharedTree d size (channel_count image) first p global begin
-    pub fails : StillFails {S = S} d w to_int zero global (channels_given image size) group_dim image.samples.depth.bits first begin (own_passes places) (section_at places) error
+    pub fails : StillFails {S = S} d w to_int zero global (channels_given image size) group_dim image.samples.bit_depth.bits_per_sample first begin (own_passes places) (section_at places) error
 
   -- what each error says of a frame by its first section, from bit p on, and those of its groups
   abbrev pub CodedFails : Size → ℕ → List ℕ → ℕ → Places → FileError → Type 0
   CodedFails size group_dim first p places (errors.Start e) = StartFails d size (channel_count image) first p (errors.Start e)
   CodedFails size group_dim first p places (errors.Tree e) = StartFails d size (channel_count image) first p (errors.Tree e)
   CodedFails size group_dim first p places (errors.Samples e) = SamplesFail size group_dim first p places e
-  CodedFails size group_dim first p places errors.NoMemory = Unit {0}
+  CodedFails size group_dim first p places errors.OutOfMemory = Unit {0}
   CodedFails size group_dim first p places e = ⊥
 
 module _ {D : Type 0} (d : Meaning D) (image : Image) (slots : Slots) where
   -- The first section of a frame begins with these patches of the frames that the slots hold, or with none, up to bit q.
   abbrev pub BeginsWith : Frame → List ℕ → Option Patches → ℕ → Type 0
   BeginsWith frame first patches q =
-      StandsAt (optional_patches d frame.coding.flags.patches (frame_size image.size frame) (length image.extra) slots.sizes) first 0 patches q
+      StandsAt (optional_patches d frame.coding.flags.patches (frame_size image.size frame) (length image.ec_info) slots.sizes) first 0 patches q
 
   -- These are the channels of a frame by its first section and those of its groups: with samples of 32 bits, into which its
   -- patches are put.
@@ -80,6 +80,6 @@ module _ {D : Type 0} (d : Meaning D) (image : Image) (slots : Slots) where
   -- what each error says of a frame by its first section and those of its groups
   abbrev pub MadeFails : Frame → List ℕ → Places → FileError → Type 0
   MadeFails frame first places (errors.Patches e) = UnlessMemory (patch_kind e)
-      (FailsAt (optional_patches d frame.coding.flags.patches (frame_size image.size frame) (length image.extra) slots.sizes) first 0 (patch_kind e))
-  MadeFails frame first places errors.NoMemory = Unit {0}
+      (FailsAt (optional_patches d frame.coding.flags.patches (frame_size image.size frame) (length image.ec_info) slots.sizes) first 0 (patch_kind e))
+  MadeFails frame first places errors.OutOfMemory = Unit {0}
   MadeFails frame first places e = FailsAfter frame first places e

@@ -14,4 +14,4 @@ in_file width height shift = with_sums Clamped (with_tables OfDeltasToo (sized w
 
 -- n channels as large as a picture of these sides, and after them these extra channels, each of its own shift
 abbrev pub of_file : ℕ → List ExtraChannel → ℕ → ℕ → List ModularChannelParams
-of_file n extra width height = replicate n (in_file width height 0) ++ map (λ c. in_file width height c.shift) extra
+of_file n extra width height = replicate n (in_file width height 0) ++ map (λ c. in_file width height c.dim_shift) extra

@@ -3,14 +3,14 @@ use Rattle.std.specs.Prelude.{◌≡◌, ◌⊎◌, ℕ, ◌+◌, ◌-◌, ◌*�
 use Rattle.jxlm_base.specs.Grid.{Grid, at, IsFull}
 use Rattle.jxl_patches.specs.Dictionaries.{place_at}
 use Rattle.jxl_patches.specs.Patches.{Patches}
-use Rattle.jxl_patches.specs.Patched.{PlaceFits, channel_of, mixed, patched, put}
+use Rattle.jxl_patches.specs.Patched.{PlaceFits, channel_of, mixed_sample, patched_sample, sample_put}
 use Rattle.jxl_patches.specs.declared.dictionary.Place.{Place}
 use Rattle.jxl_patches.specs.declared.dictionary.PatchMode.{PatchMode}
 
 -- samples were mixed into those of a row, from one on; the others are as they were
 pub record IsRowMixed (mode : PatchMode) (start : ℕ) (from old new : List ℤ) : Type 0 where
   pub same : length new ≡ length old
-  pub inside : (i : ℕ) → i < length from → get_or new (start + i) (pos 0) ≡ mixed mode (get_or old (start + i) (pos 0)) (get_or from i (pos 0))
+  pub inside : (i : ℕ) → i < length from → get_or new (start + i) (pos 0) ≡ mixed_sample mode (get_or old (start + i) (pos 0)) (get_or from i (pos 0))
   pub outside : (i : ℕ) → (i < start) ⊎ (start + length from ≤ i) → get_or new i (pos 0) ≡ get_or old i (pos 0)
 
 -- the first n rows of a place
@@ -22,7 +22,7 @@ pub record IsPut (source : Grid ℤ) (p : Place) (mode : PatchMode) (old new : G
   pub width : new.width ≡ old.width
   pub height : new.height ≡ old.height
   pub full : IsFull new
-  pub each : (x y : ℕ) → x < old.width → y < old.height → at new x y ≡ put source p mode x y (at old x y)
+  pub each : (x y : ℕ) → x < old.width → y < old.height → at new x y ≡ sample_put source p mode x y (at old x y)
 
 -- patches fit one channel
 pub record FitsChannel (frames : List (List (Grid ℤ))) (patches : Patches) (kinds kind channel : ℕ) (grid : Grid ℤ) : Type 0 where
@@ -40,4 +40,4 @@ kind_of colours channel = 1 + channel - colours
 pub record IsPatched (frames : List (List (Grid ℤ))) (patches : Patches) (kinds kind channel : ℕ) (old new : Grid ℤ) : Type 0 where
   pub width : new.width ≡ old.width
   pub height : new.height ≡ old.height
-  pub each : (x y : ℕ) → x < old.width → y < old.height → at new x y ≡ patched frames patches kinds kind channel x y (length patches.places) (at old x y)
+  pub each : (x y : ℕ) → x < old.width → y < old.height → at new x y ≡ patched_sample frames patches kinds kind channel x y (length patches.places) (at old x y)

@@ -4,7 +4,7 @@ use Rattle.std.specs.Option.{ok_or, option_and_then, option_map_or}
 use Rattle.jxlm_bits.specs.Decoding.{Found, Meaning}
 use Rattle.jxlm_bits.specs.ErrorKind.{BadEnum, BadProfile, ErrorAt, ErrorKind, UnlessMemory}
 use Rattle.jxlm_bits.specs.Grammar.{Grammar, IsErrorAt, ◌>>=◌}
-use Rattle.jxl_image_header.specs.Fields.{meant}
+use Rattle.jxl_image_header.specs.Fields.{number_meant}
 use Rattle.jxl_image_header.specs.declared.size.Size.{Size}
 use Rattle.jxlm_bits.specs.Tokens.{After, Tokens, called, token}
 use Rattle.jxl_patches.specs.Dictionaries.{patches_of}
@@ -36,7 +36,7 @@ decoder d contexts = called (λ bytes p. d.parse bytes p contexts) >>= λ s. cal
 
 -- the slot of a rectangle
 abbrev pub slot : {S : Type 0} → Meaning S → List (Option Size) → Tokens S ℕ
-slot d slots = token d 1 (λ v. meant (codes "slot of a patch") (is_some (get_or slots v None)) v)
+slot d slots = token d 1 (λ v. number_meant (codes "slot of a patch") (is_some (get_or slots v None)) v)
 
 -- the rectangle at this corner of the frame that a slot holds, whose sides are told less one
 abbrev pub rectangle_within : List (Option Size) → ℕ → ℕ → ℕ → ℕ → ℕ → Result Rectangle ErrorKind
@@ -45,7 +45,7 @@ rectangle_within slots slot x0 y0 w h = if option_map_or (λ f. nat_lt (x0 + w) 
 
 -- how many rectangles are named
 abbrev pub rectangle_count : {S : Type 0} → Meaning S → Size → Tokens S ℕ
-rectangle_count d size = token d 0 (λ v. meant (codes "count of patches") (nat_le v (most_rectangles size)) v)
+rectangle_count d size = token d 0 (λ v. number_meant (codes "count of patches") (nat_le v (most_rectangles size)) v)
 
 -- at how many places a rectangle is put, where so many places and cells come before
 abbrev pub count_within : Size → ℕ → ℕ → Rectangle → ℕ → ℕ → Result ℕ ErrorKind

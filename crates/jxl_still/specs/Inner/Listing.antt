@@ -16,7 +16,7 @@ use Rattle.jxlm_groups.specs.declared.pass.Pass.{Pass}
 use Rattle.jxl_modular.specs.Image.{Image, coded_list}
 use Rattle.jxl_modular.specs.declared.sections.Section.{Section}
 use Rattle.jxl_still.specs.Inner.Parts.{groups_in_order}
-use Rattle.jxl_still.specs.Places.{held, own_passes, stream_of}
+use Rattle.jxl_still.specs.Places.{section_held, own_passes, stream_of}
 use Rattle.jxl_still.specs.declared.error.FrameError.{FrameError}
 use Rattle.jxl_still.specs.declared.error.FrameError.TheVariants as errors
 use Rattle.jxl_still.specs.declared.places.Places.{Places}
@@ -24,7 +24,7 @@ use Rattle.jxl_still.specs.declared.places.Places.{Places}
 -- The section is that of a group: it holds the bytes that the frame has for its part, and begins with a header of its own.
 pub record IsOfGroup (x : Places) (s : Section) : Type 0 where
   pub section : Bor (List ℕ)
-  pub there : held x s.part ≡ Some section
+  pub there : section_held x s.part ≡ Some section
   pub lies : bytes_of s.bits ≡ section.now
   pub begins : position_of s.bits ≡ 0
   pub stream : s.stream_index ≡ stream_of x s.part
@@ -46,11 +46,11 @@ pub record AreAdded (x : Places) (ps : List SectionPart) (before after : List Se
 pub record Lacks (x : Places) (ps : List SectionPart) : Type 0 where
   pub part : SectionPart
   pub asked : Any (λ q. q ≡ part) ps
-  pub none : held x part ≡ None
+  pub none : section_held x part ≡ None
 
 abbrev pub AddingFails : Places → List SectionPart → FrameError → Type 0
 AddingFails x ps errors.NoSection = Lacks x ps
-AddingFails x ps errors.NoMemory = Unit {0}
+AddingFails x ps errors.OutOfMemory = Unit {0}
 AddingFails x ps e = ⊥
 
 -- the sections of an image: that of the global part goes on after the header, and the others were found
@@ -63,7 +63,7 @@ pub record AreListed {S D : Type 0} (x : Places) (image : Image S D) (first : Bi
 abbrev pub ListingFails : {S D : Type 0} → Places → Image S D → FrameError → Type 0
 ListingFails x image errors.NoGroups = IsFalse (can_cut image.group_dim (coded_list image))
 ListingFails x image errors.NoSection = IsTrue (can_cut image.group_dim (coded_list image)) × Lacks x (groups_in_order image (own_passes x))
-ListingFails x image errors.NoMemory = Unit {0}
+ListingFails x image errors.OutOfMemory = Unit {0}
 ListingFails x image e = ⊥
 
 -- decoding the sections of an image stops with this error

@@ -28,5 +28,5 @@ module _ {D : Type 0} (d : Meaning D) (global : Option (Config D)) (given : Chan
   abbrev pub OpenFails : FrameError → Type 0
   OpenFails (errors.Header e) = UnlessMemory (kind_of e) ((weighted_at bytes p ≡ false) × HeaderFails d global given bytes p (kind_of e))
   OpenFails errors.WeightedPalette = weighted_at bytes p ≡ true
-  OpenFails errors.NoMemory = Unit {0}
+  OpenFails errors.OutOfMemory = Unit {0}
   OpenFails e = ⊥

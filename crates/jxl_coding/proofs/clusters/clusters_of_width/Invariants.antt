@@ -1,5 +1,5 @@
 use Rattle.jxlm_bits.specs.Bits.{bytes_of, position_of}
-use Rattle.jxl_coding_codes.specs.Reading.{steps, pushed}
+use Rattle.jxl_coding_codes.specs.Reading.{steps, list_and_one}
 use Rattle.std.proofs.Common.{◌≡◌, ◌-◌, []}
 use Rattle.jxl_coding_codes.specs.Fields.{number_at}
 use Rattle.jxl_coding.proofs.clusters.clusters_of_width.Given as goal
@@ -7,6 +7,6 @@ use Rattle.jxl_coding.proofs.clusters.clusters_of_width.Given as goal
 abbrev pub invariant-loop : goal.invariant-loop
 invariant-loop l = record {
   bytes : bytes_of l.bits ≡ bytes_of l.fn.bits;
-  read : steps (pushed (λ all q. number_at all q l.width)) (l.n - l.counter) l.clusters.items (bytes_of l.fn.bits) (position_of l.bits)
-      ≡ steps (pushed (λ all q. number_at all q l.width)) l.n [] (bytes_of l.fn.bits) (position_of l.fn.bits);
+  read : steps (list_and_one (λ all q. number_at all q l.width)) (l.n - l.counter) l.clusters.items (bytes_of l.fn.bits) (position_of l.bits)
+      ≡ steps (list_and_one (λ all q. number_at all q l.width)) l.n [] (bytes_of l.fn.bits) (position_of l.fn.bits);
 }

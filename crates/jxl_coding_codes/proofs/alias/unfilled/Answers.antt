@@ -1,10 +1,10 @@
 use Rattle.std.proofs.Common.{rules}
-use Rattle.jxl_coding_codes.specs.Alias.{unfilled}
+use Rattle.jxl_coding_codes.specs.Alias.{unfilled_buckets}
 use Rattle.jxl_coding_codes.proofs.AliasSteps.{unfilled_more}
 use Rattle.jxl_coding_codes.proofs.alias.unfilled.Goals as goal
 
 pub loop-i-init : goal.loop-i-init
-unfolding unfilled
+unfolding unfilled_buckets
 loop-i-init c = search rules
 
 pub loop-i-preserved : goal.loop-i-preserved

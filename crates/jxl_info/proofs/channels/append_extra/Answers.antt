@@ -13,5 +13,5 @@ returns c =
     let first = codes "extra channel " in
     let name = ap (λ (n : List ℕ). s ++ (first ++ (decimal c.args.number ++ (codes ": " ++ (n ++ codes ", "))))) c.kind_name-name.ensures in
     extra_grown s (string_bytes c.write.new.self) (string_bytes c.append_depth.new.text) (string_bytes c.append_shift.new.text) (string_bytes c.append_premultiplied.new.text) (string_bytes c.writeln.new.self)
-    first (decimal c.args.number) (codes ": ") (kind_name k.kind) (codes ", ") (depth_text k.depth) (shift_text k.shift) (premultiplied_text k.premultiplied)
+    first (decimal c.args.number) (codes ": ") (kind_name k.kind) (codes ", ") (depth_text k.bit_depth) (shift_text k.dim_shift) (premultiplied_text k.alpha_associated)
     (c.in_ok-write.ensures.bytes ∙ name) c.in_ok-append_depth.ensures c.in_ok-append_shift.ensures c.in_ok-append_premultiplied.ensures c.in_ok-writeln.ensures.bytes

@@ -11,5 +11,5 @@ returns c =
     let s = string_bytes c.args.text.now in
     let name = ap (λ (n : List ℕ). s ++ (codes "Color space: " ++ n)) c.space_name-space.ensures in
     on_ok_weaker c.append_meaning.result
-    (λ meaning. grown s (string_bytes c.write.new.self) (string_bytes c.append_meaning.new.text) (codes "Color space: ") (space_name c.args.colour.space) (meaning_text c.args.colour) (c.in_ok-write.ensures.bytes ∙ name) meaning)
+    (λ meaning. grown s (string_bytes c.write.new.self) (string_bytes c.append_meaning.new.text) (codes "Color space: ") (space_name c.args.colour.colour_space) (meaning_text c.args.colour) (c.in_ok-write.ensures.bytes ∙ name) meaning)
     c.append_meaning.ensures

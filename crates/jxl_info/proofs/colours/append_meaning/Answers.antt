@@ -12,4 +12,4 @@ returns-in_ok-write-2 c =
     let intent = codes ", rendering intent: " in
     grown_by_two s (string_bytes c.append_light.new.text) (string_bytes c.write-else-colour.new.self) light intent c.intent_name-intent.result.now c.in_ok-append_light.ensures c.in_ok-write-2.ensures.bytes
     ∙ ap (λ (n : List ℕ). s ++ ((light ++ intent) ++ n)) c.intent_name-intent.ensures
-    ∙ ap (λ (b : Bool). s ++ (if b then codes ", ICC profile" else (light ++ intent) ++ intent_name c.args.colour.intent)) (sym c.if-colour.false)
+    ∙ ap (λ (b : Bool). s ++ (if b then codes ", ICC profile" else (light ++ intent) ++ intent_name c.args.colour.rendering_intent)) (sym c.if-colour.false)

@@ -17,4 +17,4 @@ returns c =
     ended_five v w (codes "Orientation: ") n (codes " (") c.orientation_name-name.result.now (codes ")") (10 ∷ []) c.in_ok-writeln.ensures.bytes
     ∙ ap (λ (name : List ℕ). v ++ line ((((codes "Orientation: " ++ n) ++ codes " (") ++ name) ++ codes ")")) c.orientation_name-name.ensures in
     four (string_bytes c.args.text.now) (string_bytes c.append_preview.new.text) (string_bytes c.append_animation.new.text) v w
-    (preview_line d.preview) (animation_lines d.animation) (intrinsic_line d.intrinsic) _ c.in_ok-append_preview.ensures c.in_ok-append_animation.ensures c.in_ok-append_intrinsic.ensures turned
+    (preview_line d.preview) (animation_lines d.animation) (intrinsic_line d.intrinsic_size) _ c.in_ok-append_preview.ensures c.in_ok-append_animation.ensures c.in_ok-append_intrinsic.ensures turned

@@ -17,16 +17,16 @@ decode_frame-requires-clause-valid g c κs within =
     let image = image_of c.args.image.now in
     let size = c.args.size in
     let params = c.with_channels-params.result in
-    let is : params.channels.items ≡ of_file (colour_count image) image.extra size.width size.height = rw c.with_channels-params.ensures c.in_ok-list.ensures.list in
-    valid_params params (colour_count image) size.width size.height image.extra is c.requires.many c.requires.wide c.requires.high c.requires.low (rw c.with_channels-params.ensures c.requires.dim) (rw c.with_channels-params.ensures c.requires.deep)
+    let is : params.channels.items ≡ of_file (colour_count image) image.ec_info size.width size.height = rw c.with_channels-params.ensures c.in_ok-list.ensures.list in
+    valid_params params (colour_count image) size.width size.height image.ec_info is c.requires.many c.requires.wide c.requires.high c.requires.low (rw c.with_channels-params.ensures c.requires.dim) (rw c.with_channels-params.ensures c.requires.deep)
 
 pub decode_frame-requires-clause-alike : goal.decode_frame-requires-clause-alike
 decode_frame-requires-clause-alike g c κs within =
     let image = image_of c.args.image.now in
     let size = c.args.size in
     let list = c.with_channels-params.result.channels.items in
-    let is : list ≡ of_file (colour_count image) image.extra size.width size.height = rw c.with_channels-params.ensures c.in_ok-list.ensures.list in
-    alike (colour_count image) size.width size.height image.extra list is
+    let is : list ≡ of_file (colour_count image) image.ec_info size.width size.height = rw c.with_channels-params.ensures c.in_ok-list.ensures.list in
+    alike (colour_count image) size.width size.height image.ec_info list is
 
 pub returns-in-Ok-Some-clause-ok : goal.returns-in-Ok-Some-clause-ok
 returns-in-Ok-Some-clause-ok g c =
@@ -35,9 +35,9 @@ returns-in-Ok-Some-clause-ok g c =
     let params = c.with_channels-params.result in
     let list : image_list params.channels.items ≡ channels_given image size = are_given image size params.channels.items c.requires.low (rw c.with_channels-params.ensures c.in_ok-list.ensures.list) in
     let dim : params.group_dim ≡ c.args.group_dim = rw c.with_channels-params.ensures refl in
-    let depth : params.bit_depth ≡ image.samples.depth.bits = rw c.with_channels-params.ensures refl in
+    let depth : params.bit_depth ≡ image.samples.bit_depth.bits_per_sample = rw c.with_channels-params.ensures refl in
     let tree : option_copied params.ma_config ≡ c.in_ok-tree.tree = search rules in
-    let extra : c.len.result ≡ length c.args.image.now.extra.items = c.len.ensures ∙ c.args.image.now.extra.ok.0 in
+    let extra : c.len.result ≡ length c.args.image.now.ec_info.items = c.len.ensures ∙ c.args.image.now.ec_info.ok.0 in
     let count : c.colours.result + c.len.result ≡ channel_count image = rw (c.colours.ensures, extra) refl in
     coded g.D.Decoder.meaning g.S.Sealed.width g.S.Sealed.to_int (g.S.Sealed.from_int (pos 0)) image size c.args.group_dim (c.colours.result + c.len.result) (bytes_of c.args.bits) (bytes_of c.shared_tree.new.bits)
     (position_of c.args.bits) (position_of c.shared_tree.new.bits) c.args.places c.in_ok-tree.tree params count c.in_ok-tree.ensures.ok c.in_ok-tree.ensures.bytes tree list dim depth
@@ -58,9 +58,9 @@ returns-clause-err g c =
     let params = c.with_channels-params.result in
     let list : image_list params.channels.items ≡ channels_given image size = are_given image size params.channels.items c.requires.low (rw c.with_channels-params.ensures c.in_ok-list.ensures.list) in
     let dim : params.group_dim ≡ c.args.group_dim = rw c.with_channels-params.ensures refl in
-    let depth : params.bit_depth ≡ image.samples.depth.bits = rw c.with_channels-params.ensures refl in
+    let depth : params.bit_depth ≡ image.samples.bit_depth.bits_per_sample = rw c.with_channels-params.ensures refl in
     let tree : option_copied params.ma_config ≡ c.in_ok-tree.tree = search rules in
-    let extra : c.len.result ≡ length c.args.image.now.extra.items = c.len.ensures ∙ c.args.image.now.extra.ok.0 in
+    let extra : c.len.result ≡ length c.args.image.now.ec_info.items = c.len.ensures ∙ c.args.image.now.ec_info.ok.0 in
     let count : c.colours.result + c.len.result ≡ channel_count image = rw (c.colours.ensures, extra) refl in
     samples_fail g.D.Decoder.meaning g.S.Sealed.width g.S.Sealed.to_int (g.S.Sealed.from_int (pos 0)) image size c.args.group_dim (c.colours.result + c.len.result) (bytes_of c.args.bits) (bytes_of c.shared_tree.new.bits)
     (position_of c.args.bits) (position_of c.shared_tree.new.bits) c.args.places c.in_ok-tree.tree params count c.in_ok-tree.ensures.ok c.in_ok-tree.ensures.bytes tree list dim depth c.in-Err.error c.in-Err.ensures.err

@@ -28,7 +28,7 @@ returns-in_err-channels-clause-err g c =
     let first = c.args.first.now in
     let patches = option_map patches_of c.in-Ok.patches in
     let q = position_of c.read_patches.new.bits in
-    let count : c.len-extra.result ≡ length c.args.image.now.extra.items = c.len-extra.ensures ∙ c.args.image.now.extra.ok.0 in
+    let count : c.len-extra.result ≡ length c.args.image.now.ec_info.items = c.len-extra.ensures ∙ c.args.image.now.ec_info.ok.0 in
     let stands = begins d image slots frame first c.args.places c.size-size.result c.len-extra.result c.deref.result.now (bytes_of c.new-bits.result) (position_of c.new-bits.result) q c.size-size.ensures count
     c.deref.ensures.value c.new-bits.ensures.bytes c.new-bits.ensures.position patches c.in-Ok.ensures.gives in
     let p = err_from_is_err_and c.from_residual.result c.from_residual.ensures.1 in
@@ -42,7 +42,7 @@ pub put_patches-requires-clause-held : goal.put_patches-requires-clause-held
 put_patches-requires-clause-held g c =
     let image = image_of c.args.image.now in
     let slots = slots_of c.args.slots.now in
-    let count : c.len-extra.result ≡ length c.args.image.now.extra.items = c.len-extra.ensures ∙ c.args.image.now.extra.ok.0 in
+    let count : c.len-extra.result ≡ length c.args.image.now.ec_info.items = c.len-extra.ensures ∙ c.args.image.now.ec_info.ok.0 in
     let there : c.args.header.now.coding.flags.patches ≡ true = search rules in
     let none = none_shifted c.args.header.now.coding.flags.patches (has_shifts image) there c.requires.plain in
     rw (c.colours.ensures, count) (hold_frames image slots none c.requires.held)
@@ -52,7 +52,7 @@ put_patches-requires-clause-sides g c =
     let image = image_of c.args.image.now in
     let size = c.size-size.result in
     let items = c.in_ok-channels.channels.items in
-    let count : c.len-extra.result ≡ length c.args.image.now.extra.items = c.len-extra.ensures ∙ c.args.image.now.extra.ok.0 in
+    let count : c.len-extra.result ≡ length c.args.image.now.ec_info.items = c.len-extra.ensures ∙ c.args.image.now.ec_info.ok.0 in
     let there : c.args.header.now.coding.flags.patches ≡ true = search rules in
     let none = none_shifted c.args.header.now.coding.flags.patches (has_shifts image) there c.requires.plain in
     let are : AreOfSize (channel_count image) size items = one_size image size items none (are_channels image size items c.in_ok-channels.ensures.sides) in
@@ -76,7 +76,7 @@ returns-clause-ok g c =
     let changed = c.put_patches.new.channels in
     let patches = option_map patches_of c.in-Ok.patches in
     let q = position_of c.read_patches.new.bits in
-    let count : c.len-extra.result ≡ length c.args.image.now.extra.items = c.len-extra.ensures ∙ c.args.image.now.extra.ok.0 in
+    let count : c.len-extra.result ≡ length c.args.image.now.ec_info.items = c.len-extra.ensures ∙ c.args.image.now.ec_info.ok.0 in
     let stands = begins d image slots frame first c.args.places size c.len-extra.result c.deref.result.now (bytes_of c.new-bits.result) (position_of c.new-bits.result) q c.size-size.ensures count
     c.deref.ensures.value c.new-bits.ensures.bytes c.new-bits.ensures.position patches c.in-Ok.ensures.gives in
     let bytes : bytes_of c.read_patches.new.bits ≡ first = c.in-Ok.ensures.bytes ∙ c.new-bits.ensures.bytes in
@@ -97,7 +97,7 @@ returns-clause-sides g c =
     let size = c.size-size.result in
     let items = c.in_ok-channels.channels.items in
     let changed = c.put_patches.new.channels in
-    let count : c.len-extra.result ≡ length c.args.image.now.extra.items = c.len-extra.ensures ∙ c.args.image.now.extra.ok.0 in
+    let count : c.len-extra.result ≡ length c.args.image.now.ec_info.items = c.len-extra.ensures ∙ c.args.image.now.ec_info.ok.0 in
     let there : c.args.header.now.coding.flags.patches ≡ true = search rules in
     let none = none_shifted c.args.header.now.coding.flags.patches (has_shifts image) there c.requires.plain in
     let before = count_channels image size items (are_channels image size items c.in_ok-channels.ensures.sides) in

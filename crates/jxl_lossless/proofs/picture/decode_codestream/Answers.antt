@@ -35,5 +35,5 @@ returns-in_err-channels-clause-err g c =
 pub returns-in_err-shown-clause-err : goal.returns-in_err-shown-clause-err
 returns-in_err-shown-clause-err g c =
     let front = c.in-Ok.front in
-    let is : c.from_residual-in_err-shown.result ≡ Err errors.NoMemory = search rules in
-    rw is (stream_fails c.args.limits.now c.args.bytes.now (image_of front.image) (map frame_at front.saved.items) (frame_at front.shown) c.in-Ok.ensures.ok.stands errors.NoMemory tt)
+    let is : c.from_residual-in_err-shown.result ≡ Err errors.OutOfMemory = search rules in
+    rw is (stream_fails c.args.limits.now c.args.bytes.now (image_of front.image) (map frame_at front.saved.items) (frame_at front.shown) c.in-Ok.ensures.ok.stands errors.OutOfMemory tt)

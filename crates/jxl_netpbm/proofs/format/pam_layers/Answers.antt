@@ -8,5 +8,5 @@ pub first_alpha-requires-clause-some : goal.first_alpha-requires-clause-some
 first_alpha-requires-clause-some c =
     let image = image_of c.args.picture.now.header in
     let channels = c.args.picture.now.channels.items in
-    let count : length channels ≡ colour_count image + length image.extra = (have_sides image image.size channels c.requires.whole).count in
+    let count : length channels ≡ colour_count image + length image.ec_info = (have_sides image image.size channels c.requires.whole).count in
     search rules

@@ -2,7 +2,7 @@ use mir.Syntax.{w32}
 use mir.Val.{of_z, to_z}
 use Rattle.std.proofs.Common.{◌≡◌, ◌+◌, pos, get_or, length, rules, arith}
 use Rattle.std.proofs.lemmas.Int.{ints, to_z-of_z}
-use Rattle.jxl_patches.specs.Patched.{mixed}
+use Rattle.jxl_patches.specs.Patched.{mixed_sample}
 use Rattle.jxl_patches.specs.declared.dictionary.PatchMode.TheVariants.{Add}
 use Rattle.jxl_patches.proofs.MixedRows.{none_added, added_more, all_added}
 use Rattle.jxl_patches.proofs.apply.add.Goals as goal
@@ -13,7 +13,7 @@ loop-i-init c = none_added c.args.start c.args.from.now c.args.row.now
 pub loop-i-preserved : goal.loop-i-preserved
 loop-i-preserved c =
     let i = c.loop-i.i in
-    let v : c.plus.result ≡ mixed Add (get_or c.loop-i.row (c.args.start + i) (pos 0)) (get_or c.args.from.now i (pos 0)) = first_of (grind (arith, to_z-of_z, c.plus.ensures), search (rules, to_z-of_z, c.plus.ensures), search (arith, ints, to_z-of_z, c.plus.ensures)) in
+    let v : c.plus.result ≡ mixed_sample Add (get_or c.loop-i.row (c.args.start + i) (pos 0)) (get_or c.args.from.now i (pos 0)) = first_of (grind (arith, to_z-of_z, c.plus.ensures), search (rules, to_z-of_z, c.plus.ensures), search (arith, ints, to_z-of_z, c.plus.ensures)) in
     let back : to_z w32 (of_z w32 c.plus.result) ≡ c.plus.result = first_of (search (rules, to_z-of_z), grind (arith, to_z-of_z), search (arith, ints, to_z-of_z)) in
     rw back (added_more c.args.start i c.args.from.now c.args.row.now c.loop-i.row c.plus.result c.loop-i.invariant (omega (arith, c.loop-i-test.true, c.requires)) v)
 

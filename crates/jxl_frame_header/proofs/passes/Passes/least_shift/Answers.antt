@@ -11,7 +11,7 @@ returns-in-Some-clause-is c =
     let x = c.args.self.now in
     let p = c.args.pass in
     let before = least_shift (passes_of x) p in
-    let isnt : (suc p == x.count) ≡ false = ne_eqb (suc p) x.count (λ e. c.if-pass-count.false (omega (arith, e))) in
+    let isnt : (suc p == x.num_passes) ≡ false = ne_eqb (suc p) x.num_passes (λ e. c.if-pass-count.false (omega (arith, e))) in
     let found : ended x.downsample.items x.last_pass.items p ≡ Some c.in-Some.factor = sym c.ended.ensures ∙ c.in-Some.is in
     rw isnt (c.shift_of.ensures.is ∙ sym (ap (λ (o : Option ℕ). option_map_or shift_of o before) found) ∙ ended_in_pairs shift_of x.downsample.items x.last_pass.items p before)
 
@@ -20,6 +20,6 @@ returns-in-None-clause-is c =
     let x = c.args.self.now in
     let p = c.args.pass in
     let before = least_shift (passes_of x) p in
-    let isnt : (suc p == x.count) ≡ false = ne_eqb (suc p) x.count (λ e. c.if-pass-count.false (omega (arith, e))) in
+    let isnt : (suc p == x.num_passes) ≡ false = ne_eqb (suc p) x.num_passes (λ e. c.if-pass-count.false (omega (arith, e))) in
     let none : ended x.downsample.items x.last_pass.items p ≡ None = sym c.ended.ensures ∙ c.in-None.is in
     rw isnt (c.requires.before ∙ sym (ap (λ (o : Option ℕ). option_map_or shift_of o before) none) ∙ ended_in_pairs shift_of x.downsample.items x.last_pass.items p before)

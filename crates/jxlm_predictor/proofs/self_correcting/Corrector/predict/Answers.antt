@@ -1,6 +1,6 @@
 use Rattle.std.proofs.Common.{◌≡◌, ◌<◌, ◌∙◌, ap, arith}
 use Rattle.std.proofs.lemmas.Nat.{mod-mul-add, div-mul-add}
-use Rattle.jxlm_predictor.specs.Around.{seen}
+use Rattle.jxlm_predictor.specs.Around.{neighbours_of}
 use Rattle.jxlm_predictor.specs.Correcting.{near_of}
 use Rattle.jxlm_predictor.specs.Neighbours.{Neighbours, column, row}
 use Rattle.jxlm_predictor.specs.declared.self_correcting.ErrorsAround.{ErrorsAround}
@@ -18,7 +18,7 @@ returns g c = λ header width samples by place seen_is.
     let cy : row samples width ≡ y = rw place (div-mul-add y width x in_row) in
     let here = near header samples width in
     let are : near_of c.errors_around-errors.result ≡ here = c.errors_around-errors.ensures header width samples by ∙ near_at header samples width x y cx cy in
-    let a = seen c.args.around.now in
+    let a = neighbours_of c.args.around.now in
     record {
       prediction_is = (rw by.same_header at c.of_place.ensures.prediction) ∙ ap (predicted header a) are ∙ ap (λ (b : Neighbours). predicted header b here) seen_is;
       errors_are = ap (λ (e : ErrorsAround). greatest (near_of e)) c.of_place.ensures.errors ∙ ap greatest are;

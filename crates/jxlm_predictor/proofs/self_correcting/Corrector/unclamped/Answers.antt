@@ -1,8 +1,8 @@
 use Rattle.std.proofs.Common.{◌≡◌, ◌<◌, ℤ, List, FitsSigned, ◌∙◌, arith, rules, ap, w64}
 use Rattle.std.proofs.lemmas.Int.{to_z-of_z}
 use Rattle.std.proofs.lemmas.Nat.{mod-mul-add, div-mul-add}
-use Rattle.jxlm_predictor.specs.Around.{seen}
-use Rattle.jxlm_predictor.specs.Correcting.{counted}
+use Rattle.jxlm_predictor.specs.Around.{neighbours_of}
+use Rattle.jxlm_predictor.specs.Correcting.{counts_of}
 use Rattle.jxlm_predictor.specs.Correcting.{near_of}
 use Rattle.jxlm_predictor.specs.Neighbours.{Neighbours, column, row}
 use Rattle.jxlm_predictor.specs.SelfCorrecting.{ErrorsNear, near, sub_predictions, unclamped, weights}
@@ -21,9 +21,9 @@ returns c = λ header width samples by place seen_is.
     let cy : row samples width ≡ y = rw place (div-mul-add y width x in_row) in
     let here = near header samples width in
     let are : near_of c.errors_around-errors.result ≡ here = c.errors_around-errors.ensures header width samples by ∙ near_at header samples width x y cx cy in
-    let a = seen c.args.around.now in
+    let a = neighbours_of c.args.around.now in
     let e = near_of c.errors_around-errors.result in
     let u : FitsSigned w64 c.weighted.result = search rules in
-    let made = c.weighted.ensures.value ∙ ap (λ (f : List ℤ). unclamped f (counted c.weights.result)) c.of_place-subpred.ensures ∙ ap (unclamped (sub_predictions own a e)) c.weights.ensures.value in
+    let made = c.weighted.ensures.value ∙ ap (λ (f : List ℤ). unclamped f (counts_of c.weights.result)) c.of_place-subpred.ensures ∙ ap (unclamped (sub_predictions own a e)) c.weights.ensures.value in
     let read = ap (λ (h : WpHeader). unclamped (sub_predictions h a e) (weights h e.sums)) by.same_header in
     to_z-of_z w64 c.weighted.result u ∙ made ∙ read ∙ ap (λ (f : ErrorsNear). unclamped (sub_predictions header a f) (weights header f.sums)) are ∙ ap (λ (b : Neighbours). unclamped (sub_predictions header b here) (weights header here.sums)) seen_is

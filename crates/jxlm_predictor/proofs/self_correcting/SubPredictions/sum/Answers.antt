@@ -1,7 +1,7 @@
 use Rattle.std.proofs.Common.{◌≡◌, ℕ, ℤ, ◌*◌, ◌<◌, ◌≤◌, ◌^◌, ◌-◌, ◌/◌, pos, ◌*ℤ◌, unsigned_abs, ◌∙◌, refl, arith, to_z, of_z}
 use Rattle.std.specs.Int.{w64}
 use Rattle.std.specs.Prelude.{sum}
-use Rattle.jxlm_predictor.specs.Correcting.{counted}
+use Rattle.jxlm_predictor.specs.Correcting.{counts_of}
 use Rattle.jxlm_predictor.specs.declared.self_correcting.Counts.{Counts}
 use Rattle.jxlm_predictor.proofs.Ranges.{weighted}
 use Rattle.jxlm_predictor.proofs.Sums.{IsNear, natural_near, scaled_is, scaled_near, sum_fits, sum_near}
@@ -19,7 +19,7 @@ module _ (v r : ℤ) (below : unsigned_abs v < 2 ^ 37) where
   part_is weight value = scaled_is v r (2 ^ 37) near (omega arith) weight value
 
 -- half the sum of the weights, less 1
-half : (weights : Counts) (n : ℕ) → n ≡ sum (counted weights) → sum (counted weights) ≤ 31 → IsNear (to_z w64 (n / 2 - 1)) (pos (n / 2 - 1)) 31
+half : (weights : Counts) (n : ℕ) → n ≡ sum (counts_of weights) → sum (counts_of weights) ≤ 31 → IsNear (to_z w64 (n / 2 - 1)) (pos (n / 2 - 1)) 31
 half weights n same most = natural_near (n / 2 - 1) 31 (omega (arith, same, most)) (omega arith)
 
 pub overflow_add-result : goal.overflow_add-result
