@@ -25,7 +25,7 @@ use Rattle.jxlm_predictor.specs.declared.state.PredictorState.{PredictorState}
 use Rattle.jxlm_predictor.proofs.EarlierLaws.{in_state, of_setting}
 use Rattle.jxlm_predictor.proofs.StandingLaws.{stands_row}
 use Rattle.jxlm_samples.specs.Coded.{next_prediction}
-use Rattle.jxlm_encode_tokens.specs.Inner.Channels.{StandsAfter, asked_at, handed, region_at, setting_of, weighted_at}
+use Rattle.jxlm_samples.specs.ChannelSettings.{StandsAfter, asked_at, handed, region_at, setting_of, weighted_at}
 use Rattle.jxlm_samples.specs.Part.{clamps, place_by, SeesBefore, cells_before, cells_of, channel, earlier_alike, grid as grid_at}
 use Rattle.jxlm_samples.specs.Reading.{IsCodingOf, part_of, regions_of, tree_of}
 use Rattle.jxlm_samples.specs.declared.coding.ChannelTree.{ChannelTree}

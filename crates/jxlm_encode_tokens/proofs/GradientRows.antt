@@ -4,7 +4,7 @@ use Rattle.std.specs.Int.{w32, int_wrap}
 use Rattle.std.proofs.Math.ListN.{get_or-map}
 use Rattle.std.proofs.lemmas.Int.{int_wrap_fits}
 use Rattle.jxlm_bits.specs.Numbers.{clamped_gradient}
-use Rattle.jxlm_encode_tokens.specs.Inner.Neighbours.{gradient_in, north_in, north_west_in, west_in}
+use Rattle.jxlm_samples.specs.RowNeighbours.{gradient_in, north_in, north_west_in, west_in}
 
 -- a sample of the row above, or another in the first row
 pub above_is : {X : Type 0} (to_int : X → ℤ) (above : List X) (x : ℕ) (n other : X) (e : ℤ) → n ≡ get_or above x other → to_int other ≡ e → to_int n ≡ get_or (map to_int above) x e

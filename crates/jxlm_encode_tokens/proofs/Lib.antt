@@ -2,9 +2,7 @@ pub mod OneToken
 pub mod OneList
 pub mod Inverse
 pub mod Lists
-pub mod Starting
 pub mod Cells
-pub mod Neighbours
 pub mod GradientRows
 pub mod LeafRows
 pub mod Pass

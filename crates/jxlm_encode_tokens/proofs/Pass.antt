@@ -6,16 +6,16 @@ use Rattle.std.proofs.lemmas.List.{length-append}
 use Rattle.jxlm_base.specs.Grid.{Grid}
 use Rattle.jxlm_base.specs.Regions.{grids_in, store_meanings}
 use Rattle.jxlm_tree.specs.Tree.{AllLeaves}
-use Rattle.jxlm_encode_tokens.specs.Inner.Channels.{HasRoom, region_at}
+use Rattle.jxlm_samples.specs.ChannelSettings.{region_at}
 use Rattle.jxlm_transform.specs.Channels.{infos}
 use Rattle.jxlm_samples.specs.Part.{cells_before, cells_of, channel, max_width}
 use Rattle.jxlm_samples.specs.Placed.{PartLies}
-use Rattle.jxlm_samples.specs.Reading.{HasFlats, IsCodingOf, IsRoomyFor, part_of, regions_of, row_width, sampled_width}
+use Rattle.jxlm_samples.specs.Reading.{HasFlats, HasRoom, IsCodingOf, IsRoomyFor, part_of, regions_of, row_width, sampled_width}
 use Rattle.jxlm_samples.specs.declared.coding.PartCoding.{PartCoding}
 use Rattle.jxlm_samples.specs.declared.coding.PartState.{PartState}
 use Rattle.jxlm_samples.specs.declared.part.PlacedPart.{PlacedPart}
 use Rattle.jxlm_samples.proofs.Loops.{all_cells, all_done, channel_done, channel_empty, channel_flat, fits_in, same_size}
-use Rattle.jxlm_samples.proofs.Starting.{as_many_channels, roomy_for}
+use Rattle.jxlm_samples.proofs.Starting.{as_many_channels, roomy_for, walked_within}
 use Rattle.jxlm_encode_tokens.specs.Inner.Walks.{AreFirstTokens, AreRowTokens, IsWalked}
 use Rattle.jxlm_encode_tokens.specs.Tokens.{AreTokensOf, IsTokenOfCell, MultipliesByOne}
 use Rattle.jxlm_encode_tokens.proofs.Lists.{joined}
@@ -101,7 +101,11 @@ module _ {D X : Type 0} (p : PlacedPart D) (store : List (Grid X)) (lies : PartL
   placed_walk ones = record { coding = placed_coding; lie = rw channels lies.lie; ones = rw config ones }
 
   pub placed_room : (state : PartState X) → IsRoomyFor (sampled_width (infos p.channels.now)) (sampled_width (infos p.channels.now)) p.weights c.flats.now state → HasRoom c state.predictor
-  placed_room state h = (roomy_for c (row_width c) state placed_coding (rw (channels, weights) h)).predictor
+  placed_room state h =
+      let room = (roomy_for c (row_width c) state placed_coding (rw (channels, weights) h)).predictor in
+      let most = walked_within (part_of c).channels c.flats.now (length (part_of c).channels) (omega arith) in
+      let wide = room.widest in
+      record { widest = omega (arith, most, wide); earlier = room.earlier; weights = room.weights }
 
 -- what holds anyway holds where there is no error
 pub on_ok : {A E : Type 0} (r : Result A E) (P : Type 0) → P → OnOk r P

@@ -1,3 +1,1 @@
-pub mod Channels
-pub mod Neighbours
 pub mod Walks

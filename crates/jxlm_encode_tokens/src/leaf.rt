@@ -1,12 +1,13 @@
-//! Rows of a channel whose tree is one leaf that predicts by 0 or by the clamped gradient: no state is needed.
+//! Rows of a channel whose cells are all predicted by 0, or by the clamped gradient: no state is needed.
 
-ghost use Rattle.std.specs.Prelude.{◌≡◌, ◌<◌, pos, true, false, [], get_or, length, map};
-ghost use Rattle.jxlm_encode_tokens.specs.Inner.Neighbours.{gradient_in};
+ghost use Rattle.std.specs.Prelude.{◌≡◌, ◌<◌, pos, true, false, [], length, map};
+ghost use Rattle.jxlm_samples.specs.RowNeighbours.{gradient_in};
 ghost use Rattle.jxlm_encode_tokens.specs.Tokens.{MultipliesByOne};
 ghost use Rattle.jxlm_encode_tokens.specs.Inner.Walks.{AreLeafTokens};
 
 use crate::token::sample_token;
 use jxlm_base::sample::{Sample, Sealed};
+use jxlm_samples::above::sample_above;
 use jxlm_tree::flat::Leaf;
 
 /// The tokens of a row in which each cell is predicted by 0.
@@ -19,16 +20,6 @@ pub(crate) fn zero_row<S: Sample>(leaf: Leaf, row: &[S], out: &mut [u32])
     for x in 0..row.len() {
         out[x] = sample_token(&leaf, row[x], 0);
     }
-}
-
-/// The sample above column `x`, or `other` in the first row.
-#[inline(always)]
-fn sample_above<S: Copy, const FIRST: bool>(above: &[S], x: usize, other: S) -> S
-    requires first { FIRST ≡ true → above.now ≡ [] }
-    requires inside { FIRST ≡ false → x < length above.now }
-    ensures { result ≡ get_or above.now x other }
-{
-    if FIRST { other } else { above[x] }
 }
 
 /// The tokens of a row below another, or of the first one, in which each cell is predicted by the clamped gradient.

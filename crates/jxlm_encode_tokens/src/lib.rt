@@ -5,5 +5,4 @@ pub mod laws;
 mod leaf;
 pub mod part;
 mod rows;
-mod start;
 pub mod token;

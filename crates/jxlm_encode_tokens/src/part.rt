@@ -1,47 +1,54 @@
 //! The tokens of all samples of a part, in the order of its cells.
 
-ghost use Rattle.std.specs.Prelude.{◌≡◌, ◌⊎◌, ◌+◌, ◌*◌, ◌^◌, ◌<◌, ◌≤◌, IfOk, IfSome, OnOk, length};
+ghost use Rattle.std.specs.Prelude.{◌≡◌, ◌+◌, ◌^◌, ◌<◌, ◌≤◌, IfOk, OnOk, length};
 ghost use Rattle.jxlm_base.specs.Regions.{grids_in, store_meanings};
+ghost use Rattle.jxlm_tree.specs.FlatTree.{FlatTree};
 ghost use Rattle.jxlm_tree.specs.Tree.{AllLeaves};
-ghost use Rattle.jxlm_encode_tokens.specs.Inner.Channels.{HasRoom, IsAfterChannel, StandsAfter, region_at};
 ghost use Rattle.jxlm_transform.specs.Channels.{infos, regions};
+ghost use Rattle.jxlm_samples.specs.ChannelSettings.{IsAfterChannel, StandsAfter, region_at};
 ghost use Rattle.jxlm_samples.specs.Part.{cells_before, cells_of};
 ghost use Rattle.jxlm_samples.specs.Placed.{PartLies, part_placed};
 ghost use Rattle.jxlm_predictor.specs.SelfCorrecting.{IsHeader};
 ghost use Rattle.jxlm_samples.specs.Reading.{sampled_width as the_sampled_width};
-ghost use Rattle.jxlm_samples.specs.Reading.{HasFlats, IsRoomyFor, part_of, regions_of, row_width, tree_of};
+ghost use Rattle.jxlm_samples.specs.Reading.{HasFlats, HasRoom, IsRoomyFor, LeadsAlone, part_of, regions_of, row_width, tree_of};
 ghost use Rattle.jxlm_encode_tokens.specs.Tokens.{AreTokensOf, MultipliesByOne};
 ghost use Rattle.jxlm_encode_tokens.specs.Inner.Walks.{AreFirstTokens, AreRowTokens, IsInChannel, IsLoneLeaf, IsWalked};
 
 use crate::leaf::{gradient_row, zero_row};
-use crate::rows::walked_row;
-use crate::start::start_channel;
+use crate::rows::{TokenWalk, walked_row};
 use jxlm_base::grid::{AlignedGrid, OutOfMemory};
 use jxlm_base::region::region_row;
 use jxlm_base::sample::Sample;
 use jxlm_bits::decoder::Decoder;
 use jxlm_bits::error::Result;
-use jxlm_predictor::predictor::{Predictor, PredictorState};
+use jxlm_predictor::predictor::Predictor;
 use jxlm_samples::channels::{max_width, sampled_width};
-use jxlm_samples::coding::{ChannelTree, PartCoding, PartState, flat_trees, roomy_state};
+use jxlm_samples::coding::{
+    Alone, ChannelTree, PartCoding, PartState, flat_trees, roomy_state, start_channel,
+};
 use jxlm_samples::part::PlacedPart;
+use jxlm_samples::rows::Line;
 use jxlm_transform::channels::PlacedChannel;
-use jxlm_tree::flat::{FlatMaTree, Leaf, Steps};
+use jxlm_tree::flat::{Leaf, Steps};
+use jxlm_tree::paths::Path;
 use std::alloc::Global;
 
-/// The only leaf of a tree, where rows need no state of the predictors: it predicts by 0 or by the clamped gradient.
-fn lone_leaf(flat: &FlatMaTree) -> Option<Leaf>
-    ensures { IfSome result (IsLoneLeaf flat.now) }
+/// A leaf as those by which a channel is read alone, but for the cluster, of which tokens know nothing.
+fn lone_leaf(alone: &Alone) -> Leaf
+    ensures { (t : FlatTree) → LeadsAlone t alone.now → AllLeaves MultipliesByOne t.tree → IsLoneLeaf t result }
 {
-    let leaf = flat.only_leaf()?;
-    if leaf.predictor == Predictor::Zero || leaf.predictor == Predictor::Gradient {
-        Some(leaf)
-    } else {
-        None
+    match alone {
+        Alone::Leaf(leaf) => *leaf,
+        Alone::Table(_) => Leaf {
+            cluster: 0,
+            predictor: Predictor::Gradient,
+            offset: 0,
+            multiplier: 1,
+        },
     }
 }
 
-/// The tokens of row `y` of channel `i` at its only leaf.
+/// The tokens of row `y` of channel `i`, whose leaves are as this one.
 fn leaf_row<S: Sample, D: Decoder>(
     store: &[AlignedGrid<S>],
     coding: &PartCoding<'_, D>,
@@ -67,7 +74,7 @@ fn leaf_row<S: Sample, D: Decoder>(
     }
 }
 
-/// Adds the tokens of the rows of channel `i` at its only leaf; `out` is room for a row.
+/// Adds the tokens of the rows of channel `i`, whose leaves are as this one; `out` is room for a row.
 fn push_leaf_rows<S: Sample, D: Decoder>(
     tokens: &mut Vec<u32>,
     store: &[AlignedGrid<S>],
@@ -92,88 +99,93 @@ fn push_leaf_rows<S: Sample, D: Decoder>(
     Ok(())
 }
 
-/// Adds the tokens of the rows of channel `i`, cell by cell; the state must be at its first cell. `out` is room for a
-/// row.
-fn push_walked_rows<S: Sample, D: Decoder>(
+/// Adds the tokens of the rows of channel `i`, cell by cell; the walk must be at its first cell. `out` is room for a row.
+fn push_walked_rows<'x, S: Sample, D: Decoder>(
     tokens: &mut Vec<u32>,
-    state: &mut PredictorState<S>,
-    steps: &mut Steps,
+    walk: &mut TokenWalk<S>,
     store: &[AlignedGrid<S>],
-    coding: &PartCoding<'_, D>,
+    coding: &'x PartCoding<'x, D>,
     out: &mut [u32],
     i: usize,
 ) -> std::result::Result<(), OutOfMemory>
     requires here { IsInChannel coding.now store.now i }
     requires columns { 0 < (region_at (regions_of coding.now) i).width }
     requires long { length out.old ≡ (region_at (regions_of coding.now) i).width }
-    requires roomy { HasRoom coding.now state.old }
-    requires stands { StandsAfter coding.now S.to_int store.now i 0 state.old }
+    requires roomy { HasRoom coding.now walk.old.state }
+    requires stands { StandsAfter coding.now S.to_int store.now i 0 walk.old.state }
     requires before { AreFirstTokens coding.now S.width S.to_int store.now
         (cells_before (part_of coding.now).channels i) tokens.old.items }
     ensures tokens { OnOk result (AreFirstTokens coding.now S.width S.to_int store.now
         (cells_before (part_of coding.now).channels (i + 1)) tokens.new.items) }
-    ensures roomy { OnOk result (HasRoom coding.now state.new) }
-    ensures last { OnOk result (IsAfterChannel coding.now (i + 1) state.new) }
+    ensures roomy { OnOk result (HasRoom coding.now walk.new.state) }
+    ensures last { OnOk result (IsAfterChannel coding.now (i + 1) walk.new.state) }
 {
+    let clamped = coding.clamps(i);
     for y in 0..coding.region(i).height {
-        walked_row(state, steps, store, coding, out, i, y);
+        let line = Line {
+            coding,
+            store,
+            path: Path::Tree,
+            i,
+            y,
+            clamped,
+        };
+        walked_row(walk, &line, out);
         tokens.extend_from_slice(out)?;
     }
     Ok(())
 }
 
 /// Adds the tokens of channel `i`; one without columns or rows has none. `scratch` has room for a row.
-fn push_channel<S: Sample, D: Decoder>(
+fn push_channel<'x, S: Sample, D: Decoder>(
     tokens: &mut Vec<u32>,
-    state: &mut PredictorState<S>,
-    steps: &mut Steps,
+    walk: &mut TokenWalk<S>,
     store: &[AlignedGrid<S>],
-    coding: &PartCoding<'_, D>,
+    coding: &'x PartCoding<'x, D>,
     scratch: &mut [u32],
     i: usize,
 ) -> std::result::Result<(), OutOfMemory>
     requires walked { IsWalked coding.now store.now }
     requires channel { i < length (regions_of coding.now) }
-    requires roomy { HasRoom coding.now state.old }
+    requires roomy { HasRoom coding.now walk.old.state }
     requires room { row_width coding.now ≤ length scratch.old }
-    requires last { IsAfterChannel coding.now i state.old }
+    requires last { IsAfterChannel coding.now i walk.old.state }
     requires before { AreFirstTokens coding.now S.width S.to_int store.now
         (cells_before (part_of coding.now).channels i) tokens.old.items }
     ensures tokens { OnOk result (AreFirstTokens coding.now S.width S.to_int store.now
         (cells_before (part_of coding.now).channels (i + 1)) tokens.new.items) }
-    ensures roomy { OnOk result (HasRoom coding.now state.new) }
-    ensures last { OnOk result (IsAfterChannel coding.now (i + 1) state.new) }
+    ensures roomy { OnOk result (HasRoom coding.now walk.new.state) }
+    ensures last { OnOk result (IsAfterChannel coding.now (i + 1) walk.new.state) }
 {
     let region = coding.region(i);
     if region.width == 0 || region.height == 0 {
         return Ok(());
     }
-    start_channel(state, coding, i);
     let out = &mut scratch[..region.width];
-    match lone_leaf(&coding.flats[i].flat) {
-        Some(leaf) => push_leaf_rows(tokens, store, coding, leaf, out, i),
-        None => push_walked_rows(tokens, state, steps, store, coding, out, i),
+    if let Some(alone) = &coding.flats[i].alone {
+        return push_leaf_rows(tokens, store, coding, lone_leaf(alone), out, i);
     }
+    start_channel(&mut walk.state, coding, i);
+    push_walked_rows(tokens, walk, store, coding, out, i)
 }
 
 /// Adds the tokens of all channels, in order. `scratch` has room for a row of each that has cells.
-fn push_channels<S: Sample, D: Decoder>(
+fn push_channels<'x, S: Sample, D: Decoder>(
     tokens: &mut Vec<u32>,
-    state: &mut PredictorState<S>,
+    walk: &mut TokenWalk<S>,
     store: &[AlignedGrid<S>],
-    coding: &PartCoding<'_, D>,
+    coding: &'x PartCoding<'x, D>,
     scratch: &mut [u32],
 ) -> std::result::Result<(), OutOfMemory>
     requires walked { IsWalked coding.now store.now }
-    requires roomy { HasRoom coding.now state.old }
+    requires roomy { HasRoom coding.now walk.old.state }
     requires room { row_width coding.now ≤ length scratch.old }
     requires before { AreFirstTokens coding.now S.width S.to_int store.now 0 tokens.old.items }
     ensures { OnOk result (AreFirstTokens coding.now S.width S.to_int store.now
         (cells_before (part_of coding.now).channels (length (regions_of coding.now))) tokens.new.items) }
 {
-    let mut steps = Steps::new();
     for i in 0..coding.channels.len() {
-        push_channel(tokens, state, &mut steps, store, coding, scratch, i)?;
+        push_channel(tokens, walk, store, coding, scratch, i)?;
     }
     Ok(())
 }
@@ -234,7 +246,7 @@ pub fn sample_tokens<S: Sample, D: Decoder>(
     ensures { IfOk result (λ v. AreTokensOf S.width (part_placed part.now)
         (cells_of (grids_in (regions part.now.channels.now) (store_meanings S.to_int store.now))) v.items) }
 {
-    let Ok(Made { flats, mut state }) = make_ready(alloc, part) else {
+    let Ok(Made { flats, state }) = make_ready(alloc, part) else {
         return Err(OutOfMemory);
     };
     let coding = PartCoding {
@@ -245,14 +257,13 @@ pub fn sample_tokens<S: Sample, D: Decoder>(
         stream_index: part.stream_index,
         widest: max_width(part.channels),
     };
+    let PartState { predictor, .. } = state;
+    let mut walk = TokenWalk {
+        state: predictor,
+        steps: Steps::new(),
+    };
     let mut scratch = vec![in alloc; 0u32; sampled_width(part.channels) as usize]?;
     let mut tokens = Vec::with_capacity(alloc, count_cells(part.channels))?;
-    push_channels(
-        &mut tokens,
-        &mut state.predictor,
-        store,
-        &coding,
-        &mut scratch,
-    )?;
+    push_channels(&mut tokens, &mut walk, store, &coding, &mut scratch)?;
     Ok(tokens)
 }

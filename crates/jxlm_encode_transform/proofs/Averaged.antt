@@ -8,10 +8,10 @@ use Rattle.jxlm_base.specs.declared.subgrid.Region.{Region}
 use Rattle.jxlm_lanes.specs.Squeeze.{average, averages, average_at, sample_before, average_after, squeezed, tendency, difference}
 use Rattle.jxlm_base.proofs.Outside.{number_of_row}
 use Rattle.jxlm_lanes.proofs.SqueezeLaws.{if_lt, if_ge}
-use Rattle.jxlm_forward.specs.Lines.{number_in}
-use Rattle.jxlm_forward.proofs.Numbers.{residual_same}
+use Rattle.jxlm_encode_transform.specs.Inner.Lines.{number_in}
+use Rattle.jxlm_encode_transform.proofs.Numbers.{residual_same}
 use Rattle.jxlm_encode_transform.specs.Inner.Squeezed.{AreLines, average_of, residual_of, number_of}
-use Rattle.jxlm_encode_transform.proofs.Lines.{lines_joined, number_part}
+use Rattle.jxlm_encode_transform.proofs.LineSteps.{lines_joined, number_part}
 
 module _ {S : Type 0} (f : S → ℤ) (w : Width) (r : Region) (store : List (Grid S)) where
   -- a row as it was read

@@ -12,8 +12,8 @@ use Rattle.jxlm_lanes.proofs.ColourLaws.{triple_same}
 use Rattle.jxlm_base.proofs.GridLaws.{grid_by_same}
 use Rattle.jxlm_base.proofs.Outside.{keeps_all, keeps_both, keeps_wider, lies_still, region_cell_kept, all_one, all_three, number_of_row, number_same}
 use Rattle.jxlm_base.proofs.Regions.{AreApart_sym, HasCell_at, at-grid_of}
-use Rattle.jxlm_forward.specs.Colours.{AreCoded, AreSampleRows, triple_in as triple_of_rows}
-use Rattle.jxlm_forward.proofs.Numbers.{below_next}
+use Rattle.jxlm_encode_transform.specs.Inner.ColourRows.{AreCoded, AreSampleRows, triple_in as triple_of_rows}
+use Rattle.jxlm_encode_transform.proofs.Numbers.{below_next}
 use Rattle.jxlm_transform.specs.Recoloured.{HaveOneSize, UndoesColour, triple_in}
 use Rattle.jxlm_encode_transform.specs.Inner.Coded.{AreThree, CodedUntil, CodesRow, rows_of, triple_of}
 use Rattle.jxlm_encode_transform.proofs.Squeezed.{other_row, row_inside}

@@ -1,7 +1,10 @@
 pub mod Averaged
 pub mod Coded
+pub mod CodedRows
 pub mod Forward
-pub mod Lines
+pub mod LineSteps
 pub mod NoPalettes
+pub mod Numbers
+pub mod Reduced
 pub mod Squeezed
-pub mod Strips
+pub mod StripSteps

@@ -14,10 +14,10 @@ use Rattle.jxlm_base.proofs.GridLaws.{grid_by_same}
 use Rattle.jxlm_base.proofs.Outside.{all_one, keeps_all, keeps_both, keeps_wider, number_of_row, number_same, region_cell_kept}
 use Rattle.jxlm_base.proofs.Regions.{at-grid_of}
 use Rattle.jxlm_lanes.proofs.SqueezeLaws.{if_lt, if_ge}
-use Rattle.jxlm_forward.specs.Lines.{number_in}
-use Rattle.jxlm_forward.proofs.Numbers.{below_next, residual_same}
+use Rattle.jxlm_encode_transform.specs.Inner.Lines.{number_in}
+use Rattle.jxlm_encode_transform.proofs.Numbers.{below_next, residual_same}
 use Rattle.jxlm_encode_transform.specs.Inner.Squeezed.{AreLines, SqueezedColumns, SqueezedRows, SqueezesRow, number_of, strip_of}
-use Rattle.jxlm_encode_transform.proofs.Lines.{number_part}
+use Rattle.jxlm_encode_transform.proofs.LineSteps.{number_part}
 use Rattle.jxlm_transform.specs.SqueezedRegions.{UndoesSqueeze}
 
 -- ---- lines of the same samples are squeezed to the same

@@ -9,10 +9,10 @@ ghost use Rattle.jxlm_chain.specs.Steps.{CanUndo};
 ghost use Rattle.jxlm_chain.specs.Undo.{UndoRct, Undoes};
 ghost use Rattle.jxlm_encode_transform.specs.Inner.Coded.{AreThree, CodedUntil, CodesRow};
 
+use crate::colour_rows::code_rows;
 use jxlm_base::grid::{AlignedGrid, Region};
 use jxlm_base::region::{region_row, region_set_row};
 use jxlm_base::sample::Sample;
-use jxlm_forward::colours::code_rows;
 
 /// Codes row `y` of each of three regions. The rows lent are written over.
 fn code_row<S: Sample>(

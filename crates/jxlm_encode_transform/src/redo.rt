@@ -32,7 +32,7 @@ fn has_cells(undoing: &Undoing) -> bool
 
 /// How many samples it takes to squeeze a region: as many as a row, and as a column, and the more columns, up to some,
 /// the faster.
-#[tactic(auto, using(crate::proofs::Strips::at_least))]
+#[tactic(auto, using(crate::proofs::StripSteps::at_least))]
 fn room_to_squeeze(region: &Region) -> Result<usize, OutOfMemory>
     ensures { IfOk result (λ n. max region.now.width region.now.height ≤ n) }
 {

@@ -8,15 +8,15 @@ ghost use Rattle.jxlm_base.specs.Outside.{KeepsOutside};
 ghost use Rattle.jxlm_base.specs.Regions.{Lies};
 ghost use Rattle.jxlm_lanes.specs.Squeeze.{averages as the_averages, sample_before, squeezed, AreSamples};
 ghost use Rattle.jxlm_chain.specs.Undo.{UndoSqueeze, Undoes};
-ghost use Rattle.jxlm_forward.specs.Lines.{number_in};
+ghost use Rattle.jxlm_encode_transform.specs.Inner.Lines.{number_in};
 ghost use Rattle.jxlm_encode_transform.specs.Inner.Squeezed.{AreLines, SqueezedColumns, SqueezedRows, SqueezesRow};
 ghost use Rattle.jxlm_encode_transform.specs.Inner.Squeezed.{average_of, residual_of, number_of, strip_of as the_strip};
 
+use crate::lines::{averages, squeeze_line};
+use crate::strips::{average_lines, residual_lines, single_line};
 use jxlm_base::grid::{AlignedGrid, Region};
 use jxlm_base::region::{region_row, region_set_row};
 use jxlm_base::sample::Sample;
-use jxlm_forward::lines::{averages, squeeze_line};
-use jxlm_forward::strips::{average_lines, residual_lines, single_line};
 
 /// Squeezes row `y` of a region. What was in `coded`, which is as long, is written over.
 fn squeeze_row<S: Sample>(store: &mut [AlignedGrid<S>], region: Region, y: usize, coded: &mut [S])
@@ -66,7 +66,7 @@ fn average_line<S: Sample>(store: &[AlignedGrid<S>], strip: Region, k: usize, li
 }
 
 /// Writes the averages of each column of a strip, line by line.
-#[tactic(auto, using(crate::proofs::Strips::line_within))]
+#[tactic(auto, using(crate::proofs::StripSteps::line_within))]
 fn put_averages<S: Sample>(store: &[AlignedGrid<S>], strip: Region, averages: &mut [S])
     requires lies { Lies strip store.now }
     requires room { length averages.old ≡ the_averages strip.height * strip.width }
@@ -123,7 +123,7 @@ fn place_after(height: usize, k: usize) -> usize
 }
 
 /// Line `y` of lines of so many columns.
-#[tactic(auto, using(crate::proofs::Strips::line_within))]
+#[tactic(auto, using(crate::proofs::StripSteps::line_within))]
 fn line_at<S>(lines: &[S], columns: usize, y: usize) -> &[S]
     requires { y * columns + columns ≤ length lines.now }
     ensures len { length result.now ≡ columns }
@@ -160,7 +160,7 @@ fn residual_line<S: Sample>(
 }
 
 /// Writes the residuals of each column of a strip with these averages, line by line.
-#[tactic(auto, using(crate::proofs::Strips::line_within))]
+#[tactic(auto, using(crate::proofs::StripSteps::line_within))]
 fn put_residuals<S: Sample>(
     store: &[AlignedGrid<S>],
     strip: Region,

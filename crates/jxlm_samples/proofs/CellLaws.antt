@@ -21,7 +21,7 @@ use Rattle.jxlm_predictor.specs.Holding.{state_of, store_of}
 use Rattle.jxlm_tree.specs.FlatTree.{ClustersStandIn, FlatTree, GoesWithoutWeights, ReadsEarlierBelow}
 use Rattle.jxlm_predictor.specs.Neighbours.{row as line}
 use Rattle.jxlm_predictor.specs.Standing.{HasSameRoom, HoldsRow, IsInner, IsReady, Setting, StandsAt, row_of}
-use Rattle.jxlm_samples.specs.Inner.Paths.{steps_walked}
+use Rattle.jxlm_samples.specs.CellLeaves.{leaf_at, steps_walked}
 use Rattle.jxlm_predictor.specs.declared.earlier.EarlierRow.{EarlierRow}
 use Rattle.jxlm_tree.specs.declared.flat.Leaf.{Leaf}
 use Rattle.jxlm_tree.specs.declared.paths.Path.{Path}
@@ -36,11 +36,11 @@ use Rattle.jxlm_transform.specs.Params.{are_clamped}
 use Rattle.jxlm_tree.proofs.SumTrees.{goes_by_sum, second_of}
 use Rattle.jxlm_samples.specs.Part.{clamps, channel, max_width, no_channel}
 use Rattle.jxlm_samples.specs.Reading.{FindsClusters, HasRoomFor, IsCodingOf, IsTreeOf, alone_at, are_weighted, cost_of, flat, part_of, regions_of, weights_used}
-use Rattle.jxlm_samples.specs.Inner.Cells.{FailsSample, ReadsSample, leaf_at, predicted_at}
-use Rattle.jxlm_samples.specs.Inner.Channels.{StandsAfter, asked_at, handed, region_at, setting_of, weighted_at, weights_at}
+use Rattle.jxlm_samples.specs.Inner.Cells.{FailsSample, ReadsSample, predicted_at}
+use Rattle.jxlm_samples.specs.ChannelSettings.{StandsAfter, asked_at, handed, region_at, setting_of, weighted_at, weights_at}
 use Rattle.jxlm_samples.specs.Progress.{grids_in}
 use Rattle.jxlm_samples.specs.Inner.Progress.{preceding_cells}
-use Rattle.jxlm_samples.specs.Inner.Rows.{FailsCell, IsAway, IsLine, ReadsCell, StandsInRow, region_on, rule_on}
+use Rattle.jxlm_samples.specs.Inner.Rows.{FailsCell, IsLine, ReadsCell, StandsInRow, rule_on}
 use Rattle.jxlm_samples.specs.declared.source.Source.{Source}
 use Rattle.jxlm_samples.specs.Rule.{Rule}
 use Rattle.jxlm_samples.specs.declared.coding.ChannelTree.{ChannelTree}
@@ -50,6 +50,7 @@ use Rattle.jxlm_samples.proofs.Earlier.{earlier_all, same_sides}
 use Rattle.jxlm_samples.proofs.Loops.{same_count, same_size}
 use Rattle.jxlm_samples.proofs.NextSample.{IsNext, is_next}
 use Rattle.jxlm_samples.proofs.RowSees.{sees_regions}
+use Rattle.jxlm_samples.specs.Lines.{IsAway, region_on}
 
 -- what is known of a state is known of the same
 pub stands_so : {X : Type 0} (s : Setting) (samples : List ℤ) (a b : PredictorState X) → b ≡ a → StandsAt a s samples → StandsAt b s samples

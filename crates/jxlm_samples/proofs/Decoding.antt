@@ -8,10 +8,10 @@ use Rattle.jxlm_base.specs.Grid.{Grid}
 use Rattle.jxlm_bits.specs.declared.decoder.DecoderError.{DecoderError}
 use Rattle.jxlm_base.proofs.Outside.{all_lie_still, keeps_all, keeps_both}
 use Rattle.jxlm_predictor.specs.declared.state.PredictorState.{PredictorState}
-use Rattle.jxlm_samples.specs.Inner.Channels.{StandsAfter, region_at}
+use Rattle.jxlm_samples.specs.ChannelSettings.{StandsAfter, region_at}
 use Rattle.jxlm_samples.specs.Inner.Levels.{IsAtRow, IsOnPath, IsReady}
 use Rattle.jxlm_samples.specs.Inner.Progress.{DecodesCells, FailsInCells, Moment, WalkGives}
-use Rattle.jxlm_samples.specs.Inner.Rows.{IsDecodingPart, IsLine, RowGives, SetsRead, StandsInRow, region_on}
+use Rattle.jxlm_samples.specs.Inner.Rows.{IsDecodingPart, IsLine, RowGives, SetsRead, StandsInRow}
 use Rattle.jxlm_samples.specs.declared.source.Source.{Source}
 use Rattle.jxlm_samples.specs.Part.{clamps}
 use Rattle.jxlm_samples.specs.Reading.{FindsClusters, HasRoom, cost_of, part_of, regions_of}
@@ -23,6 +23,7 @@ use Rattle.jxlm_samples.proofs.CellLaws.{begins_row}
 use Rattle.jxlm_samples.proofs.Loops.{takes_further}
 use Rattle.jxlm_samples.proofs.RowSees.{stands_below}
 use Rattle.jxlm_samples.proofs.RowsOn.{row_written}
+use Rattle.jxlm_samples.specs.Lines.{region_on}
 
 -- ---- one after another
 

@@ -13,7 +13,7 @@ use Rattle.jxlm_transform.specs.Channels.{AreGridsOf, AreRegionsOf, Channel, are
 use Rattle.jxlm_samples.specs.Part.{Part, channel, cell_count, cells_before, cells_of, grid as grid_at}
 use Rattle.jxlm_samples.specs.Progress.{grids_in}
 use Rattle.jxlm_samples.specs.Inner.Progress.{place_of, TakesSteps}
-use Rattle.jxlm_samples.specs.Inner.Channels.{region_at}
+use Rattle.jxlm_samples.specs.ChannelSettings.{region_at}
 use Rattle.jxlm_samples.proofs.Places.{before_suc}
 
 -- sizes of regions and channels

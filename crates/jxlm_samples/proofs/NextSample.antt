@@ -22,11 +22,12 @@ use Rattle.jxlm_predictor.specs.declared.predictor.Predictor.TheVariants.{Zero, 
 use Rattle.jxlm_predictor.specs.declared.predictor.WpHeader.{WpHeader}
 use Rattle.jxlm_samples.specs.Coded.{next_prediction}
 use Rattle.jxlm_samples.specs.Reading.{flat}
-use Rattle.jxlm_samples.specs.Inner.Cells.{leaf_at, predicted_at}
-use Rattle.jxlm_samples.specs.Inner.Channels.{handed, region_at}
+use Rattle.jxlm_samples.specs.Inner.Cells.{predicted_at}
+use Rattle.jxlm_samples.specs.ChannelSettings.{handed, region_at}
 use Rattle.jxlm_samples.specs.Part.{Part, channel, clamps, earlier_alike, grid_of as grid_before, next_channel, samples_of, next_leaf, place_by, property_by, surroundings}
 use Rattle.jxlm_samples.proofs.ClampedSums.{by-fit, by_same, walks_by}
 use Rattle.jxlm_samples.proofs.Earlier.{earlier_mapped, few_earlier}
+use Rattle.jxlm_samples.specs.CellLeaves.{leaf_at}
 
 -- what properties look at, with and without weights
 abbrev with_weights : Surroundings → Option WpHeader → Surroundings

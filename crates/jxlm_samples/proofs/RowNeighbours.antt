@@ -18,7 +18,8 @@ use Rattle.jxlm_predictor.specs.Properties.{Surroundings, gradient_at}
 use Rattle.jxlm_predictor.specs.Sums.{clamped_sum}
 use Rattle.jxlm_predictor.specs.declared.predictor.WpHeader.{WpHeader}
 use Rattle.jxlm_predictor.specs.declared.predictor.Predictor.TheVariants as predictor
-use Rattle.jxlm_samples.specs.Inner.Paths.{gradient_in, north_in, north_west_in, property_9_in, row_above, sum_by, west_in}
+use Rattle.jxlm_samples.specs.Inner.Paths.{property_9_in, row_above, sum_by}
+use Rattle.jxlm_samples.specs.RowNeighbours.{gradient_in, north_in, north_west_in, west_in}
 
 -- the row above, as it is read from a store
 pub row_above_is : {X : Type 0} (f : X → ℤ) (store : List (Grid X)) (r : Region) (y : ℕ) (vs : List X) → 0 < y → y < r.height → length vs ≡ r.width →
@@ -46,25 +47,25 @@ module _ (samples A row : List ℤ) (W : ℕ) where
   abbrev IsAbove : ℕ → Type 0
   IsAbove y = (z : ℕ) → y ≡ suc z → (a : ℕ) (e : ℤ) → a < W → at samples W a z ≡ get_or A a e
 
-  abbrev IsOwn : ℕ → Type 0
-  IsOwn y = (a : ℕ) → at samples W a y ≡ get_or row a (pos 0)
+  abbrev IsOwn : ℕ → ℕ → Type 0
+  IsOwn x y = (a : ℕ) → a < x → at samples W a y ≡ get_or row a (pos 0)
 
-  west_is : (x y : ℕ) → x < W → NoneAbove y → IsAbove y → IsOwn y → west samples W x y ≡ west_in A row x
+  west_is : (x y : ℕ) → x < W → NoneAbove y → IsAbove y → IsOwn x y → west samples W x y ≡ west_in A row x
   west_is zero zero px none above own = sym (ap (λ as'. get_or as' 0 (pos 0)) (none refl))
   west_is zero (suc z) px none above own = above z refl 0 (pos 0) px
-  west_is (suc x) y px none above own = own x
+  west_is (suc x) y px none above own = own x (omega arith)
 
-  north_is : (x y : ℕ) → x < W → NoneAbove y → IsAbove y → IsOwn y → north samples W x y ≡ north_in A row x
+  north_is : (x y : ℕ) → x < W → NoneAbove y → IsAbove y → IsOwn x y → north samples W x y ≡ north_in A row x
   north_is x zero px none above own = west_is x zero px none above own ∙ sym (ap (λ as'. get_or as' x (west_in A row x)) (none refl))
   north_is x (suc z) px none above own = above z refl x (west_in A row x) px
 
-  north_west_is : (x y : ℕ) → x < W → NoneAbove y → IsAbove y → IsOwn y → north_west samples W x y ≡ north_west_in A row x
+  north_west_is : (x y : ℕ) → x < W → NoneAbove y → IsAbove y → IsOwn x y → north_west samples W x y ≡ north_west_in A row x
   north_west_is zero y px none above own = west_is zero y px none above own
   north_west_is (suc x) zero px none above own = west_is (suc x) zero px none above own ∙ sym (ap (λ as'. get_or as' x (west_in A row (suc x))) (none refl))
   north_west_is (suc x) (suc z) px none above own = above z refl x (west_in A row (suc x)) (omega arith)
 
   -- what is computed from the three
-  from_three : (f : ℤ → ℤ → ℤ → ℤ) (x y : ℕ) → length samples ≡ y * W + x → x < W → NoneAbove y → IsAbove y → IsOwn y →
+  pub from_three : (f : ℤ → ℤ → ℤ → ℤ) (x y : ℕ) → length samples ≡ y * W + x → x < W → NoneAbove y → IsAbove y → IsOwn x y →
       f (neighbours samples W).n (neighbours samples W).w (neighbours samples W).nw ≡ f (north_in A row x) (west_in A row x) (north_west_in A row x)
   from_three f x y long px none above own =
       let col : length samples % W ≡ x = ap (λ n. n % W) long ∙ mod-mul-add y W x px in
@@ -95,8 +96,8 @@ module _ (g : Grid ℤ) (full : IsFull g) (y : ℕ) (below : y < g.height) (row 
   samples_long = length-append (take (y * g.width) g.cells) row ∙ ap (λ n. n + length row) rows_long
 
   -- those of the row
-  own : (a : ℕ) → at samples g.width a y ≡ get_or row a (pos 0)
-  own a = ap (λ n. get_or samples (n + a) (pos 0)) (sym rows_long) ∙ get_or-append-add (take (y * g.width) g.cells) row a (pos 0)
+  own : (a : ℕ) → a < length row → at samples g.width a y ≡ get_or row a (pos 0)
+  own a less = ap (λ n. get_or samples (n + a) (pos 0)) (sym rows_long) ∙ get_or-append-add (take (y * g.width) g.cells) row a (pos 0)
 
   -- those of the row above
   over : (z : ℕ) → y ≡ suc z → (a : ℕ) (e : ℤ) → a < g.width → at samples g.width a z ≡ get_or (row_above g y) a e

@@ -15,7 +15,7 @@ use Rattle.jxlm_samples.specs.Progress.{grids_in}
 use Rattle.jxlm_samples.specs.Inner.Progress.{preceding_cells, place_of}
 use Rattle.jxlm_samples.specs.Inner.Rows.{StandsInRow}
 use Rattle.jxlm_samples.specs.Reading.{regions_of}
-use Rattle.jxlm_samples.specs.Inner.Channels.{StandsAfter, region_at, setting_of}
+use Rattle.jxlm_samples.specs.ChannelSettings.{StandsAfter, region_at, setting_of}
 use Rattle.jxlm_samples.specs.declared.coding.PartCoding.{PartCoding}
 use Rattle.jxlm_samples.proofs.Loops.{fits_in, grid_in, same_count, same_size}
 use Rattle.jxlm_samples.proofs.NextSample.{SeesRegions}

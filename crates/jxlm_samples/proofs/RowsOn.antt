@@ -14,7 +14,7 @@ use Rattle.jxlm_samples.specs.Coded.{part_rule}
 use Rattle.jxlm_samples.specs.Part.{Part, cells_of, channel}
 use Rattle.jxlm_samples.specs.Progress.{grids_in}
 use Rattle.jxlm_samples.specs.Inner.Progress.{GoesOn, Reached, Stops, TakesSteps, WalkGives, moment, preceding_cells, place_of}
-use Rattle.jxlm_samples.specs.Inner.Rows.{IsDecoding, RowGives, SetsRead, first_columns, region_on, rule_after, rule_on}
+use Rattle.jxlm_samples.specs.Inner.Rows.{IsDecoding, RowGives, SetsRead, first_columns, rule_after, rule_on}
 use Rattle.jxlm_samples.specs.Reading.{cost_of, part_of, regions_of}
 use Rattle.jxlm_samples.specs.Rule.{Rule, CodedPrefix}
 use Rattle.jxlm_samples.specs.declared.coding.PartCoding.{PartCoding}
@@ -24,6 +24,7 @@ use Rattle.jxlm_samples.specs.declared.source.Source.{Source}
 use Rattle.jxlm_samples.proofs.Loops.{all_cells, grid_in, row_done, same_count, same_size, takes_some}
 use Rattle.jxlm_samples.proofs.Prefixes.{prefix_after, prefix_same}
 use Rattle.jxlm_samples.proofs.RowWrites.{cells_written, drop_written, first_cells, fits_written, row_grids, row_keeps, row_within, with_row_of}
+use Rattle.jxlm_samples.specs.Lines.{region_on}
 
 module _ {S : Type 0} (d : Meaning S) (w : Width) (part : Part) (bytes : List ℕ) where
   module _ (decoder : S) (p0 : ℕ) (old : List (Grid ℤ)) (i y : ℕ) (now : List (Grid ℤ)) (l : i < length part.channels) (qy : y < (channel part.channels i).height) (row : List ℤ)

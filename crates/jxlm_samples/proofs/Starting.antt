@@ -19,7 +19,7 @@ use Rattle.jxlm_transform.specs.Channels.{Channel, IsNarrow, infos}
 use Rattle.jxlm_transform.specs.declared.channels.PlacedChannel.{PlacedChannel}
 use Rattle.jxlm_samples.specs.Part.{channel, no_channel, downward, earlier_alike, is_alike}
 use Rattle.jxlm_samples.specs.Reading.{HasFlats, HasRoom, HasRoomFor, IsCodingOf, IsRoomy, IsRoomyFor, IsTreeOf, LeadsAlone, alone_at, alone_in, flat, part_of, regions_of, row_width, sampled_width, state_width, tree_of, walked_width, width_in_state}
-use Rattle.jxlm_samples.specs.Inner.Channels.{IsAfterChannel, IsNext, StandsIn, all_alike, asked_at, earlier_regions, handed, region_at, setting_of, weights_at}
+use Rattle.jxlm_samples.specs.ChannelSettings.{IsAfterChannel, IsNext, StandsIn, all_alike, asked_at, earlier_regions, handed, region_at, setting_of, weights_at}
 use Rattle.jxlm_samples.specs.declared.coding.Alone.{Alone}
 use Rattle.jxlm_samples.specs.declared.coding.ChannelTree.{ChannelTree}
 use Rattle.jxlm_samples.specs.declared.coding.PartCoding.{PartCoding}
@@ -276,6 +276,10 @@ module _ {D X : Type 0} (c : PartCoding D) (i : ℕ) where
   -- it was last in the channel before the next one
   pub after_channel : (state : PredictorState X) → (alone_at c i ≡ None → StandsIn c i state) → IsAfterChannel c (i + 1) state
   after_channel state h = λ last next columns rows walked. let is : last ≡ i = omega (arith, next) in subst (λ n. StandsIn c n state) (sym is) (h (subst (λ n. alone_at c n ≡ None) is walked))
+
+  -- a channel without cells leaves none after it
+  pub after_empty : (state : PredictorState X) → (0 < (region_at (regions_of c) i).width → 0 < (region_at (regions_of c) i).height → ⊥) → IsAfterChannel c (i + 1) state
+  after_empty state none = λ last next columns rows walked. let is : last ≡ i = omega (arith, next) in absurd ((rw (← is) at none) columns rows)
 
   -- none was before the first channel
   pub after_none : (state : PredictorState X) → IsAfterChannel c 0 state

@@ -1,9 +1,13 @@
 pub mod Part
 pub mod Rule
+pub mod CellLeaves
+pub mod ChannelSettings
 pub mod Coded
 pub mod Decode
+pub mod Lines
 pub mod Placed
 pub mod Progress
 pub mod Reading
+pub mod RowNeighbours
 pub mod Token
 pub mod Inner

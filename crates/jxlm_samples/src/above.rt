@@ -4,7 +4,7 @@ ghost use Rattle.std.specs.Prelude.{◌≡◌, ◌<◌, true, false, [], get_or,
 
 /// The sample above column `x`, or `other` in the first row.
 #[inline(always)]
-pub(crate) fn sample_above<S: Copy, const FIRST: bool>(above: &[S], x: usize, other: S) -> S
+pub fn sample_above<S: Copy, const FIRST: bool>(above: &[S], x: usize, other: S) -> S
     requires first { FIRST ≡ true → above.now ≡ [] }
     requires inside { FIRST ≡ false → x < length above.now }
     ensures { result ≡ get_or above.now x other }

@@ -1,26 +1,27 @@
 //! Rows that are read cell by cell, each cell at the leaf to which its properties lead.
 
-ghost use Rattle.std.specs.Prelude.{◌≡◌, pos, ◌+ℤ◌, ◌*ℤ◌, ◌+◌, ◌^◌, ◌<◌, ◌≤◌, true, false, length, None, OnOk};
+ghost use Rattle.std.specs.Prelude.{◌≡◌, pos, ◌+ℤ◌, ◌*ℤ◌, ◌^◌, ◌<◌, ◌≤◌, true, false, length, None, OnOk};
 ghost use Rattle.std.specs.Int.{int_wrap};
 ghost use Rattle.jxlm_bits.specs.Numbers.{unpack};
 ghost use Rattle.jxlm_tree.specs.FlatTree.{ClustersStandIn};
 ghost use Rattle.jxlm_tree.specs.Paths.{Gives};
 ghost use Rattle.jxlm_tree.specs.SumTrees.{GoesBySum};
-ghost use Rattle.jxlm_tree.specs.Tree.{depth};
 ghost use Rattle.jxlm_predictor.specs.Holding.{IsCurrent};
 ghost use Rattle.jxlm_predictor.specs.Standing.{used_weights};
-ghost use Rattle.jxlm_samples.specs.Inner.Cells.{IsFound, IsFoundBy, SampleGives};
-ghost use Rattle.jxlm_samples.specs.Inner.Paths.{is_walked, steps_walked};
-ghost use Rattle.jxlm_samples.specs.Inner.Rows.{AreAway, CellGives, CellsGive, IsAtCell, IsAway, IsLine, IsWalked, RowGives, region_on};
+ghost use Rattle.jxlm_samples.specs.Inner.Cells.{SampleGives};
+ghost use Rattle.jxlm_samples.specs.Inner.Paths.{is_walked};
+ghost use Rattle.jxlm_samples.specs.Inner.Rows.{CellGives, CellsGive, IsAtCell, IsLine, IsWalked, RowGives};
+ghost use Rattle.jxlm_samples.specs.CellLeaves.{steps_walked};
+ghost use Rattle.jxlm_samples.specs.Lines.{AreAway, IsAway, region_on};
 
-use crate::number::Number;
-use crate::rows::{Line, RowError};
+use crate::leaf::leaf_of;
+use crate::rows::{Line, RowError, inner_columns};
 use crate::source::{Source, Walk};
 use jxlm_base::sample::{Sample, Sealed};
 use jxlm_bits::decoder::{Decoder, DecoderError};
 use jxlm_predictor::earlier::{EarlierRow, EarlierRows};
 use jxlm_predictor::predictor::Properties;
-use jxlm_tree::flat::{FlatMaTree, Leaf, Steps};
+use jxlm_tree::flat::{FlatMaTree, Leaf};
 use jxlm_tree::paths::Path;
 
 /// The sample of a token: times the multiplier, plus the offset and the prediction.
@@ -32,63 +33,6 @@ pub(crate) fn sample_from<S: Sample>(token: u32, leaf: Leaf, predicted: i32) -> 
     S::unpack_signed_u32(token)
         .wrapping_muladd_i32(leaf.multiplier as i32, leaf.offset)
         .add(S::from_i32(predicted))
-}
-
-/// The leaf to which these properties lead by the walk of this tree; where it has one leaf, nothing is walked.
-#[inline(always)]
-fn walked_leaf<S: Sample>(
-    flat: &FlatMaTree,
-    properties: &Properties<'_, S>,
-    steps: &mut Steps,
-) -> Leaf
-    requires { IsCurrent properties.now }
-    ensures { IsFound false flat.now S.to_int properties.now steps.old steps.new (depth flat.now.tree + 1) result }
-{
-    match flat.only_leaf() {
-        Some(leaf) => leaf,
-        None => {
-            let own = properties.own();
-            *flat.leaf(&properties.listed(&own), steps)
-        }
-    }
-}
-
-/// The leaf to which this tree leads where each property is this number: by the path's table, where it has one.
-#[inline(never)]
-fn leaf_by_number(flat: &FlatMaTree, path: Path<'_>, number: i32, steps: &mut Steps) -> Leaf
-    requires { Gives flat.now path }
-    ensures { IsFoundBy flat.now number steps.old steps.new (steps_walked path.entry flat.now.tree) result }
-{
-    let place = Number { value: number };
-    match path {
-        Path::Clusters(table) => table.leaf_by(&place, steps),
-        _ => *flat.leaf(&place, steps),
-    }
-}
-
-/// The leaf to which these properties lead in this tree: by the path's table, where it has one. With `clamped` the tree
-/// asks for property 9 alone, which is clamped.
-#[inline(always)]
-fn leaf_of<S: Sample>(
-    flat: &FlatMaTree,
-    path: Path<'_>,
-    clamped: bool,
-    properties: &Properties<'_, S>,
-    steps: &mut Steps,
-) -> Leaf
-    requires current { IsCurrent properties.now }
-    requires gives { Gives flat.now path }
-    requires sums { clamped ≡ true → GoesBySum flat.now }
-    ensures { IsFound clamped flat.now S.to_int properties.now steps.old steps.new
-        (steps_walked path.entry flat.now.tree) result }
-{
-    if clamped {
-        return leaf_by_number(flat, path, properties.clamped_sum(), steps);
-    }
-    match path {
-        Path::Clusters(table) => table.leaf_by(properties, steps),
-        _ => walked_leaf(flat, properties, steps),
-    }
 }
 
 /// Reads the sample of the cell of these properties: at the leaf to which the tree leads, over that leaf's prediction.
@@ -172,20 +116,6 @@ fn decode_cell<'s, S: Sample, D: Decoder, const EDGE: bool>(
         decode_cell_by::<S, D, EDGE, true>(walk, line, rows, row, x)
     } else {
         decode_cell_by::<S, D, EDGE, false>(walk, line, rows, row, x)
-    }
-}
-
-/// Where the columns of row `y` begin and end whose cells are two or more columns and rows away from every edge but the
-/// last row; where there are none, both are the row's end.
-fn inner_columns(width: usize, y: usize) -> (usize, usize)
-    ensures order { result.0 ≤ result.1 }
-    ensures in_row { result.1 ≤ width }
-    ensures inner { AreAway result.0 result.1 y width }
-{
-    if y < 2 || width < 4 {
-        (width, width)
-    } else {
-        (2, width - 2)
     }
 }
 

@@ -8,7 +8,7 @@ ghost use Rattle.jxlm_transform.specs.Layout.{no_region};
 ghost use Rattle.jxlm_samples.specs.Part.{clamps, is_alike as alike};
 ghost use Rattle.jxlm_predictor.specs.Standing.{Setting, StandsAt, earlier_count, setting};
 ghost use Rattle.jxlm_samples.specs.Reading.{HasFlats, HasRoom, IsCodingOf, IsLone, IsRoomyFor, IsTreeOf, LeadsAlone, ReadsAlone, alone_at, flat, part_of, regions_of};
-ghost use Rattle.jxlm_samples.specs.Inner.Channels.{IsNext, StandsAfter, all_alike};
+ghost use Rattle.jxlm_samples.specs.ChannelSettings.{IsNext, StandsAfter, all_alike};
 
 use jxlm_base::grid::Region;
 use jxlm_base::sample::{Sample, Sealed};
@@ -114,7 +114,7 @@ fn is_alike(a: &ModularChannelInfo, b: &ModularChannelInfo) -> bool
 ///
 /// Where the channel before was read in the state, is like it and asked for any, the state has all of them but that one,
 /// and is given only that. The weights are used only where this channel's own tree may ask for them.
-pub(crate) fn start_channel<S: Sample, D: Decoder>(
+pub fn start_channel<S: Sample, D: Decoder>(
     state: &mut PredictorState<S>,
     coding: &PartCoding<'_, D>,
     i: usize,

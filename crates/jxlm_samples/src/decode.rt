@@ -3,17 +3,18 @@
 ghost use Rattle.std.specs.Prelude.{◌≡◌, ◌+◌, ◌<◌, ◌≤◌, OnOk, false, length};
 ghost use Rattle.jxlm_samples.specs.Part.{cells_before, cell_count, clamps};
 ghost use Rattle.jxlm_tree.specs.FlatTree.{FlatTree};
-ghost use Rattle.jxlm_samples.specs.Inner.Channels.{IsNext, region_at};
+ghost use Rattle.jxlm_samples.specs.ChannelSettings.{IsNext, region_at};
 ghost use Rattle.jxlm_samples.specs.Inner.Levels.{CanBegin, HasRooms, IsAtChannel, IsAtRow, IsOnPath};
 ghost use Rattle.jxlm_samples.specs.Inner.Paths.{IsLonePath};
 ghost use Rattle.jxlm_samples.specs.Inner.Progress.{PartGives, WalkGives, moment, place_of};
-ghost use Rattle.jxlm_samples.specs.Inner.Rows.{IsDecodingPart, RowGives, region_on};
+ghost use Rattle.jxlm_samples.specs.Inner.Rows.{IsDecodingPart, RowGives};
 ghost use Rattle.jxlm_samples.specs.Reading.{FindsClusters, LeadsAlone, part_of, regions_of, row_width};
+ghost use Rattle.jxlm_samples.specs.Lines.{region_on};
 
 use crate::cell::read_by_cells;
 use crate::coding::{Alone, PartCoding, start_channel};
 use crate::gradient::{Leaves, read_gradients};
-use crate::rows::{Line, RowError, write_read};
+use crate::rows::{ChannelRows, Line, RowError, write_read};
 use crate::source::Walk;
 use crate::zeros::read_zeros;
 use jxlm_base::grid::AlignedGrid;
@@ -54,60 +55,57 @@ fn read_row<S: Sample, D: Decoder>(
     }
 }
 
-/// Reads row `y` of channel `i` into the store; `row` is room for it.
+/// Reads row `y` of the channel into the store; `row` is room for it.
 fn decode_row<'x, S: Sample, D: Decoder>(
     walk: &mut Walk<'_, S, D>,
-    coding: &'x PartCoding<'x, D>,
+    rows: &ChannelRows<'x, D>,
     store: &mut [AlignedGrid<S>],
-    path: Path<'x>,
-    clamped: bool,
     row: &mut [S],
-    i: usize,
     y: usize,
 ) -> Result<(), DecoderError>
-    requires below { y < (region_at (regions_of coding.now) i).height }
-    requires long { length row.old ≡ (region_at (regions_of coding.now) i).width }
-    requires at { IsAtRow D.meaning coding.now walk.old S.to_int store.old path i y }
-    requires clamped { clamped ≡ clamps (part_of coding.now) i }
-    ensures gives { WalkGives coding.now D.meaning S.width S.to_int
-        (place_of (part_of coding.now) i 0 y) (place_of (part_of coding.now) i 0 (y + 1)) result
+    requires below { y < (region_at (regions_of rows.now.coding.now) rows.now.i).height }
+    requires long { length row.old ≡ (region_at (regions_of rows.now.coding.now) rows.now.i).width }
+    requires at { IsAtRow D.meaning rows.now.coding.now walk.old S.to_int store.old rows.now.path rows.now.i y }
+    requires clamped { rows.now.clamped ≡ clamps (part_of rows.now.coding.now) rows.now.i }
+    ensures gives { WalkGives rows.now.coding.now D.meaning S.width S.to_int
+        (place_of (part_of rows.now.coding.now) rows.now.i 0 y)
+        (place_of (part_of rows.now.coding.now) rows.now.i 0 (y + 1)) result
         (moment walk.old.source store.old) (moment walk.new.source store.new) }
-    ensures at { OnOk result (IsAtRow D.meaning coding.now walk.new S.to_int store.new path.entry i (y + 1)) }
+    ensures at { OnOk result (IsAtRow D.meaning rows.now.coding.now walk.new S.to_int store.new rows.now.path
+        rows.now.i (y + 1)) }
 {
     let line = Line {
-        coding,
+        coding: rows.coding,
         store,
-        path,
-        i,
+        path: rows.path,
+        i: rows.i,
         y,
-        clamped,
+        clamped: rows.clamped,
     };
     let read = read_row(walk, &line, row);
-    write_read(store, coding.region(i), y, row, read)
+    write_read(store, rows.coding.region(rows.i), y, row, read)
 }
 
-/// Reads the rows of channel `i`, which is begun; `row` is room for one.
+/// Reads the rows of the channel, which is begun; `row` is room for one.
 fn decode_rows<'x, S: Sample, D: Decoder>(
     walk: &mut Walk<'_, S, D>,
-    coding: &'x PartCoding<'x, D>,
+    rows: &ChannelRows<'x, D>,
     store: &mut [AlignedGrid<S>],
-    path: Path<'x>,
-    clamped: bool,
     row: &mut [S],
-    i: usize,
 ) -> Result<(), DecoderError>
-    requires long { length row.old ≡ (region_at (regions_of coding.now) i).width }
-    requires at { IsAtRow D.meaning coding.now walk.old S.to_int store.old path i 0 }
-    requires clamped { clamped ≡ clamps (part_of coding.now) i }
-    ensures gives { WalkGives coding.now D.meaning S.width S.to_int
-        (place_of (part_of coding.now) i 0 0)
-        (place_of (part_of coding.now) i 0 (region_at (regions_of coding.now) i).height) result
+    requires long { length row.old ≡ (region_at (regions_of rows.now.coding.now) rows.now.i).width }
+    requires at { IsAtRow D.meaning rows.now.coding.now walk.old S.to_int store.old rows.now.path rows.now.i 0 }
+    requires clamped { rows.now.clamped ≡ clamps (part_of rows.now.coding.now) rows.now.i }
+    ensures gives { WalkGives rows.now.coding.now D.meaning S.width S.to_int
+        (place_of (part_of rows.now.coding.now) rows.now.i 0 0)
+        (place_of (part_of rows.now.coding.now) rows.now.i 0
+        (region_at (regions_of rows.now.coding.now) rows.now.i).height) result
         (moment walk.old.source store.old) (moment walk.new.source store.new) }
-    ensures at { OnOk result (IsAtRow D.meaning coding.now walk.new S.to_int store.new path.entry i
-        (region_at (regions_of coding.now) i).height) }
+    ensures at { OnOk result (IsAtRow D.meaning rows.now.coding.now walk.new S.to_int store.new rows.now.path
+        rows.now.i (region_at (regions_of rows.now.coding.now) rows.now.i).height) }
 {
-    for y in 0..coding.region(i).height {
-        decode_row(walk, coding, store, path, clamped, row, i, y)?;
+    for y in 0..rows.coding.region(rows.i).height {
+        decode_row(walk, rows, store, row, y)?;
     }
     Ok(())
 }
@@ -164,8 +162,14 @@ fn decode_channel<'x, S: Sample, D: Decoder>(
     }
     let path = begin_channel(&mut walk.state, coding, &walk.source.decoder, i);
     let clamped = coding.clamps(i);
+    let rows = ChannelRows {
+        coding,
+        i,
+        path,
+        clamped,
+    };
     let row = &mut scratch[..region.width];
-    decode_rows(walk, coding, store, path, clamped, row, i)
+    decode_rows(walk, &rows, store, row)
 }
 
 /// Reads all channels of a part, in order. `scratch` has room for a row of each that has cells.

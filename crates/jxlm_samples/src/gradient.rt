@@ -5,8 +5,9 @@
 ghost use Rattle.std.specs.Prelude.{◌≡◌, ◌+◌, ◌+ℤ◌, ◌-ℤ◌, ◌<◌, ◌≤◌, true, map, length, if◌then◌else◌};
 ghost use Rattle.std.specs.Int.{int_wrap, w32};
 ghost use Rattle.jxlm_samples.specs.Inner.Paths.{AreGradients, AreLeavesOf, are_of_table, leaf_by, steps_by, sum_by};
-ghost use Rattle.jxlm_samples.specs.Inner.Rows.{GradientGives, IsLine, RowGives, region_on};
+ghost use Rattle.jxlm_samples.specs.Inner.Rows.{GradientGives, IsLine, RowGives};
 ghost use Rattle.jxlm_samples.specs.Reading.{FindsClusters, cost_of, tree_of};
+ghost use Rattle.jxlm_samples.specs.Lines.{region_on};
 
 use crate::above::sample_above;
 use crate::one_gradient::read_one_gradient;

@@ -2,16 +2,17 @@
 //! 18181-1, Modular: decoding of samples).
 #![tactic(auto)]
 
-mod above;
+pub mod above;
 mod cell;
 pub mod channels;
 pub mod coding;
 mod decode;
 mod gradient;
 pub mod laws;
-pub mod number;
+pub mod leaf;
+mod number;
 mod one_gradient;
 pub mod part;
-mod rows;
+pub mod rows;
 mod source;
 mod zeros;

@@ -4,9 +4,9 @@ use jxlm_tree::flat::{AskedProperty, PlaceProperties};
 
 /// A number that a walk finds for each property that it asks for.
 #[derive(Drop)]
-pub struct Number {
+pub(crate) struct Number {
     /// The number.
-    pub value: i32,
+    pub(crate) value: i32,
 }
 
 impl PlaceProperties for Number {

@@ -6,9 +6,10 @@ ghost use Rattle.std.specs.Prelude.{◌≡◌, ◌+◌, ◌<◌, ◌≤◌, map,
 ghost use Rattle.jxlm_bits.specs.Bits.{bytes_of};
 ghost use Rattle.jxlm_tree.specs.declared.flat.Leaf.{Leaf};
 ghost use Rattle.jxlm_samples.specs.Coded.{sample_of};
-ghost use Rattle.jxlm_samples.specs.Inner.Paths.{AreLeft, IsPlain, gradient_in, gradient_rule};
+ghost use Rattle.jxlm_samples.specs.Inner.Paths.{AreLeft, IsPlain, gradient_rule};
 ghost use Rattle.jxlm_samples.specs.Inner.Rows.{MakesCells, ReadsRow, StretchGives};
 ghost use Rattle.jxlm_samples.specs.declared.gradient.Leaves.TheVariants.{One};
+ghost use Rattle.jxlm_samples.specs.RowNeighbours.{gradient_in};
 
 use crate::above::sample_above;
 use crate::rows::{RowError, STRETCH};

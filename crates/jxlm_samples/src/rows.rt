@@ -1,8 +1,9 @@
 //! Rows of a channel: what one only looks at, what its read returns, and how it is written.
 
-ghost use Rattle.std.specs.Prelude.{◌≡◌, ◌<◌, length, IfErr};
+ghost use Rattle.std.specs.Prelude.{◌≡◌, ◌<◌, ◌≤◌, length, IfErr};
 ghost use Rattle.jxlm_base.specs.Regions.{Lies};
 ghost use Rattle.jxlm_samples.specs.Inner.Rows.{SetsRead};
+ghost use Rattle.jxlm_samples.specs.Lines.{AreAway};
 
 use crate::coding::PartCoding;
 use jxlm_base::grid::{AlignedGrid, Region};
@@ -15,19 +16,46 @@ pub(crate) const STRETCH: usize = 64;
 
 /// What the cells of a row only look at.
 #[derive(Drop)]
-pub(crate) struct Line<'a, 's, S, D: Decoder> {
+pub struct Line<'a, 's, S, D: Decoder> {
+    /// What the part is decoded with.
+    pub coding: &'a PartCoding<'a, D>,
+    /// The grids of the part.
+    pub store: &'s [AlignedGrid<S>],
+    /// How the rows of the channel are read.
+    pub path: Path<'a>,
+    /// The channel.
+    pub i: usize,
+    /// The row.
+    pub y: usize,
+    /// Whether property 9 is clamped.
+    pub clamped: bool,
+}
+
+/// How the rows of a channel are read.
+#[derive(Drop)]
+pub(crate) struct ChannelRows<'a, D: Decoder> {
     /// What the part is decoded with.
     pub(crate) coding: &'a PartCoding<'a, D>,
-    /// The grids of the part.
-    pub(crate) store: &'s [AlignedGrid<S>],
-    /// How the rows of the channel are read.
-    pub(crate) path: Path<'a>,
     /// The channel.
     pub(crate) i: usize,
-    /// The row.
-    pub(crate) y: usize,
+    /// How its rows are read.
+    pub(crate) path: Path<'a>,
     /// Whether property 9 is clamped.
     pub(crate) clamped: bool,
+}
+
+/// Where the columns of row `y` begin and end whose cells are two or more columns and rows away from every edge but the
+/// last row; where there are none, both are the row's end.
+pub fn inner_columns(width: usize, y: usize) -> (usize, usize)
+    ensures order { result.0 ≤ result.1 }
+    ensures in_row { result.1 ≤ width }
+    ensures inner { AreAway result.0 result.1 y width }
+{
+    if y < 2 || width < 4 {
+        (width, width)
+    } else {
+        (2, width - 2)
+    }
 }
 
 /// Where the read of a row ended before its end, and why.

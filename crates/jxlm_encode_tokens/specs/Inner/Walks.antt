@@ -1,20 +1,26 @@
 -- What the loops over channels, rows and cells keep.
-use Rattle.std.specs.Prelude.{◌≡◌, ◌⊎◌, ℕ, ◌+◌, ◌*◌, ◌<◌, ◌≤◌, ℤ, pos, Bool, List, length, get_or, slice_get}
+use Rattle.std.specs.Prelude.{◌≡◌, ◌⊎◌, ℕ, ◌+◌, ◌*◌, ◌<◌, ℤ, pos, Bool, List, length, get_or, slice_get}
 use Rattle.std.specs.Int.{Width}
 use Rattle.jxlm_base.specs.Grid.{Grid}
 use Rattle.jxlm_base.specs.Regions.{AllLie, grids_in, region_cell, store_meanings}
 use Rattle.jxlm_tree.specs.FlatTree.{FlatTree, leaf_reached}
-use Rattle.jxlm_tree.specs.Paths.{IsLeafOf}
+use Rattle.jxlm_tree.specs.Paths.{Gives}
+use Rattle.jxlm_tree.specs.ShortTrees.{Fits}
 use Rattle.jxlm_tree.specs.Tree.{AllLeaves}
 use Rattle.jxlm_tree.specs.declared.flat.Leaf.{Leaf}
+use Rattle.jxlm_predictor.specs.EarlierRows.{AreRowsOf}
 use Rattle.jxlm_predictor.specs.Holding.{surroundings}
 use Rattle.jxlm_predictor.specs.Predictions.{prediction}
 use Rattle.jxlm_predictor.specs.Standing.{Setting}
+use Rattle.jxlm_predictor.specs.declared.earlier.EarlierRow.{EarlierRow}
 use Rattle.jxlm_predictor.specs.declared.predictor.Predictor.TheVariants as predictor
-use Rattle.jxlm_encode_tokens.specs.Inner.Channels.{region_at}
-use Rattle.jxlm_samples.specs.Part.{cells_before, cells_of, place_by}
-use Rattle.jxlm_samples.specs.Reading.{IsCodingOf, part_of, regions_of}
+use Rattle.jxlm_predictor.specs.declared.state.PredictorState.{PredictorState}
+use Rattle.jxlm_samples.specs.ChannelSettings.{StandsAfter, region_at, setting_of}
+use Rattle.jxlm_samples.specs.Lines.{region_on}
+use Rattle.jxlm_samples.specs.Part.{cells_before, cells_of, clamps, place_by}
+use Rattle.jxlm_samples.specs.Reading.{IsCodingOf, part_of, regions_of, tree_of}
 use Rattle.jxlm_samples.specs.declared.coding.PartCoding.{PartCoding}
+use Rattle.jxlm_samples.specs.declared.rows.Line.{Line}
 use Rattle.jxlm_encode_tokens.specs.Tokens.{IsSampleToken, IsTokenOfCell, MultipliesByOne}
 
 -- the token of a sample that comes after these of a channel, where a state was set so, the walk is of this tree, and
@@ -55,16 +61,38 @@ module _ {D X : Type 0} (c : PartCoding D) (w : Width) (to_int : X → ℤ) (sto
   abbrev pub AreFirstTokens : ℕ → List ℕ → Type 0
   AreFirstTokens k tokens = (length tokens ≡ k) × ((n : ℕ) → n < k → IsTokenOfCell w (part_of c) all_cells n (get_or tokens n 0))
 
--- the cells of row y from one column to before another are two or more columns and rows away from every edge but the
--- last row
-abbrev pub AreInner : ℕ → ℕ → ℕ → ℕ → Type 0
-AreInner from to y width = from < to → (2 ≤ y) × (2 ≤ from) × (to + 2 ≤ width)
-
--- the tree has only this leaf, which predicts by 0 or by the clamped gradient
+-- Wherever the tree leads at a cell, the leaf there is as this one but for its cluster, which predicts by 0 or by the
+-- clamped gradient, and multiplies by 1.
 pub record IsLoneLeaf (t : FlatTree) (l : Leaf) : Type 0 where
-  pub only : IsLeafOf t l
+  pub predictors : (f : ℕ → ℤ) → Fits f → (leaf_reached t f).predictor ≡ l.predictor
+  pub offsets : (f : ℕ → ℤ) → Fits f → (leaf_reached t f).offset ≡ l.offset
+  pub multipliers : (f : ℕ → ℤ) → Fits f → (leaf_reached t f).multiplier ≡ l.multiplier
   pub predictor : (l.predictor ≡ predictor.Zero) ⊎ (l.predictor ≡ predictor.Gradient)
+  pub one : MultipliesByOne l
 
 -- this list begins with the tokens of the first n cells of a row, at a leaf and over these predictions
 abbrev pub AreLeafTokens : Width → Leaf → (ℕ → ℤ) → List ℤ → ℕ → List ℕ → Type 0
 AreLeafTokens w leaf predicted row n out = (x : ℕ) → x < n → IsSampleToken w leaf (predicted x) (get_or row x (pos 0)) (get_or out x 0)
+
+-- ---- rows that are walked cell by cell
+
+module _ {D X : Type 0} (l : Line X D) where
+  -- it is a row with cells, and the path of its channel gives what the tree gives
+  pub record IsTokenLine : Type 0 where
+    pub here : IsInChannel l.coding.now l.store.now l.i
+    pub below : l.y < (region_on l).height
+    pub columns : 0 < (region_on l).width
+    pub gives : Gives (tree_of l.coding.now l.i) l.path
+    pub clamped : l.clamped ≡ clamps (part_of l.coding.now) l.i
+
+  -- these are its cells, with these rows of earlier channels at hand
+  pub record IsTokenRow (rows : List (EarlierRow X)) (row : List X) : Type 0 where
+    pub line : IsTokenLine
+    pub are_rows : AreRowsOf (setting_of l.coding.now l.i).earlier l.store.now l.y rows
+    pub has_cells : HasRow l.coding.now l.store.now l.i l.y row
+
+  -- the state is at cell x of the row, and the list begins with the tokens of the cells before
+  pub record IsAtToken (w : Width) (to_int : X → ℤ) (x : ℕ) (out : List ℕ) (state : PredictorState X) : Type 0 where
+    pub long : length out ≡ (region_on l).width
+    pub tokens : AreRowTokens l.coding.now w to_int l.store.now l.i l.y x out
+    pub stands : StandsAfter l.coding.now to_int l.store.now l.i (l.y * (region_on l).width + x) state

@@ -6,7 +6,7 @@ use Rattle.jxlm_base.specs.Outside.{KeepsOutside, row_of}
 use Rattle.jxlm_base.specs.Regions.{region, buffer_of, store_meanings}
 use Rattle.jxlm_base.specs.declared.subgrid.Region.{Region}
 use Rattle.jxlm_lanes.specs.Squeeze.{AreSamples, average_at, residual_at, squeezed}
-use Rattle.jxlm_forward.specs.Lines.{number_in}
+use Rattle.jxlm_encode_transform.specs.Inner.Lines.{number_in}
 
 -- n columns of a region, from column x on
 abbrev pub strip_of : Region → ℕ → ℕ → Region

@@ -7,15 +7,14 @@ use Rattle.jxlm_base.specs.Grid.{Grid}
 use Rattle.jxlm_base.specs.Regions.{store_meanings}
 use Rattle.jxlm_bits.specs.declared.decoder.DecoderError.{DecoderError}
 use Rattle.jxlm_bits.specs.declared.decoder.DecoderError.TheVariants.{OutOfMemory}
-use Rattle.jxlm_tree.specs.FlatTree.{FlatTree, HasMultiplier, leaf_reached}
-use Rattle.jxlm_tree.specs.Tree.{StandsAtLeaf}
-use Rattle.jxlm_predictor.specs.Holding.{state_of, store_of, surroundings}
+use Rattle.jxlm_tree.specs.FlatTree.{FlatTree}
+use Rattle.jxlm_predictor.specs.Holding.{state_of, store_of}
 use Rattle.jxlm_predictor.specs.Predictions.{prediction}
 use Rattle.jxlm_predictor.specs.Standing.{Setting, StandsAt}
 use Rattle.jxlm_tree.specs.declared.flat.Leaf.{Leaf}
 use Rattle.jxlm_predictor.specs.declared.properties.Properties.{Properties}
+use Rattle.jxlm_samples.specs.CellLeaves.{leaf_at}
 use Rattle.jxlm_samples.specs.Coded.{sample_of}
-use Rattle.jxlm_samples.specs.Part.{place_by}
 use Rattle.jxlm_samples.specs.declared.source.Source.{Source}
 
 -- a sample was read at this leaf, over this prediction, from this reading; it left state t and position q
@@ -24,32 +23,6 @@ pub record ReadsNext {S X : Type 0} (w : Width) (from_int : ℤ → X) (l : Leaf
   pub token : ℕ
   pub read : reading ≡ Ok (record { value = token; state = t; position = q })
   pub sample_is : sample ≡ from_int (sample_of w l predicted token)
-
--- the leaf to which a flat tree leads where a state was set so, after these samples, and property 9 is clamped or not
-abbrev pub leaf_at : Bool → FlatTree → Setting → List (Grid ℤ) → List ℤ → Leaf
-leaf_at clamped flat s store samples = leaf_reached flat (place_by clamped (surroundings s store samples))
-
--- the leaf to which the tree leads at a cell with these properties, wherever the state is at that cell
-abbrev pub IsReached : {X : Type 0} → Bool → FlatTree → (X → ℤ) → Properties X → Leaf → Type 0
-IsReached clamped flat to_int properties l = (s : Setting) (samples : List ℤ) → StandsAt (state_of properties) s samples →
-    l ≡ leaf_at clamped flat s (store_meanings to_int (store_of properties)) samples
-
--- the leaf to which the tree leads where each property is this number, found in at most so many steps
-pub record IsFoundBy (flat : FlatTree) (number : ℤ) (before after most : ℕ) (l : Leaf) : Type 0 where
-  pub leaf : l ≡ leaf_reached flat (λ k. number)
-  pub stands : StandsAtLeaf flat.tree l
-  pub multiplier : HasMultiplier l
-  pub cost : after ≤ before + most
-  pub more : before ≤ after
-
--- it is that leaf, found in at most so many steps
-pub record IsFound {X : Type 0} (clamped : Bool) (flat : FlatTree) (to_int : X → ℤ) (properties : Properties X)
-    (before after most : ℕ) (l : Leaf) : Type 0 where
-  pub leaf : IsReached clamped flat to_int properties l
-  pub stands : StandsAtLeaf flat.tree l
-  pub multiplier : HasMultiplier l
-  pub cost : after ≤ before + most
-  pub more : before ≤ after
 
 -- the prediction there
 abbrev pub predicted_at : Bool → FlatTree → Setting → List (Grid ℤ) → List ℤ → ℤ

@@ -5,7 +5,7 @@ use Rattle.jxlm_base.specs.Grid.{Grid}
 use Rattle.jxlm_tree.specs.Paths.{Gives, steps_on}
 use Rattle.jxlm_tree.specs.declared.paths.Path.{Path}
 use Rattle.jxlm_predictor.specs.declared.state.PredictorState.{PredictorState}
-use Rattle.jxlm_samples.specs.Inner.Channels.{IsAfterChannel, StandsAfter, StandsIn}
+use Rattle.jxlm_samples.specs.ChannelSettings.{IsAfterChannel, StandsAfter, StandsIn}
 use Rattle.jxlm_samples.specs.Inner.Paths.{Allows, is_walked}
 use Rattle.jxlm_samples.specs.Inner.Rows.{IsDecoding, IsDecodingPart, StandsInRow}
 use Rattle.jxlm_samples.specs.Reading.{FindsClusters, HasRoom, alone_at, cost_of, row_width, tree_of}

@@ -1,20 +1,20 @@
 -- How the rows of a channel are read, and the cells of a row.
-use Rattle.std.specs.Prelude.{◌≡◌, ℕ, zero, suc, ◌+◌, ◌≤◌, ℤ, pos, ◌+ℤ◌, ◌-ℤ◌, FitsSigned, List, [], length, map, get_or, Bool, true, false, Contains}
+use Rattle.std.specs.Prelude.{◌≡◌, ℕ, zero, suc, ◌+◌, ◌≤◌, ℤ, pos, ◌+ℤ◌, ◌-ℤ◌, FitsSigned, List, [], length, map, Bool, true, false, Contains}
 use Rattle.std.specs.Int.{Width, w32, int_wrap}
 use Rattle.jxlm_bits.specs.Decoding.{Meaning}
 use Rattle.jxlm_base.specs.Grid.{Grid, row as grid_row}
-use Rattle.jxlm_bits.specs.Numbers.{clamped_gradient}
 use Rattle.jxlm_tree.specs.ClusterTables.{IsTableOf, table_leaf}
 use Rattle.jxlm_tree.specs.FlatTree.{FlatTree}
 use Rattle.jxlm_tree.specs.Paths.{Gives, IsLeafOf, IsOnGradient, IsPlainGradient, steps_on}
 use Rattle.jxlm_tree.specs.Steps.{most_steps}
-use Rattle.jxlm_tree.specs.Tree.{Shape, depth}
+use Rattle.jxlm_tree.specs.Tree.{Shape}
 use Rattle.jxlm_tree.specs.declared.flat.Leaf.{Leaf}
 use Rattle.jxlm_tree.specs.declared.paths.Path.{Path}
 use Rattle.jxlm_tree.specs.declared.paths.Path.TheVariants as path
 use Rattle.jxlm_predictor.specs.Sums.{clamped}
 use Rattle.jxlm_predictor.specs.declared.predictor.Predictor.TheVariants as predictor
 use Rattle.jxlm_samples.specs.Coded.{sample_of}
+use Rattle.jxlm_samples.specs.RowNeighbours.{gradient_in, north_in, north_west_in, west_in}
 use Rattle.jxlm_samples.specs.Rule.{Rule}
 use Rattle.jxlm_samples.specs.declared.gradient.Leaves.{Leaves}
 use Rattle.jxlm_samples.specs.declared.gradient.Leaves.TheVariants.{One, Table}
@@ -45,16 +45,6 @@ pub record IsLonePath (t : FlatTree) (p : Path) : Type 0 where
   pub allows : Allows p
   pub steps : steps_on p t.tree ≤ most_steps t.tree
   pub alone : is_walked p ≡ false
-
--- the steps of a cell that is read so: by a table, or by the walk of the tree
-abbrev pub steps_walked : Path → Shape Leaf → ℕ
-steps_walked (path.Constant l) t = depth t + 1
-steps_walked (path.Zero l) t = depth t + 1
-steps_walked (path.Gradient l) t = depth t + 1
-steps_walked (path.Runs l) t = depth t + 1
-steps_walked (path.Clusters c) t = 1
-steps_walked (path.GradientClusters c) t = depth t + 1
-steps_walked path.Tree t = depth t + 1
 
 -- the leaf where property 9 is x
 abbrev pub leaf_by : Leaves → ℤ → Leaf
@@ -91,30 +81,10 @@ abbrev pub sum_by : Bool → ℤ → ℤ
 sum_by true z = clamped z
 sum_by false z = int_wrap w32 z
 
--- The neighbours in column x of a row, from the row above (none above the first row) and the cells of the row before
--- it (ISO/IEC 18181-1, Modular: neighbouring samples).
-module _ (above row : List ℤ) where
-  -- left; in column 0 above; at the start 0
-  abbrev pub west_in : ℕ → ℤ
-  west_in zero = get_or above 0 (pos 0)
-  west_in (suc x) = get_or row x (pos 0)
-
-  -- above; in the first row as west
-  abbrev pub north_in : ℕ → ℤ
-  north_in x = get_or above x (west_in x)
-
-  -- above left; in the first row and in column 0 as west
-  abbrev pub north_west_in : ℕ → ℤ
-  north_west_in zero = west_in zero
-  north_west_in (suc x) = get_or above x (west_in (suc x))
-
-  -- the clamped gradient of these three, reduced to 32 bits
-  abbrev pub gradient_in : ℕ → ℤ
-  gradient_in x = int_wrap w32 (clamped_gradient (north_in x) (west_in x) (north_west_in x))
-
-  -- property 9: west less north west plus north, clamped or reduced to 32 bits
-  abbrev pub property_9_in : Bool → ℕ → ℤ
-  property_9_in clamped x = sum_by clamped (west_in x -ℤ north_west_in x +ℤ north_in x)
+-- property 9 in column x of a row, from the row above and the row: west less north west plus north, clamped or reduced
+-- to 32 bits
+abbrev pub property_9_in : List ℤ → List ℤ → Bool → ℕ → ℤ
+property_9_in above row clamped x = sum_by clamped (west_in above row x -ℤ north_west_in above row x +ℤ north_in above row x)
 
 -- two samples are those to the left of column x of a row, and above that one
 pub record AreLeft {X : Type 0} (to_int : X → ℤ) (above row : List X) (x : ℕ) (w nw : X) : Type 0 where

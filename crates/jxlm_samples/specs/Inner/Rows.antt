@@ -14,12 +14,14 @@ use Rattle.jxlm_predictor.specs.EarlierRows.{AreRowsOf}
 use Rattle.jxlm_predictor.specs.Standing.{StandsAt}
 use Rattle.jxlm_predictor.specs.declared.earlier.EarlierRow.{EarlierRow}
 use Rattle.jxlm_predictor.specs.declared.state.PredictorState.{PredictorState}
+use Rattle.jxlm_samples.specs.CellLeaves.{steps_walked}
+use Rattle.jxlm_samples.specs.ChannelSettings.{region_at, setting_of}
 use Rattle.jxlm_samples.specs.Coded.{part_rule}
+use Rattle.jxlm_samples.specs.Lines.{region_on}
 use Rattle.jxlm_samples.specs.Part.{Part, clamps}
 use Rattle.jxlm_samples.specs.Reading.{FindsClusters, HasRoom, IsCodingOf, cost_of, part_of, regions_of, tree_of}
 use Rattle.jxlm_samples.specs.Rule.{Rule, CodedPrefix}
-use Rattle.jxlm_samples.specs.Inner.Channels.{region_at, setting_of}
-use Rattle.jxlm_samples.specs.Inner.Paths.{Allows, gradient_rule, steps_by, steps_walked}
+use Rattle.jxlm_samples.specs.Inner.Paths.{Allows, gradient_rule, steps_by}
 use Rattle.jxlm_samples.specs.Inner.Progress.{preceding_cells}
 use Rattle.jxlm_samples.specs.declared.source.Source.{Source}
 use Rattle.jxlm_samples.specs.declared.coding.PartCoding.{PartCoding}
@@ -135,16 +137,6 @@ pub record IsDecoding {D X : Type 0} (c : PartCoding D) (i : ℕ) (store : List 
   pub channel : i < length (regions_of c)
   pub columns : 0 < (region_at (regions_of c) i).width
 
--- the cell in column x of row y is two or more columns and rows away from every edge but the last row
-pub record IsAway (x y width : ℕ) : Type 0 where
-  pub rows_above : 2 ≤ y
-  pub columns_left : 2 ≤ x
-  pub columns_right : x + 2 < width
-
--- so is each cell of row y from one column to before another
-abbrev pub AreAway : ℕ → ℕ → ℕ → ℕ → Type 0
-AreAway from to y width = (x : ℕ) → from ≤ x → x < to → IsAway x y width
-
 -- how the cells of row y of channel i are read
 abbrev pub row_rule : {S : Type 0} → Meaning S → Width → Part → List ℕ → List Region → List (Grid ℤ) → ℕ → ℕ → Rule S
 row_rule d w part bytes regions ints i y =
@@ -157,14 +149,10 @@ StandsInRow c to_int store i y row state =
     StandsAt state (setting_of c i) (take (y * r.width) (grid_of (store_meanings to_int store) r).cells ++ row)
 
 module _ {D X : Type 0} (l : Line X D) where
-  -- the region of its channel
-  abbrev pub region_on : Region
-  region_on = region_at (regions_of l.coding.now) l.i
-
   -- the path of its channel gives what the tree gives
   pub record IsLine : Type 0 where
     pub here : IsDecoding l.coding.now l.i l.store.now
-    pub below : l.y < region_on.height
+    pub below : l.y < (region_on l).height
     pub gives : Gives (tree_of l.coding.now l.i) l.path
     pub allows : Allows l.path
     pub steps : steps_on l.path l.coding.now.config.now.tree ≤ cost_of l.coding.now
@@ -188,7 +176,7 @@ module _ {D X : Type 0} (l : Line X D) where
 
     -- the walk is before cell x of the row
     pub record IsAtCell (x : ℕ) (row : List X) (walk : Walk X D) : Type 0 where
-      pub long : length row ≡ region_on.width
+      pub long : length row ≡ (region_on l).width
       pub stands : StandsInRow l.coding.now to_int l.store.now l.i l.y (take x (map to_int row)) walk.state
       pub roomy : HasRoom l.coding.now walk.state
       pub clusters : FindsClusters l.coding.now (d.cluster_map walk.source.decoder)

@@ -2,7 +2,7 @@ use Rattle.std.proofs.Common.{rules, map, pos, get_or, arith, refl, sym, ap, ◌
 use Rattle.jxlm_bits.specs.Numbers.{clamped_gradient}
 use Rattle.std.proofs.lemmas.Int.{to_z-of_z}
 use Rattle.jxlm_encode_tokens.specs.Tokens.{IsSampleToken}
-use Rattle.jxlm_encode_tokens.specs.Inner.Neighbours.{gradient_in, west_in}
+use Rattle.jxlm_samples.specs.RowNeighbours.{gradient_in, west_in}
 use Rattle.jxlm_encode_tokens.proofs.GradientRows.{above_is, gradient_value, next_north_west, next_west}
 use Rattle.jxlm_encode_tokens.proofs.Lists.{mapped_at, written}
 use Rattle.jxlm_encode_tokens.proofs.leaf.gradient_row.Goals as goal

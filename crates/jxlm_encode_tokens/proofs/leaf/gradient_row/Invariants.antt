@@ -1,5 +1,5 @@
 use Rattle.std.proofs.Common.{◌≡◌, map}
-use Rattle.jxlm_encode_tokens.specs.Inner.Neighbours.{gradient_in, north_west_in, west_in}
+use Rattle.jxlm_samples.specs.RowNeighbours.{gradient_in, north_west_in, west_in}
 use Rattle.jxlm_encode_tokens.specs.Inner.Walks.{AreLeafTokens}
 use Rattle.jxlm_encode_tokens.proofs.leaf.gradient_row.Given as goal
 

@@ -1,11 +1,10 @@
-use Rattle.std.proofs.Common.{inl, inr, ap, sym, subst, arith, ◌∙◌}
+use Rattle.std.proofs.Common.{◌<◌, inl, inr, ap, sym, subst, arith, ◌∙◌}
 use Rattle.std.proofs.lemmas.List.{length-take-le}
 use Rattle.jxlm_base.specs.declared.subgrid.Region.{Region}
-use Rattle.jxlm_samples.proofs.CellLaws.{flat_at}
-use Rattle.jxlm_samples.proofs.Starting.{fits_widest}
-use Rattle.jxlm_encode_tokens.specs.Inner.Walks.{IsLoneLeaf}
+use Rattle.jxlm_samples.specs.Reading.{tree_of}
+use Rattle.jxlm_samples.proofs.CellLaws.{alone_is}
+use Rattle.jxlm_samples.proofs.Starting.{after_channel, after_empty, fits_widest, lone_at, not_walked}
 use Rattle.jxlm_encode_tokens.proofs.Pass.{no_cells, on_ok}
-use Rattle.jxlm_encode_tokens.proofs.Starting.{after_channel, after_none}
 use Rattle.jxlm_encode_tokens.proofs.part.push_channel.Goals.{then-region-eq0-via-then-region-eq0, then-region-eq0-via-else-region-eq0+then-region-eq0-2}
 use Rattle.jxlm_encode_tokens.proofs.part.push_channel.Goals as goal
 
@@ -19,7 +18,8 @@ slice_bounds-out-end-2 g c =
 
 pub push_leaf_rows-requires-clause-leaf : goal.push_leaf_rows-requires-clause-leaf
 push_leaf_rows-requires-clause-leaf g c κs within =
-    subst (λ t. IsLoneLeaf t c.in-Some.leaf) (flat_at c.args.coding.now c.requires.walked.coding c.args.i c.requires.channel _) c.in-Some.ensures
+    c.lone_leaf.ensures (tree_of c.args.coding.now c.args.i)
+    (lone_at c.args.coding.now c.requires.walked.coding c.args.i c.requires.channel c.index-coding-i.result c.in-Some.alone c.in-Some.is) c.requires.walked.ones
 
 pub push_leaf_rows-requires-clause-long : goal.push_leaf_rows-requires-clause-long
 push_leaf_rows-requires-clause-long g c κs within =
@@ -44,16 +44,30 @@ returns-then-region-eq0-clause-tokens g c =
 
 pub returns-then-region-eq0-clause-last : goal.returns-then-region-eq0-clause-last
 returns-then-region-eq0-clause-last g c =
-    after_none c.args.coding.now c.args.i c.args.state.now (λ columns rows.
+    after_empty c.args.coding.now c.args.i c.args.walk.now.state (λ columns rows.
     elim c.then-region-eq0.branch [
       | then-region-eq0-via-then-region-eq0 w ↦ let none = rw c.region-region.ensures at w.if-region-eq0.true in absurd (omega (arith, none, columns))
       | then-region-eq0-via-else-region-eq0+then-region-eq0-2 w ↦ let none = rw c.region-region.ensures at w.if-region-eq0-2.true in absurd (omega (arith, none, rows))
     ])
 
 pub returns-in-Some-clause-roomy : goal.returns-in-Some-clause-roomy
-returns-in-Some-clause-roomy g c = on_ok c.push_leaf_rows.result _ c.start_channel.ensures.roomy
+returns-in-Some-clause-roomy g c = on_ok c.push_leaf_rows.result _ c.requires.roomy
 
 pub returns-in-Some-clause-last : goal.returns-in-Some-clause-last
 returns-in-Some-clause-last g c =
     on_ok c.push_leaf_rows.result _
-    (after_channel c.args.coding.now c.args.i c.start_channel.new.state (record { before = _; stands = c.start_channel.ensures.stands c.args.store.now }))
+    (after_channel c.args.coding.now c.args.i c.args.walk.now.state
+    (λ walked. absurd (not_walked c.args.coding.now c.requires.walked.coding c.args.i c.requires.channel c.index-coding-i.result c.in-Some.alone c.in-Some.is walked)))
+
+pub start_channel-requires-clause-next : goal.start_channel-requires-clause-next
+start_channel-requires-clause-next g c κs within = record {
+  channel = c.requires.channel;
+  columns = subst (λ (r : Region). 0 < r.width) c.region-region.ensures (omega (arith, c.if-region-eq0.false));
+  rows = subst (λ (r : Region). 0 < r.height) c.region-region.ensures (omega (arith, c.if-region-eq0-2.false));
+  coding = c.requires.walked.coding;
+  roomy = c.requires.roomy;
+  last = c.requires.last;
+}
+
+pub start_channel-requires-clause-walked : goal.start_channel-requires-clause-walked
+start_channel-requires-clause-walked g c κs within = alone_is c.args.coding.now c.requires.walked.coding c.args.i c.requires.channel c.index-coding-i.result ∙ c.in_default.is

@@ -1,9 +1,8 @@
 use Rattle.std.proofs.Common.{◌≡◌, ◌≤◌, length, refl, sym, subst, arith, ◌∙◌}
 use Rattle.jxlm_samples.specs.Part.{cells_before}
 use Rattle.jxlm_samples.specs.Reading.{part_of, regions_of, row_width}
-use Rattle.jxlm_samples.proofs.Starting.{as_many_channels}
+use Rattle.jxlm_samples.proofs.Starting.{after_none, as_many_channels}
 use Rattle.jxlm_encode_tokens.specs.Inner.Walks.{AreFirstTokens}
-use Rattle.jxlm_encode_tokens.proofs.Starting.{after_nothing}
 use Rattle.jxlm_encode_tokens.proofs.part.push_channels.Goals as goal
 
 pub loop-i-init : goal.loop-i-init
@@ -11,7 +10,7 @@ loop-i-init g c = record {
   long = refl;
   tokens = c.requires.before;
   roomy = c.requires.roomy;
-  last = after_nothing c.args.coding.now 0 c.args.state.now;
+  last = after_none c.args.coding.now 0 c.args.walk.now.state;
 }
 
 pub push_channel-requires-clause-room : goal.push_channel-requires-clause-room

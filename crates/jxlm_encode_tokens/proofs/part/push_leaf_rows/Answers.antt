@@ -2,7 +2,7 @@ use Rattle.std.proofs.Common.{◌≡◌, ◌+◌, ◌*◌, ap, arith, subst, ◌
 use Rattle.jxlm_base.specs.declared.subgrid.Region.{Region}
 use Rattle.jxlm_samples.specs.Part.{cells_before}
 use Rattle.jxlm_samples.specs.Reading.{part_of, regions_of}
-use Rattle.jxlm_encode_tokens.specs.Inner.Channels.{region_at}
+use Rattle.jxlm_samples.specs.ChannelSettings.{region_at}
 use Rattle.jxlm_encode_tokens.specs.Inner.Walks.{AreFirstTokens}
 use Rattle.jxlm_encode_tokens.proofs.Pass.{all_rows, row_added}
 use Rattle.jxlm_encode_tokens.proofs.part.push_leaf_rows.Goals as goal

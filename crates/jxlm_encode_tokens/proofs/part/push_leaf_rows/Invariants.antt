@@ -1,5 +1,5 @@
 use Rattle.std.proofs.Common.{◌≡◌, ◌+◌, ◌*◌, length}
-use Rattle.jxlm_encode_tokens.specs.Inner.Channels.{region_at}
+use Rattle.jxlm_samples.specs.ChannelSettings.{region_at}
 use Rattle.jxlm_samples.specs.Part.{cells_before}
 use Rattle.jxlm_samples.specs.Reading.{part_of, regions_of}
 use Rattle.jxlm_encode_tokens.specs.Inner.Walks.{AreFirstTokens}

@@ -1,7 +1,7 @@
 use Rattle.std.proofs.Common.{◌≡◌, ◌+◌, ◌*◌, length}
-use Rattle.jxlm_encode_tokens.specs.Inner.Channels.{HasRoom, StandsAfter, region_at}
+use Rattle.jxlm_samples.specs.ChannelSettings.{StandsAfter, region_at}
 use Rattle.jxlm_samples.specs.Part.{cells_before}
-use Rattle.jxlm_samples.specs.Reading.{part_of, regions_of}
+use Rattle.jxlm_samples.specs.Reading.{HasRoom, part_of, regions_of}
 use Rattle.jxlm_encode_tokens.specs.Inner.Walks.{AreFirstTokens}
 use Rattle.jxlm_encode_tokens.proofs.part.push_walked_rows.Given as goal
 
@@ -10,6 +10,6 @@ invariant-loop-y g l = record {
   long : length l.out ≡ (region_at (regions_of l.coding) l.i).width;
   tokens : AreFirstTokens l.coding g.S.Sealed.width g.S.Sealed.to_int l.store
       (cells_before (part_of l.coding).channels l.i + l.y * (region_at (regions_of l.coding) l.i).width) l.tokens.items;
-  roomy : HasRoom l.coding l.state;
-  stands : StandsAfter l.coding g.S.Sealed.to_int l.store l.i (l.y * (region_at (regions_of l.coding) l.i).width) l.state;
+  roomy : HasRoom l.coding l.walk.state;
+  stands : StandsAfter l.coding g.S.Sealed.to_int l.store l.i (l.y * (region_at (regions_of l.coding) l.i).width) l.walk.state;
 }

@@ -1,13 +1,12 @@
 use Rattle.std.proofs.Common.{rules, ◌≡◌, ◌∙◌, subst, w32, FitsSigned}
 use Rattle.std.proofs.lemmas.Int.{to_z-of_z}
 use Rattle.jxlm_base.specs.Regions.{store_meanings}
-use Rattle.jxlm_tree.specs.FlatTree.{leaf_reached}
 use Rattle.jxlm_tree.specs.declared.flat.Leaf.{Leaf}
 use Rattle.jxlm_tree.proofs.FlatTrees.{standing_leaf}
-use Rattle.jxlm_predictor.specs.Holding.{state_of, store_of, surroundings}
+use Rattle.jxlm_predictor.specs.Holding.{state_of}
 use Rattle.jxlm_predictor.specs.Predictions.{prediction}
 use Rattle.jxlm_predictor.specs.Standing.{StandsAt}
-use Rattle.jxlm_samples.specs.Part.{place_by}
+use Rattle.jxlm_samples.specs.CellLeaves.{leaf_at}
 use Rattle.jxlm_encode_tokens.specs.Tokens.{IsSampleToken, MultipliesByOne}
 use Rattle.jxlm_encode_tokens.proofs.Cells.{room_so, stands_so}
 use Rattle.jxlm_encode_tokens.proofs.rows.next_token.Goals as goal
@@ -22,8 +21,8 @@ returns-clause-token g c s samples stands =
     let properties = c.properties_by_rows-properties.result in
     let held : StandsAt (state_of properties) s samples = rw c.properties_by_rows-properties.ensures.unchanged stands in
     let leaf_there = c.leaf_of-leaf.ensures.leaf s samples held in
-    let leaf_is : c.leaf_of-leaf.result ≡ leaf_reached c.args.flat.now (place_by c.args.clamped (surroundings s (store_meanings to_int c.args.store.now) samples)) =
-    rw c.properties_by_rows-properties.ensures.store at leaf_there in
+    let leaf_is : c.leaf_of-leaf.result ≡ leaf_at c.args.line.now.clamped c.args.flat.now s (store_meanings to_int c.args.line.now.store.now) samples =
+    subst (λ st. c.leaf_of-leaf.result ≡ leaf_at c.args.line.now.clamped c.args.flat.now s (store_meanings to_int st) samples) c.properties_by_rows-properties.ensures.store leaf_there in
     let fits : FitsSigned w32 c.predict-predicted.result = search rules in
     let predicted_is = to_z-of_z w32 c.predict-predicted.result fits ∙ c.predict-predicted.ensures s samples held in
     subst (λ (k : Leaf). IsSampleToken w k (prediction s.weights samples s.width k.predictor) (to_int c.args.sample) c.sample_token.result) leaf_is
@@ -39,4 +38,4 @@ returns-clause-stands g c s samples stands =
 pub returns-clause-room : goal.returns-clause-room
 returns-clause-room g c =
     let same = rw c.properties_by_rows-properties.ensures.unchanged at c.record.ensures.room in
-    room_so c.args.state.now _ _ (search rules) same
+    room_so c.args.walk.now.state _ _ (search rules) same

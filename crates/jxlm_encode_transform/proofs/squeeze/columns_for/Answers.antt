@@ -1,5 +1,5 @@
 use Rattle.std.proofs.Common.{arith}
-use Rattle.jxlm_encode_transform.proofs.Strips.{room_of, some_room}
+use Rattle.jxlm_encode_transform.proofs.StripSteps.{room_of, some_room}
 use Rattle.jxlm_encode_transform.proofs.squeeze.columns_for.Goals as goal
 
 pub returns-clause-some : goal.returns-clause-some

@@ -1,7 +1,7 @@
 use Rattle.std.proofs.Common.{length, arith}
 use Rattle.jxlm_lanes.specs.Squeeze.{averages}
 use Rattle.jxlm_encode_transform.proofs.Averaged.{before_first, before_others}
-use Rattle.jxlm_encode_transform.proofs.Strips.{line_within}
+use Rattle.jxlm_encode_transform.proofs.StripSteps.{line_within}
 use Rattle.jxlm_encode_transform.proofs.squeeze.line_before.Goals as goal
 
 pub line_at-requires : goal.line_at-requires

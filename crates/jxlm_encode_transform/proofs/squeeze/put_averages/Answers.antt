@@ -1,10 +1,10 @@
 use Rattle.std.proofs.Common.{◌≡◌, ◌∙◌, ℕ, ◌+◌, ◌*◌, ◌<◌, ◌≤◌, ◌-◌, drop, length, FitsSigned, arith}
 use Rattle.jxlm_lanes.specs.Squeeze.{averages}
 use Rattle.jxlm_base.proofs.RegionRows.{length-part}
-use Rattle.jxlm_forward.proofs.Numbers.{pair_next}
+use Rattle.jxlm_encode_transform.proofs.Numbers.{pair_next}
 use Rattle.jxlm_encode_transform.specs.Inner.Squeezed.{average_of, number_of}
-use Rattle.jxlm_encode_transform.proofs.Lines.{lines_next, no_lines}
-use Rattle.jxlm_encode_transform.proofs.Strips.{line_within}
+use Rattle.jxlm_encode_transform.proofs.LineSteps.{lines_next, no_lines}
+use Rattle.jxlm_encode_transform.proofs.StripSteps.{line_within}
 use Rattle.jxlm_encode_transform.proofs.squeeze.put_averages.Goals as goal
 
 pub loop-k-init : goal.loop-k-init

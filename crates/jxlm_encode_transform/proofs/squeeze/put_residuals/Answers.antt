@@ -1,8 +1,8 @@
 use Rattle.std.proofs.Common.{◌≡◌, ◌∙◌, ℕ, ◌+◌, ◌*◌, ◌/◌, ◌≤◌, ◌-◌, drop, length, arith}
 use Rattle.jxlm_base.proofs.RegionRows.{length-part}
 use Rattle.jxlm_encode_transform.specs.Inner.Squeezed.{residual_of}
-use Rattle.jxlm_encode_transform.proofs.Lines.{lines_next, no_lines}
-use Rattle.jxlm_encode_transform.proofs.Strips.{line_within}
+use Rattle.jxlm_encode_transform.proofs.LineSteps.{lines_next, no_lines}
+use Rattle.jxlm_encode_transform.proofs.StripSteps.{line_within}
 use Rattle.jxlm_encode_transform.proofs.squeeze.put_residuals.Goals as goal
 
 pub loop-k-init : goal.loop-k-init

@@ -1,6 +1,6 @@
 use Rattle.std.proofs.Common.{◌∙◌, ◌*◌, ap, arith}
 use Rattle.jxlm_encode_transform.proofs.Averaged.{squeezed_lines}
-use Rattle.jxlm_encode_transform.proofs.Strips.{halves}
+use Rattle.jxlm_encode_transform.proofs.StripSteps.{halves}
 use Rattle.jxlm_encode_transform.proofs.squeeze.put_squeezed.Goals as goal
 
 pub overflow_mul-count : goal.overflow_mul-count

@@ -1,7 +1,7 @@
 use Rattle.std.proofs.Common.{◌∙◌, length, arith}
 use Rattle.jxlm_lanes.specs.Squeeze.{averages}
 use Rattle.jxlm_encode_transform.proofs.Averaged.{residual_in}
-use Rattle.jxlm_encode_transform.proofs.Strips.{line_within}
+use Rattle.jxlm_encode_transform.proofs.StripSteps.{line_within}
 use Rattle.jxlm_encode_transform.proofs.squeeze.residual_line.Goals as goal
 
 pub line_at-own-requires : goal.line_at-own-requires

@@ -2,7 +2,7 @@ use Rattle.std.proofs.Common.{◌≡◌, ◌≤◌, ◌+◌, ◌*◌, ℕ, [], �
 use Rattle.jxlm_base.proofs.Outside.{lies_still}
 use Rattle.jxlm_encode_transform.specs.Inner.Squeezed.{SqueezedColumns, strip_of}
 use Rattle.jxlm_encode_transform.proofs.Squeezed.{columns_start, columns_more, strip_lies}
-use Rattle.jxlm_encode_transform.proofs.Strips.{fewer_columns}
+use Rattle.jxlm_encode_transform.proofs.StripSteps.{fewer_columns}
 use Rattle.jxlm_encode_transform.proofs.squeeze.squeeze_columns.Goals as goal
 
 pub loop-x-init : goal.loop-x-init

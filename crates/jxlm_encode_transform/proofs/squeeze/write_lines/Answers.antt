@@ -1,9 +1,9 @@
 use Rattle.std.proofs.Common.{◌≡◌, [], ◌∷◌, length, subst, arith}
 use Rattle.jxlm_base.proofs.Outside.{keeps_all, keeps_both, lies_still}
 use Rattle.jxlm_encode_transform.specs.Inner.Squeezed.{AreLines, number_of}
-use Rattle.jxlm_encode_transform.proofs.Lines.{no_lines}
+use Rattle.jxlm_encode_transform.proofs.LineSteps.{no_lines}
 use Rattle.jxlm_encode_transform.proofs.Squeezed.{keeps_row, lines_written}
-use Rattle.jxlm_encode_transform.proofs.Strips.{line_within}
+use Rattle.jxlm_encode_transform.proofs.StripSteps.{line_within}
 use Rattle.jxlm_encode_transform.proofs.squeeze.write_lines.Goals as goal
 
 pub loop-y-init : goal.loop-y-init

@@ -4,7 +4,7 @@ use Rattle.std.proofs.lemmas.Int.{to_z-of_z}
 use Rattle.std.proofs.lemmas.Result.{err_from_is_err_and}
 use Rattle.jxlm_tree.specs.Paths.{Gives}
 use Rattle.jxlm_predictor.specs.Standing.{IsInner}
-use Rattle.jxlm_samples.specs.Inner.Channels.{setting_of}
+use Rattle.jxlm_samples.specs.ChannelSettings.{setting_of}
 use Rattle.jxlm_samples.specs.Reading.{FindsClusters}
 use Rattle.jxlm_samples.proofs.CellLaws.{clusters_at, fails_cell, flat_at, is_inner, is_ready, flat_there, own, reads_cell, roomy_still, rows_held, stands_further, stands_so, sums_at}
 use Rattle.jxlm_samples.proofs.cell.decode_cell_by.Goals as goal

@@ -13,8 +13,8 @@ use Rattle.jxlm_tree.specs.declared.paths.Path.TheVariants as path
 use Rattle.jxlm_predictor.specs.EarlierRows.{HoldRows}
 use Rattle.jxlm_predictor.specs.Standing.{IsReady}
 use Rattle.jxlm_predictor.specs.declared.earlier.EarlierRow.{EarlierRow}
-use Rattle.jxlm_samples.specs.Inner.Paths.{is_walked, steps_walked}
-use Rattle.jxlm_samples.specs.Inner.Rows.{CellsGive, IsAtCell, IsAway, IsLine, IsWalked, ReadsCells, RowGives, rule_on}
+use Rattle.jxlm_samples.specs.Inner.Paths.{is_walked}
+use Rattle.jxlm_samples.specs.Inner.Rows.{CellsGive, IsAtCell, IsLine, IsWalked, ReadsCells, RowGives, rule_on}
 use Rattle.jxlm_samples.specs.Reading.{cost_of}
 use Rattle.jxlm_samples.specs.declared.rows.Line.{Line}
 use Rattle.jxlm_samples.specs.declared.rows.RowError.{RowError}
@@ -23,6 +23,8 @@ use Rattle.jxlm_samples.specs.declared.source.Walk.{Walk}
 use Rattle.jxlm_samples.proofs.CellLaws.{is_ready, rows_are}
 use Rattle.jxlm_samples.proofs.RowReads.{none_read}
 use Rattle.jxlm_samples.proofs.cell.read_by_cells.Goals as goal
+use Rattle.jxlm_samples.specs.CellLeaves.{steps_walked}
+use Rattle.jxlm_samples.specs.Lines.{IsAway}
 
 walked_within : (p : Path) (t : Shape Leaf) (n : ℕ) → is_walked p ≡ true → steps_on p t ≤ n → steps_walked p t ≤ n
 walked_within (path.Constant l) t n walked h = absurd (cc)

@@ -1,20 +1,14 @@
-use Rattle.std.proofs.Common.{◌≡◌, ℕ, ◌+◌, ◌<◌, ◌∙◌, ap, sym, subst, arith}
+use Rattle.std.proofs.Common.{◌<◌, ◌∙◌, ap, sym, subst, arith}
 use Rattle.std.proofs.lemmas.List.{length-take-le}
 use Rattle.jxlm_base.specs.declared.subgrid.Region.{Region}
-use Rattle.jxlm_predictor.specs.declared.state.PredictorState.{PredictorState}
-use Rattle.jxlm_samples.specs.Inner.Channels.{IsAfterChannel, region_at}
+use Rattle.jxlm_samples.specs.ChannelSettings.{region_at}
 use Rattle.jxlm_samples.specs.Inner.Progress.{place_of}
 use Rattle.jxlm_samples.specs.Reading.{part_of, regions_of}
-use Rattle.jxlm_samples.specs.declared.coding.PartCoding.{PartCoding}
 use Rattle.jxlm_samples.proofs.Decoding.{at_first_row, none_decoded, walks_between}
 use Rattle.jxlm_samples.proofs.Loops.{channel_begins, channel_done, channel_empty, channel_flat, ok_so}
-use Rattle.jxlm_samples.proofs.Starting.{after_channel, fits_widest}
+use Rattle.jxlm_samples.proofs.Starting.{after_channel, after_empty, fits_widest}
 use Rattle.jxlm_samples.proofs.decode.decode_channel.Goals.{then-region-eq0-via-then-region-eq0, then-region-eq0-via-else-region-eq0+then-region-eq0-2}
 use Rattle.jxlm_samples.proofs.decode.decode_channel.Goals as goal
-
--- a channel without columns or rows has no state after it
-no_cells : {D X : Type 0} (c : PartCoding D) (i : ℕ) (state : PredictorState X) → (0 < (region_at (regions_of c) i).width → 0 < (region_at (regions_of c) i).height → ⊥) → IsAfterChannel c (i + 1) state
-no_cells c i state none last is wide high walked = let e : last ≡ i = omega (arith, is) in absurd ((rw (← e) at none) wide high)
 
 pub slice_bounds-row-end : goal.slice_bounds-row-end
 slice_bounds-row-end g c = let n = fits_widest c.args.coding.now c.requires.at.part.coding c.args.i c.requires.channel c.region-region.result c.region-region.ensures (omega (arith, c.if-region-eq0-2.false)) in omega (arith, n, c.requires.room)
@@ -58,8 +52,8 @@ returns-then-region-eq0-clause-at g c = record {
   part = c.requires.at.part;
   ready = c.requires.at.ready;
   last = elim c.then-region-eq0.branch [
-    | then-region-eq0-via-then-region-eq0 w ↦ no_cells c.args.coding.now c.args.i c.args.walk.now.state (λ wide high. let none = rw c.region-region.ensures at w.if-region-eq0.true in omega (arith, none, wide))
-    | then-region-eq0-via-else-region-eq0+then-region-eq0-2 w ↦ no_cells c.args.coding.now c.args.i c.args.walk.now.state (λ wide high. let none = rw c.region-region.ensures at w.if-region-eq0-2.true in omega (arith, none, high))
+    | then-region-eq0-via-then-region-eq0 w ↦ after_empty c.args.coding.now c.args.i c.args.walk.now.state (λ wide high. let none = rw c.region-region.ensures at w.if-region-eq0.true in omega (arith, none, wide))
+    | then-region-eq0-via-else-region-eq0+then-region-eq0-2 w ↦ after_empty c.args.coding.now c.args.i c.args.walk.now.state (λ wide high. let none = rw c.region-region.ensures at w.if-region-eq0-2.true in omega (arith, none, high))
   ];
 }
 

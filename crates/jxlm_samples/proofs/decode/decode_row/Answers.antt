@@ -6,12 +6,12 @@ use Rattle.jxlm_samples.proofs.decode.decode_row.Goals as goal
 
 pub write_read-requires-clause-inside : goal.write_read-requires-clause-inside
 write_read-requires-clause-inside g c =
-    let l : Line g.row.S.Denot g.row.D.Denot = record { coding = c.args.coding; store = record { ref_ptr = c.args.store.ref_ptr; now = c.args.store.now }; path = c.args.path; i = c.args.i; y = c.args.y; clamped = c.args.clamped } in
+    let l : Line g.row.S.Denot g.row.D.Denot = record { coding = c.args.rows.now.coding; store = record { ref_ptr = c.args.store.ref_ptr; now = c.args.store.now }; path = c.args.rows.now.path; i = c.args.rows.now.i; y = c.args.y; clamped = c.args.rows.now.clamped } in
     error_inside l g.D.Decoder.meaning g.S.Sealed.width g.S.Sealed.to_int c.read_row-read.new.row (c.read_row-read.auto.row ∙ c.requires.long) _ _ c.read_row-read.result c.read_row-read.ensures.gives
 
 pub returns : goal.returns
 returns g c =
-    let l : Line g.row.S.Denot g.row.D.Denot = record { coding = c.args.coding; store = record { ref_ptr = c.args.store.ref_ptr; now = c.args.store.now }; path = c.args.path; i = c.args.i; y = c.args.y; clamped = c.args.clamped } in
+    let l : Line g.row.S.Denot g.row.D.Denot = record { coding = c.args.rows.now.coding; store = record { ref_ptr = c.args.store.ref_ptr; now = c.args.store.now }; path = c.args.rows.now.path; i = c.args.rows.now.i; y = c.args.y; clamped = c.args.rows.now.clamped } in
     let long = c.read_row-read.auto.row ∙ c.requires.long in
     let read = c.read_row-read.ensures in
     record {

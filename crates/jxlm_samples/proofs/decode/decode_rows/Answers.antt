@@ -1,7 +1,7 @@
 use Rattle.std.proofs.Common.{◌≡◌, ◌∙◌, ap, arith, refl}
 use Rattle.std.proofs.lemmas.Result.{err_from_is_err_and}
 use Rattle.jxlm_base.specs.declared.subgrid.Region.{Region}
-use Rattle.jxlm_samples.specs.Inner.Channels.{region_at}
+use Rattle.jxlm_samples.specs.ChannelSettings.{region_at}
 use Rattle.jxlm_samples.specs.Reading.{regions_of}
 use Rattle.jxlm_samples.proofs.Decoding.{decodes_on, fails_on, none_decoded}
 use Rattle.jxlm_samples.proofs.decode.decode_rows.Goals as goal
@@ -23,5 +23,5 @@ returns-in_err-decode_row-clause-gives g c =
 
 pub returns : goal.returns
 returns g c =
-    let all : c.loop-y.y ≡ (region_at (regions_of c.args.coding.now) c.args.i).height = let end = c.loop-y.auto.y-end in let is = ap (λ (r : Region). r.height) c.region-y-end.ensures in omega (arith, end, is, c.loop-y-test.false) in
+    let all : c.loop-y.y ≡ (region_at (regions_of c.args.rows.now.coding.now) c.args.rows.now.i).height = let end = c.loop-y.auto.y-end in let is = ap (λ (r : Region). r.height) c.region-y-end.ensures in omega (arith, end, is, c.loop-y-test.false) in
     rw (← all) (record { gives = c.loop-y.invariant.goes; at = c.loop-y.invariant.at })

@@ -1,7 +1,7 @@
 use Rattle.std.proofs.Common.{◌≡◌, ◌<◌, ◌∙◌, map, arith}
 use Rattle.jxlm_base.specs.Regions.{grid_of, store_meanings}
 use Rattle.jxlm_samples.specs.Inner.Paths.{row_above}
-use Rattle.jxlm_samples.specs.Inner.Rows.{region_on}
+use Rattle.jxlm_samples.specs.Lines.{region_on}
 use Rattle.jxlm_samples.proofs.RowNeighbours.{row_above_is}
 use Rattle.jxlm_samples.proofs.RowsAlike.{are_gradients, row_of_gradients}
 use Rattle.jxlm_samples.proofs.gradient.read_gradients.Goals as goal

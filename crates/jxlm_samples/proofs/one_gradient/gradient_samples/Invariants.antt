@@ -1,9 +1,10 @@
 use Rattle.std.proofs.Common.{◌≡◌, ◌+◌, map, length}
 use Rattle.jxlm_tree.specs.declared.flat.Leaf.{Leaf}
 use Rattle.jxlm_samples.specs.Coded.{sample_of}
-use Rattle.jxlm_samples.specs.Inner.Paths.{AreLeft, IsPlain, gradient_in}
+use Rattle.jxlm_samples.specs.Inner.Paths.{AreLeft, IsPlain}
 use Rattle.jxlm_samples.specs.Inner.Rows.{MakesCells}
 use Rattle.jxlm_samples.proofs.one_gradient.gradient_samples.Given as goal
+use Rattle.jxlm_samples.specs.RowNeighbours.{gradient_in}
 
 abbrev pub invariant-loop-k : goal.invariant-loop-k
 invariant-loop-k g l =

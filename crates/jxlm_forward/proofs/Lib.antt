@@ -1,3 +1,0 @@
-pub mod CodedRows
-pub mod Numbers
-pub mod Reduced

@@ -1,8 +1,0 @@
-use Rattle.std.proofs.Common.{◌∙◌}
-use Rattle.jxlm_forward.proofs.Reduced.{average_is}
-use Rattle.jxlm_forward.proofs.lines.average.Goals as goal
-
-pub returns : goal.returns
-returns g c =
-    c.reduced.ensures ∙ average_is g.S.Sealed.width (g.S.Sealed.to_int c.args.a) (g.S.Sealed.to_int c.args.b) c.to_i32.result c.to_i32-half.result c.from.result c.from-2.result
-    (record { sfits = c.to_i32.type_inv }) (record { sfits = c.to_i32-half.type_inv }) c.to_i32.ensures.value c.from.ensures (c.to_i32-half.ensures.value ∙ c.difference.ensures) c.from-2.ensures

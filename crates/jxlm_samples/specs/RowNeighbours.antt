@@ -1,0 +1,24 @@
+-- The neighbours of a cell in its row and in the row above (ISO/IEC 18181-1, Modular: neighbouring samples).
+use Rattle.std.specs.Prelude.{ℕ, zero, suc, ℤ, pos, List, get_or}
+use Rattle.std.specs.Int.{w32, int_wrap}
+use Rattle.jxlm_bits.specs.Numbers.{clamped_gradient}
+
+-- the neighbours in column x of a row, from the row above (none above the first row) and the cells of the row before it
+module _ (above row : List ℤ) where
+  -- left; in column 0 above; at the start 0
+  abbrev pub west_in : ℕ → ℤ
+  west_in zero = get_or above 0 (pos 0)
+  west_in (suc x) = get_or row x (pos 0)
+
+  -- above; in the first row as west
+  abbrev pub north_in : ℕ → ℤ
+  north_in x = get_or above x (west_in x)
+
+  -- above left; in the first row and in column 0 as west
+  abbrev pub north_west_in : ℕ → ℤ
+  north_west_in zero = west_in zero
+  north_west_in (suc x) = get_or above x (west_in (suc x))
+
+  -- the clamped gradient of these three, reduced to 32 bits
+  abbrev pub gradient_in : ℕ → ℤ
+  gradient_in x = int_wrap w32 (clamped_gradient (north_in x) (west_in x) (north_west_in x))
