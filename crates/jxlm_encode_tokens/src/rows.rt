@@ -54,13 +54,7 @@ fn next_token<S: Sample, D: Decoder, const EDGE: bool>(
     ensures room { HasSameRoom walk.old.state walk.new.state }
 {
     let properties = walk.state.properties_by_rows::<EDGE>(line.store, rows);
-    let leaf = leaf_of(
-        flat,
-        line.path,
-        line.clamped,
-        &properties,
-        &mut walk.steps,
-    );
+    let leaf = leaf_of(flat, line.path, line.clamped, &properties, &mut walk.steps);
     let predicted = leaf.predictor.predict(&properties);
     properties.record(sample.to_i32());
     sample_token(&leaf, sample, predicted)
