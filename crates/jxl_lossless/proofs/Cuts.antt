@@ -8,8 +8,8 @@ use Rattle.std.proofs.lemmas.Option.{slice_get-map, slice_get_read}
 use Rattle.std.proofs.lemmas.Bool.Decides.{nat_tests}
 use Rattle.jxl_codestream.specs.Layouts.{Layout, section_count_of, lf_section_of, pass_section_of}
 use Rattle.jxl_codestream.specs.declared.toc.TocEntry.{TocEntry}
-use Rattle.jxl_still.specs.Places.{place_of}
-use Rattle.jxl_still.specs.declared.places.Places.{Places}
+use Rattle.jxl_lossless.specs.Places.{place_of}
+use Rattle.jxl_lossless.specs.declared.still.places.Places.{Places}
 use Rattle.jxl_lossless.specs.Inner.Cuts.{AreOfGroups, lent, sections_of}
 
 module _ {X : Type 0} where

@@ -8,8 +8,8 @@ use Rattle.jxl_codestream.specs.LayoutParts.{parts_of}
 use Rattle.jxl_codestream.specs.Layouts.{Layout, section_count_of}
 use Rattle.jxl_codestream.specs.declared.toc.TocEntry.{TocEntry}
 use Rattle.jxlm_groups.specs.declared.part.SectionPart.{SectionPart}
-use Rattle.jxl_still.specs.Places.{section_at}
-use Rattle.jxl_still.specs.declared.places.Places.{Places}
+use Rattle.jxl_lossless.specs.Places.{section_at}
+use Rattle.jxl_lossless.specs.declared.still.places.Places.{Places}
 use Rattle.jxl_codestream.specs.Fronts.{layout_in}
 use Rattle.jxl_codestream.specs.FrontParts.{frame_at}
 use Rattle.jxl_codestream.specs.declared.frame.FrameFront.{FrameFront}

@@ -15,11 +15,11 @@ use Rattle.jxl_image_header.specs.Images.{Image}
 use Rattle.jxl_image_header.specs.declared.size.Size.{Size}
 use Rattle.jxl_frame_header.specs.Frames.{Frame, frame_size}
 use Rattle.jxl_frame_header.specs.Passes.{shifts_held}
-use Rattle.jxl_still.proofs.Alike.{fails_too, still_too}
-use Rattle.jxl_still.specs.Places.{own_passes, section_at}
-use Rattle.jxl_still.specs.Stills.{IsStill, StillFails}
-use Rattle.jxl_still.specs.declared.error.FrameError.{FrameError}
-use Rattle.jxl_still.specs.declared.places.Places.{Places}
+use Rattle.jxl_lossless.proofs.Alike.{fails_too, still_too}
+use Rattle.jxl_lossless.specs.Places.{own_passes, section_at}
+use Rattle.jxl_lossless.specs.Stills.{IsStill, StillFails}
+use Rattle.jxl_lossless.specs.declared.still.error.FrameError.{FrameError}
+use Rattle.jxl_lossless.specs.declared.still.places.Places.{Places}
 use Rattle.jxl_codestream.specs.Fronts.{FrameAt, layout_in}
 use Rattle.jxl_patches.specs.Patches.{Patches}
 use Rattle.jxl_patches.specs.Errors.{patch_kind}

@@ -1,3 +1,12 @@
+pub mod Adding
+pub mod Listings
+pub mod Headers
+pub mod Stills
+pub mod Passes
+pub mod Order
+pub mod Weighted
+pub mod Alike
+pub mod Complete
 pub mod Channels
 pub mod Cuts
 pub mod Places

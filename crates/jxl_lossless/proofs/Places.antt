@@ -8,8 +8,8 @@ use Rattle.std.proofs.lemmas.Option.{slice_get-map, slice_get_past}
 use Rattle.jxlm_groups.specs.declared.part.SectionPart.{SectionPart}
 use Rattle.jxlm_groups.specs.declared.part.SectionPart.TheVariants as parts
 use Rattle.jxl_codestream.specs.Layouts.{Layout, lf_section_of, lf_stream_of, pass_section_of, pass_stream_of, section_count_of}
-use Rattle.jxl_still.specs.Places.{place_of, section_at, stream_of}
-use Rattle.jxl_still.specs.declared.places.Places.{Places}
+use Rattle.jxl_lossless.specs.Places.{place_of, section_at, stream_of}
+use Rattle.jxl_lossless.specs.declared.still.places.Places.{Places}
 use Rattle.jxl_lossless.proofs.Cuts.{count_more}
 use Rattle.jxl_lossless.specs.Sections.{section_of}
 use Rattle.jxl_lossless.specs.Inner.Cuts.{AreOfGroups, apart, lent}

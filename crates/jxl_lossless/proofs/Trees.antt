@@ -13,10 +13,10 @@ use Rattle.jxl_image_header.specs.declared.size.Size.{Size}
 use Rattle.jxl_codestream.specs.Starts.{section_start, tree_limit}
 use Rattle.jxl_codestream.specs.Fronts.{StandsAt}
 use Rattle.jxl_picture.specs.Limits.{channel_count}
-use Rattle.jxl_still.specs.Places.{own_passes, section_at}
-use Rattle.jxl_still.specs.Stills.{IsStill, StillFails}
-use Rattle.jxl_still.specs.declared.error.FrameError.{FrameError}
-use Rattle.jxl_still.specs.declared.places.Places.{Places}
+use Rattle.jxl_lossless.specs.Places.{own_passes, section_at}
+use Rattle.jxl_lossless.specs.Stills.{IsStill, StillFails}
+use Rattle.jxl_lossless.specs.declared.still.error.FrameError.{FrameError}
+use Rattle.jxl_lossless.specs.declared.still.places.Places.{Places}
 use Rattle.jxl_lossless.specs.Frames.{SharedTree, channels_given}
 use Rattle.jxl_lossless.specs.Inner.Coded.{IsCoded, SamplesFail}
 

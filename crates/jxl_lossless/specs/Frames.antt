@@ -23,7 +23,7 @@ use Rattle.jxl_patches.specs.Patches.{Patches}
 use Rattle.jxl_patches.specs.Slots.{ArePut, Slots, optional_patches}
 use Rattle.jxl_picture.specs.Limits.{channel_count}
 use Rattle.jxl_picture.specs.Pictures.{colour_count, shifts_of}
-use Rattle.jxl_still.specs.Stills.{IsStill, StillFails}
+use Rattle.jxl_lossless.specs.Stills.{IsStill, StillFails}
 use Rattle.jxl_codestream.specs.Fronts.{FailsAt, FrameAt, StandsAt, layout_in}
 use Rattle.jxl_lossless.specs.Sections.{section_of, sections_in}
 use Rattle.jxl_lossless.specs.declared.error.FileError.{FileError}

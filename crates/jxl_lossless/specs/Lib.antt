@@ -1,3 +1,5 @@
+pub mod Places
+pub mod Stills
 pub mod Sections
 pub mod Frames
 pub mod Saved

@@ -2,10 +2,10 @@
 
 ghost use Rattle.std.specs.Prelude.{◌≡◌};
 
+use crate::still::error::FrameError;
 use jxl_codestream::error::FrontError;
 use jxl_container::error::FileError as BoxError;
 use jxl_patches::error::PatchError;
-use jxl_still::error::FrameError;
 use jxlm_base::grid::OutOfMemory;
 use jxlm_bits::error::Error;
 

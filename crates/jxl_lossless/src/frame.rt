@@ -9,7 +9,7 @@ ghost use Rattle.jxl_codestream.specs.FrontParts.{HasLowShifts, IsReadyFrame, fr
 ghost use Rattle.jxl_modular.specs.Image.{image_grids};
 ghost use Rattle.jxl_picture.specs.Limits.{channel_count};
 ghost use Rattle.jxl_picture.specs.Pictures.{AreChannels, colour_count};
-ghost use Rattle.jxl_still.specs.Places.{AreUsable};
+ghost use Rattle.jxl_lossless.specs.Places.{AreUsable};
 ghost use Rattle.jxlm_transform.specs.Channels.{AreGridsOf};
 ghost use Rattle.jxlm_transform.specs.Params.{IsGroupDim};
 ghost use Rattle.jxl_patches.specs.SavedParts.{slots_of};
@@ -20,6 +20,8 @@ ghost use Rattle.jxl_lossless.specs.Inner.Given.{in_file, of_file};
 
 use crate::error::FileError;
 use crate::sections::{of_groups, sections};
+use crate::still::decode::decode_frame;
+use crate::still::places::Places;
 use crate::tree::shared_tree;
 use jxl_codestream::frame::FrameFront;
 use jxl_frame_header::frame::FrameHeader;
@@ -31,8 +33,6 @@ use jxl_modular::sections::Progress;
 use jxl_patches::patches::{put_patches, read_patches};
 use jxl_patches::slots::SavedFrames;
 use jxl_picture::picture::colours;
-use jxl_still::frame::decode_frame;
-use jxl_still::places::Places;
 use jxlm_base::grid::{AlignedGrid, OutOfMemory};
 use jxlm_base::sample::Sample;
 use jxlm_bits::bits::Bitstream;

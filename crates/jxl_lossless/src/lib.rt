@@ -6,6 +6,7 @@ mod frame;
 mod picture;
 mod saved;
 mod sections;
+pub mod still;
 mod tree;
 
 pub use error::FileError;
@@ -14,3 +15,4 @@ pub use jxl_picture::limits::Limits;
 pub use jxl_picture::picture::Picture;
 pub use jxlm_tree::flat::Steps;
 pub use picture::{decode_lossless, decode_lossless_with};
+pub use still::error::FrameError;

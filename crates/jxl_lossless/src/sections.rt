@@ -6,12 +6,12 @@ ghost use Rattle.jxlm_groups.specs.Passes.{can_group, passes_of};
 ghost use Rattle.jxl_codestream.specs.Layouts.{section_count_of};
 ghost use Rattle.jxl_codestream.specs.LayoutParts.{parts_of};
 ghost use Rattle.jxl_codestream.specs.Tocs.{is_within};
-ghost use Rattle.jxl_still.specs.Places.{AreUsable};
+ghost use Rattle.jxl_lossless.specs.Places.{AreUsable};
 ghost use Rattle.jxl_lossless.specs.Inner.Cuts.{AreOfGroups, lent, sections_of};
 
+use crate::still::places::Places;
 use jxl_codestream::layout::Layout;
 use jxl_codestream::toc::TocEntry;
-use jxl_still::places::Places;
 use jxlm_base::grid::OutOfMemory;
 use std::alloc::Global;
 use std::collections::BTreeMap;

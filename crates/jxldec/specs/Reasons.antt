@@ -8,8 +8,8 @@ use Rattle.jxl_codestream.specs.declared.error.FrontError.TheVariants as fronts
 use Rattle.jxl_info.specs.Reasons.{frame_reason, image_reason}
 use Rattle.jxl_patches.specs.declared.error.PatchError.{PatchError}
 use Rattle.jxl_patches.specs.declared.error.PatchError.TheVariants as patches
-use Rattle.jxl_still.specs.declared.error.FrameError.{FrameError}
-use Rattle.jxl_still.specs.declared.error.FrameError.TheVariants as frames
+use Rattle.jxl_lossless.specs.declared.still.error.FrameError.{FrameError}
+use Rattle.jxl_lossless.specs.declared.still.error.FrameError.TheVariants as frames
 use Rattle.jxl_lossless.specs.declared.error.FileError.{FileError}
 use Rattle.jxl_lossless.specs.declared.error.FileError.TheVariants as files
 use Rattle.jxldec.specs.Causes.{decoder_text, error_text}

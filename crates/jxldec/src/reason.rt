@@ -8,9 +8,8 @@ use crate::codes::decoder_text;
 use jxl_codestream::error::FrontError;
 use jxl_container::error::FileError as BoxError;
 use jxl_info::reasons::{frame_reason, image_reason};
-use jxl_lossless::FileError;
+use jxl_lossless::{FileError, FrameError};
 use jxl_patches::error::PatchError;
-use jxl_still::error::FrameError;
 use std::fmt;
 
 // Why a file has no codestream that is read.

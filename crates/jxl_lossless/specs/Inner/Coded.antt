@@ -14,10 +14,10 @@ use Rattle.jxl_patches.specs.Patches.{Patches}
 use Rattle.jxl_patches.specs.Slots.{ArePut, Slots, optional_patches}
 use Rattle.jxl_picture.specs.Limits.{channel_count}
 use Rattle.jxl_picture.specs.Pictures.{colour_count}
-use Rattle.jxl_still.specs.Places.{own_passes, section_at}
-use Rattle.jxl_still.specs.Stills.{IsStill, StillFails}
-use Rattle.jxl_still.specs.declared.error.FrameError.{FrameError}
-use Rattle.jxl_still.specs.declared.places.Places.{Places}
+use Rattle.jxl_lossless.specs.Places.{own_passes, section_at}
+use Rattle.jxl_lossless.specs.Stills.{IsStill, StillFails}
+use Rattle.jxl_lossless.specs.declared.still.error.FrameError.{FrameError}
+use Rattle.jxl_lossless.specs.declared.still.places.Places.{Places}
 use Rattle.jxl_codestream.specs.Fronts.{FailsAt, StandsAt}
 use Rattle.jxl_lossless.specs.Frames.{SharedTree, TreeFails, channels_given}
 use Rattle.jxl_lossless.specs.declared.error.FileError.{FileError}

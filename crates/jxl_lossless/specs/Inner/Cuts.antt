@@ -3,8 +3,8 @@ use Rattle.std.specs.Prelude.{◌≡◌, ℕ, ◌*◌, ◌<◌, ◌==◌, List, 
 use Rattle.std.specs.Borrow.{Bor}
 use Rattle.jxl_codestream.specs.Layouts.{Layout, section_count_of, lf_section_of, pass_section_of}
 use Rattle.jxl_codestream.specs.declared.toc.TocEntry.{TocEntry}
-use Rattle.jxl_still.specs.Places.{place_of}
-use Rattle.jxl_still.specs.declared.places.Places.{Places}
+use Rattle.jxl_lossless.specs.Places.{place_of}
+use Rattle.jxl_lossless.specs.declared.still.places.Places.{Places}
 
 -- the bytes of the sections that lie there, by their numbers
 abbrev pub sections_of : List ℕ → List TocEntry → List (List ℕ)

@@ -1,0 +1,59 @@
+-- What is true of the samples of a frame by the sections of its parts is true by any other sections that are the same.
+use Rattle.std.proofs.Common.{◌≡◌, ℕ, ℤ, List, get_or, Option, sym, ◌∙◌}
+use Rattle.std.specs.Int.{Width}
+use Rattle.jxlm_bits.specs.Decoding.{Meaning}
+use Rattle.jxlm_bits.specs.ErrorKind.{kind_of}
+use Rattle.jxlm_base.specs.Grid.{Grid}
+use Rattle.jxlm_tree.proofs.Memory.{unless_so}
+use Rattle.jxlm_tree.specs.Tree.{Config}
+use Rattle.jxlm_transform.specs.Channels.{ChannelList}
+use Rattle.jxlm_groups.specs.declared.part.SectionPart.{SectionPart}
+use Rattle.jxlm_groups.specs.declared.pass.Pass.{Pass}
+use Rattle.jxl_lossless.specs.Stills.{CanDecode, HasSections, HeaderStands, IsStill, StillFails}
+use Rattle.jxl_lossless.specs.declared.still.error.FrameError.{FrameError}
+use Rattle.jxl_lossless.specs.declared.still.error.FrameError.TheVariants as errors
+
+module _ {S D : Type 0} (d : Meaning D) (w : Width) (to_int : S → ℤ) (zero : S) (global : Option (Config D)) (given : ChannelList) (group_dim bit_depth : ℕ) (bytes : List ℕ) (p : ℕ)
+    (passes : List Pass) (one other : SectionPart → Option (List ℕ × ℕ)) (alike : (part : SectionPart) → one part ≡ other part) where
+  abbrev Stands : (SectionPart → Option (List ℕ × ℕ)) → Type 0
+  Stands f = HeaderStands {S = S} d w to_int zero global given group_dim bit_depth bytes p passes f
+
+  abbrev Has : (SectionPart → Option (List ℕ × ℕ)) → Type 0
+  Has f = HasSections {S = S} d w to_int zero global given group_dim bit_depth bytes p passes f
+
+  abbrev Can : (SectionPart → Option (List ℕ × ℕ)) → Type 0
+  Can f = CanDecode {S = S} d w to_int zero global given group_dim bit_depth bytes p passes f
+
+  abbrev Fails : (SectionPart → Option (List ℕ × ℕ)) → FrameError → Type 0
+  Fails f = StillFails {S = S} d w to_int zero global given group_dim bit_depth bytes p passes f
+
+  abbrev stands_too : Stands one → Stands other
+  stands_too s = record { head = s.head; image = s.image; end = s.end; plain = s.plain; start = s.start; is = s.is }
+
+  abbrev has_too : Has one → Has other
+  has_too s = record {
+    stands = stands_too s.stands;
+    cut = s.cut;
+    groups = s.groups;
+    are = λ k x lt. let (there, begins, nested) = s.are k x lt in (sym (alike (get_or s.groups k x).part) ∙ there, begins, nested);
+    each = s.each;
+    in_order = s.in_order;
+  }
+
+  abbrev can_too : Can one → Can other
+  can_too s = record { has = has_too s.has; plain = s.plain; first = s.first; bytes_are = s.bytes_are; goes_on = s.goes_on; is = s.is }
+
+  -- the channels of a frame
+  pub still_too : (grids : List (Grid ℤ)) (before after : ℕ) → IsStill {S = S} d w to_int zero global given group_dim bit_depth bytes p passes one grids before after →
+      IsStill {S = S} d w to_int zero global given group_dim bit_depth bytes p passes other grids before after
+  still_too grids before after s = record { can = can_too s.can; decoded = s.decoded }
+
+  -- why it has none
+  pub fails_too : (e : FrameError) → Fails one e → Fails other e
+  fails_too (errors.Header e) h = h
+  fails_too errors.WeightedPalette h = h
+  fails_too errors.NoGroups h = (stands_too h.0, h.1)
+  fails_too errors.NoSection h = let (s, cut, part, is, none) = h in (stands_too s, cut, part, is, sym (alike part) ∙ none)
+  fails_too errors.GroupWeightedPalette h = (has_too h.0, h.1)
+  fails_too (errors.Samples e) h = unless_so (kind_of e) (λ f. let (s, left, before, after, stops) = f in (can_too s, left, before, after, stops)) h
+  fails_too errors.OutOfMemory h = tt

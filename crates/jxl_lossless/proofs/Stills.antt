@@ -1,0 +1,245 @@
+-- A frame from the sections that were listed, or why there is none.
+use Rattle.std.proofs.Common.{◌≡◌, IsTrue, ℕ, Bool, true, false, ℤ, List, [], ◌∷◌, get_or, Option, Some, is_some, Result, Ok, sym, ap, ◌∙◌, subst}
+use Rattle.std.specs.Int.{Width}
+use Rattle.std.specs.Option.{option_map}
+use Rattle.std.specs.Prelude.{◌&&◌, ◌||◌, ◌↔◌, ◌<◌, Any, IsFalse}
+use Rattle.std.specs.Borrow.{Bor}
+use Rattle.std.specs.List.{All, list_any}
+use Rattle.jxlm_bits.specs.Bits.{bytes_of, position_of}
+use Rattle.jxlm_bits.specs.Decoding.{Meaning}
+use Rattle.jxlm_bits.specs.ErrorKind.{kind_of}
+use Rattle.jxlm_base.specs.Grid.{Grid}
+use Rattle.jxlm_bits.specs.declared.bits.Bitstream.{Bitstream}
+use Rattle.jxlm_bits.specs.declared.error.Error.{Error}
+use Rattle.jxlm_tree.proofs.Memory.{always_so, unless_so}
+use Rattle.jxlm_tree.specs.Tree.{Config}
+use Rattle.jxlm_chain.specs.Chain.{Chain}
+use Rattle.jxlm_transform.specs.ChannelSteps.{Step}
+use Rattle.jxlm_transform.specs.Channels.{AreGridsOf, Channel, ChannelList, image_list}
+use Rattle.jxlm_transform.specs.Params.{IsValidChannel}
+use Rattle.jxlm_transform.specs.declared.param.ModularChannelParams.{ModularChannelParams}
+use Rattle.jxlm_groups.proofs.Steps.{IsPictured}
+use Rattle.jxlm_groups.specs.Cutting.{can_cut}
+use Rattle.jxlm_groups.specs.declared.part.SectionPart.{SectionPart}
+use Rattle.jxlm_groups.specs.declared.part.SectionPart.TheVariants as parts
+use Rattle.jxlm_samples.specs.Part.{cell_count}
+use Rattle.jxlm_groups.specs.Passes.{can_group, one_picture}
+use Rattle.jxl_modular.specs.Groups.{channels_in}
+use Rattle.jxl_modular.specs.Image.{Image, coded_list}
+use Rattle.jxl_modular.specs.Sections.{AreDecoded, IsComplete, SectionsFit, SectionsLeave, SectionsStop}
+use Rattle.jxl_modular.specs.declared.sections.Section.{Section}
+use Rattle.jxlm_section_split.proofs.Openings.{opened_steps}
+use Rattle.jxlm_section_split.proofs.Pictures.{still_picture}
+use Rattle.jxlm_section_split.proofs.Whole.{all_whole}
+use Rattle.jxlm_groups.specs.declared.pass.Pass.{Pass}
+use Rattle.jxl_lossless.specs.Places.{own_passes, section_at, stream_of}
+use Rattle.jxl_lossless.proofs.Complete.{all_ones, complete, each_one, exist, sections_in_order, unlike}
+use Rattle.jxl_lossless.proofs.Order.{streams_rise}
+use Rattle.jxl_lossless.proofs.Weighted.{all_plain, none_there, some_weighted, stands_there}
+use Rattle.jxl_lossless.specs.Stills.{CanDecode, HasSections, HeaderStands, IsStill, StillFails}
+use Rattle.jxl_lossless.specs.Inner.Listing.{AreListed, IsOfGroup, Lacks, ListingFails, SamplesStop}
+use Rattle.jxl_lossless.specs.Inner.Openings.{OpenFails, Opens}
+use Rattle.jxl_lossless.specs.Inner.Parts.{groups_in_order}
+use Rattle.jxl_lossless.specs.Inner.Weighted.{section_is_weighted, weighted_at}
+use Rattle.jxl_lossless.specs.declared.still.error.FrameError.{FrameError}
+use Rattle.jxl_lossless.specs.declared.still.error.FrameError.TheVariants as errors
+use Rattle.jxl_lossless.specs.declared.still.places.Places.{Places}
+
+-- the grids of an image have the sides of its channels
+chain_sides : (w : Width) (depth : ℕ) (steps : List Step) (l : ChannelList) (image coded : List (Grid ℤ)) → Chain w depth steps l image coded → AreGridsOf l.channels image
+chain_sides w depth [] l image coded c = c.0
+chain_sides w depth (s ∷ ss) l image coded c = c.0
+
+-- where no sample may be missing and each part has a section, all is decoded
+pub whole_decoded : {S D : Type 0} (d : Meaning D) (w : Width) (to_int : S → ℤ) (zero : S) (x : Image S D) (passes : List Pass) (global : Option (Config D)) (sections : List Section) (whole : Bool) (grids : List (Grid ℤ)) (before after : ℕ) → IsComplete x passes sections →
+    SectionsLeave d w to_int zero x passes global false sections whole x.store grids before after → (◌≡◌ {A = Result Bool Error} (Ok whole) (Ok true) → AreDecoded d w to_int zero x passes global sections grids before after) → AreDecoded d w to_int zero x passes global sections grids before after
+whole_decoded d w to_int zero x passes global sections whole grids before after complete left decoded =
+    decoded (ap Ok (left.says.1 (all_whole d w to_int zero x passes global sections left.turns x.store left.between left.left, complete)))
+
+-- channels of one picture can be grouped by passes that can cut an image without channels
+can_be_grouped : (passes : List Pass) (cs : List Channel) → IsTrue (can_group passes []) → IsTrue (one_picture cs) → IsTrue (can_group passes cs)
+can_be_grouped passes cs can one = rw one can
+
+module _ {S D : Type 0} (d : Meaning D) (w : Width) (to_int : S → ℤ) (zero : S) (global : Option (Config D)) (ps : List ModularChannelParams) (group_dim bit_depth : ℕ) (bytes : List ℕ) (p : ℕ) (places : Places) where
+  abbrev given : ChannelList
+  given = image_list ps
+
+  abbrev passes : List Pass
+  passes = own_passes places
+
+  abbrev Fails : FrameError → Type 0
+  Fails = StillFails {S = S} d w to_int zero global given group_dim bit_depth bytes p (own_passes places) (section_at places)
+
+  abbrev Stands : Type 0
+  Stands = HeaderStands {S = S} d w to_int zero global given group_dim bit_depth bytes p (own_passes places) (section_at places)
+
+  abbrev Has : Type 0
+  Has = HasSections {S = S} d w to_int zero global given group_dim bit_depth bytes p (own_passes places) (section_at places)
+
+  abbrev Can : Type 0
+  Can = CanDecode {S = S} d w to_int zero global given group_dim bit_depth bytes p (own_passes places) (section_at places)
+
+  abbrev Made : List (Grid ℤ) → ℕ → ℕ → Type 0
+  Made = IsStill {S = S} d w to_int zero global given group_dim bit_depth bytes p (own_passes places) (section_at places)
+
+  -- what holds of each of these parts holds of the one that has no section
+  of_lacking : (P : SectionPart → Type 0) (ps : List SectionPart) → All P ps → (lacks : Lacks places ps) → P lacks.part
+  of_lacking P ps all lacks =
+      let (k, part, lt, at, same) = lacks.asked in
+      subst P (at ∙ same) (all k part lt)
+
+  -- the bytes of a section with the index of a stream
+  abbrev with_stream : ℕ → Option (Bor (List ℕ)) → Option (List ℕ × ℕ)
+  with_stream n found = option_map {U = List ℕ × ℕ} (λ (b : Bor (List ℕ)). (b.now, n)) found
+
+  abbrev both : List ℕ → ℕ → Option (List ℕ × ℕ)
+  both section n = Some (section, n)
+
+  -- a section that was found is that of a group
+  of_group : (s : Section) → IsOfGroup places s → (section_at places s.part ≡ Some (bytes_of s.bits, s.stream_index)) × (position_of s.bits ≡ 0) × (s.nested ≡ true)
+  of_group s g = (
+    ap (with_stream (stream_of places s.part)) g.there ∙ ap (λ b. both b (stream_of places s.part)) (sym g.lies) ∙ ap (both (bytes_of s.bits)) (sym g.stream),
+    g.begins,
+    g.nested,
+  )
+
+  -- opening the image fails
+  pub open_fails : (e : FrameError) → OpenFails d global given bytes p e → Fails e
+  open_fails (errors.Header e) h = unless_so (kind_of e) (λ f. (none_there bytes p f.0, f.1.0, f.1.1)) h
+  open_fails errors.WeightedPalette h = stands_there bytes p h
+  open_fails errors.OutOfMemory h = tt
+  open_fails errors.NoGroups h = absurd h
+  open_fails errors.NoSection h = absurd h
+  open_fails errors.GroupWeightedPalette h = absurd h
+  open_fails (errors.Samples e) h = absurd h
+
+  module _ (image : Image S D) (q : ℕ) (o : Opens d global given bytes p zero group_dim bit_depth image q) where
+    abbrev stands : Stands
+    stands = record { head = o.head; image = image; end = q; plain = none_there bytes p o.plain; start = o.start; is = o.is }
+
+    dim_is : image.group_dim ≡ group_dim
+    dim_is = ap (λ (i : Image S D). i.group_dim) o.is
+
+    -- the image can be cut by the passes
+    pub groups_possible : IsTrue (can_group passes []) → IsTrue (one_picture given.channels) → IsTrue (can_group passes image.given)
+    groups_possible can one = subst (λ (i : Image S D). IsTrue (can_group passes i.given)) (sym o.is) (can_be_grouped passes given.channels can one)
+
+    -- listing the sections fails
+    pub list_fails : (e : FrameError) → ListingFails places image e → Fails e
+    list_fails errors.NoGroups h = (stands, subst (λ n. IsFalse (can_cut n (coded_list image))) dim_is h)
+    list_fails errors.NoSection (cut, lacks) = (
+      stands,
+      subst (λ n. IsTrue (can_cut n (coded_list image))) dim_is cut,
+      lacks.part,
+      of_lacking (λ part. (part ≡ parts.Global → ⊥) × (0 < cell_count (channels_in image passes part))) (groups_in_order image passes) (all_ones image passes) lacks,
+      ap (with_stream (stream_of places lacks.part)) lacks.none,
+    )
+    list_fails errors.OutOfMemory h = tt
+    list_fails (errors.Header e) h = absurd h
+    list_fails errors.WeightedPalette h = absurd h
+    list_fails errors.GroupWeightedPalette h = absurd h
+    list_fails (errors.Samples e) h = absurd h
+
+    module _ (bits : Bitstream) (bits_are : bytes_of bits ≡ bytes) (place : position_of bits ≡ q) (sections : List Section) (listed : AreListed places image bits sections) (cut : IsTrue (can_cut image.group_dim (coded_list image))) where
+      abbrev first : Section
+      first = listed.global
+
+      abbrev more : List Section
+      more = listed.added.more
+
+      sections_are : sections ≡ first ∷ more
+      sections_are = listed.added.in_order
+
+      first_bytes : bytes_of first.bits ≡ bytes
+      first_bytes = ap bytes_of listed.goes_on ∙ bits_are
+
+      first_place : position_of first.bits ≡ q
+      first_place = ap position_of listed.goes_on ∙ place
+
+      can_be_cut : IsTrue (can_cut group_dim (coded_list image))
+      can_be_cut = subst (λ n. IsTrue (can_cut n (coded_list image))) dim_is cut
+
+      first_part : first.part ≡ parts.Global
+      first_part = ap (λ (s : Section). s.part) listed.of_global
+
+      -- the sections fit the image
+      pub fit : IsTrue (can_group passes []) → IsTrue (one_picture given.channels) → SectionsFit image passes sections
+      fit can one = subst (SectionsFit image passes) (sym sections_are) (record {
+        cut = record { groups = groups_possible can one; cells = cut };
+        exist = exist image passes first more first_part listed.added.parts_are;
+        unlike = unlike image passes first more first_part listed.added.parts_are;
+      })
+
+      -- its coded channels are of one picture
+      pictured : All IsValidChannel ps → IsTrue (one_picture given.channels) → (w : ℕ) × (h : ℕ) × IsPictured w h (coded_list image)
+      pictured valid one =
+          let pic = still_picture ps o.head valid one (opened_steps (is_some global) given bytes p o.head o.start.tree_at o.start.header) in
+          let list_is : coded_list image ≡ o.head.coded.list = ap (λ (i : Image S D). coded_list i) o.is in
+          (pic.w, pic.h, subst (IsPictured pic.w pic.h) (sym list_is) pic.is)
+
+      -- and each part with samples has one
+      pub all_there : IsTrue (can_group passes []) → All IsValidChannel ps → IsTrue (one_picture given.channels) → IsComplete image passes sections
+      all_there can valid one =
+          let (w, h, is) = pictured valid one in
+          subst (IsComplete image passes) (sym sections_are) (complete image passes first more first_part listed.added.parts_are can w h is)
+
+      -- the first section has no header of its own, so all or the others alone have such a palette
+      weighted_are : list_any section_is_weighted sections ≡ list_any section_is_weighted more
+      weighted_are = ap (list_any section_is_weighted) sections_are ∙ ap (λ b. (b && weighted_at (bytes_of first.bits) (position_of first.bits)) || list_any section_is_weighted more) (ap (λ (s : Section). s.nested) listed.of_global)
+
+      begin_groups : All (λ s. (position_of s.bits ≡ 0) × (s.nested ≡ true)) more
+      begin_groups k d lt = let (there, begins, nested) = of_group (get_or more k d) (listed.added.groups k d lt) in (begins, nested)
+
+      module _ (possible : IsTrue (can_group passes [])) (valid : All IsValidChannel ps) (one : IsTrue (one_picture given.channels)) where
+        each_group : (part : SectionPart) → ((part ≡ parts.Global → ⊥) × (0 < cell_count (channels_in image passes part))) ↔ Any (λ s. s.part ≡ part) more
+        each_group = let (w, h, is) = pictured valid one in each_one image passes more listed.added.parts_are possible w h is
+
+        -- each group has a section
+        abbrev has : Has
+        has = record {
+          stands = stands;
+          cut = can_be_cut;
+          groups = more;
+          are = λ k d lt. of_group (get_or more k d) (listed.added.groups k d lt);
+          each = each_group;
+          in_order = streams_rise places more listed.added.groups (sections_in_order image passes more listed.added.parts_are);
+        }
+
+        -- and none has such a palette
+        abbrev can : list_any section_is_weighted sections ≡ false → Can
+        can plain = record {
+          has = has;
+          plain = all_plain more begin_groups (sym weighted_are ∙ plain);
+          first = first;
+          bytes_are = first_bytes;
+          goes_on = first_place;
+          is = listed.of_global;
+        }
+
+        -- the section of a group has such a palette
+        pub weighted_fail : list_any section_is_weighted sections ≡ true → Fails errors.GroupWeightedPalette
+        weighted_fail some = (has, some_weighted more begin_groups (sym weighted_are ∙ some))
+
+        -- decoding them fails
+        pub samples_fail : (e : FrameError) → list_any section_is_weighted sections ≡ false → SamplesStop d w to_int zero image passes global sections e → Fails e
+        samples_fail (errors.Samples e) plain h =
+            let (left, before, after, stop) = h in
+            always_so (kind_of e) (can plain, left, before, after, subst (λ ss. SectionsStop d w to_int zero image passes global false ss e image.store left before after) sections_are stop)
+        samples_fail (errors.Header e) plain h = absurd h
+        samples_fail errors.WeightedPalette plain h = absurd h
+        samples_fail errors.NoGroups plain h = absurd h
+        samples_fail errors.NoSection plain h = absurd h
+        samples_fail errors.GroupWeightedPalette plain h = absurd h
+        samples_fail errors.OutOfMemory plain h = absurd h
+
+        -- or there is the frame
+        pub made : list_any section_is_weighted sections ≡ false → (grids : List (Grid ℤ)) (before after : ℕ) → AreDecoded d w to_int zero image passes global sections grids before after → Made grids before after
+        made plain grids before after done =
+            record { can = can plain; decoded = subst (λ ss. AreDecoded d w to_int zero image passes global ss grids before after) sections_are done }
+
+  -- whose grids have the sides of the channels
+  pub still_sides : (grids : List (Grid ℤ)) (before after : ℕ) → Made grids before after → AreGridsOf given.channels grids
+  still_sides grids before after s =
+      let image = s.can.has.stands.image in
+      let sides = chain_sides w image.bit_depth image.steps (record { channels = image.given; nb_meta = 0 }) grids s.decoded.coded s.decoded.only.chain in
+      subst (λ (l : List Channel). AreGridsOf l grids) (ap (λ (i : Image S D). i.given) s.can.has.stands.is) sides

@@ -1,0 +1,91 @@
+-- The samples of a frame, from its sections (ISO/IEC 18181-1, frame: sections, LF global, groups), stage by stage, and what fails
+-- at each: that a palette of the weighted predictor is in the header of a group is told before what is wrong with samples.
+use Rattle.std.specs.Prelude.{◌≡◌, ◌≢◌, ◌↔◌, ℕ, ◌<◌, ◌⊎◌, ℤ, List, ◌∷◌, Any, false, true, IsFalse, IsTrue, Option, None, Some, Ok}
+use Rattle.std.specs.Int.{Width}
+use Rattle.std.specs.List.{All, AllPairs}
+use Rattle.jxlm_bits.specs.Bits.{bytes_of, position_of}
+use Rattle.jxlm_bits.specs.Decoding.{Found, Meaning}
+use Rattle.jxlm_bits.specs.ErrorKind.{UnlessMemory, kind_of}
+use Rattle.jxlm_bits.specs.Grammar.{IsErrorAt}
+use Rattle.jxlm_base.specs.Grid.{Grid}
+use Rattle.jxlm_transform.specs.Channels.{ChannelList}
+use Rattle.jxlm_transform.specs.Transforms.{OfPalette}
+use Rattle.jxlm_transform.specs.declared.transform.Palette.{Palette}
+use Rattle.jxlm_predictor.specs.declared.predictor.Predictor.TheVariants.{SelfCorrecting}
+use Rattle.jxlm_groups.specs.Cutting.{can_cut}
+use Rattle.jxlm_groups.specs.declared.part.SectionPart.{SectionPart}
+use Rattle.jxlm_groups.specs.declared.part.SectionPart.TheVariants as parts
+use Rattle.jxlm_groups.specs.declared.pass.Pass.{Pass}
+use Rattle.jxlm_header.specs.Header.{Header, header}
+use Rattle.jxlm_header.specs.Opening.{Opening}
+use Rattle.jxlm_tree.specs.Tree.{Config}
+use Rattle.jxlm_samples.specs.Part.{cell_count}
+use Rattle.jxl_modular.specs.Fresh.{fresh}
+use Rattle.jxl_modular.specs.Groups.{channels_in}
+use Rattle.jxl_modular.specs.Image.{Image, coded_list}
+use Rattle.jxl_modular.specs.Parsing.{IsStartAt, IsTreeErrorAt, opened}
+use Rattle.jxl_modular.specs.Sections.{AreDecoded, SectionsStop}
+use Rattle.jxl_modular.specs.declared.sections.Section.{Section}
+use Rattle.jxl_lossless.specs.declared.still.error.FrameError.{FrameError}
+use Rattle.jxl_lossless.specs.declared.still.error.FrameError.TheVariants as errors
+
+-- at bit p stands a Modular header with a palette of the weighted (self-correcting) predictor, by which files mean something else
+abbrev pub IsWeightedAt : List ℕ → ℕ → Type 0
+IsWeightedAt bytes p = (found : Found Header) × (header.read bytes p ≡ Ok found)
+    × (palette : Palette) × Any (λ t. t ≡ OfPalette palette) found.value.transform × (palette.d_pred ≡ SelfCorrecting)
+
+module _ {S D : Type 0} (d : Meaning D) (w : Width) (to_int : S → ℤ) (zero : S) (global : Option (Config D)) (given : ChannelList) (group_dim bit_depth : ℕ) (bytes : List ℕ) (p : ℕ)
+    (passes : List Pass) (section_of : SectionPart → Option (List ℕ × ℕ)) where
+  -- At bit p of the first section stand the image's header, without such palettes, and its tree, which may be the global one:
+  -- the image then, of which no sample is decoded.
+  pub record HeaderStands : Type 0 where
+    pub head : Opening
+    pub image : Image S D
+    pub end : ℕ
+    pub plain : ¬ (IsWeightedAt bytes p)
+    pub start : IsStartAt d global bytes given p head image.config end
+    pub is : image ≡ fresh zero given head image.config group_dim bit_depth
+
+  -- the part is a group with samples
+  abbrev pub IsGroup : HeaderStands → SectionPart → Type 0
+  IsGroup s part = (part ≢ parts.Global) × (0 < cell_count (channels_in s.image passes part))
+
+  -- the section is that of a group: it has the bytes and the stream that the frame has for its part, and a header of its own
+  abbrev pub IsOfGroup : Section → Type 0
+  IsOfGroup s = (section_of s.part ≡ Some (bytes_of s.bits, s.stream_index)) × (position_of s.bits ≡ 0) × (s.nested ≡ true)
+
+  -- It can be cut, and each group with samples, and no other, has a section: these come by rising index of their streams.
+  pub record HasSections : Type 0 where
+    pub stands : HeaderStands
+    pub cut : IsTrue (can_cut group_dim (coded_list stands.image))
+    pub groups : List Section
+    pub are : All IsOfGroup groups
+    pub each : (part : SectionPart) → IsGroup stands part ↔ Any (λ s. s.part ≡ part) groups
+    pub in_order : AllPairs (λ s t. s.stream_index < t.stream_index) groups
+
+  -- None of these headers has such a palette, and the first section goes on with the global part.
+  pub record CanDecode : Type 0 where
+    pub has : HasSections
+    pub plain : All (λ s. ¬ (IsWeightedAt (bytes_of s.bits) 0)) has.groups
+    pub first : Section
+    pub bytes_are : bytes_of first.bits ≡ bytes
+    pub goes_on : position_of first.bits ≡ has.stands.end
+    pub is : first ≡ record { part = parts.Global; bits = first.bits; stream_index = 0; nested = false }
+
+  -- These are the channels of a frame: each section codes its part whole, with so many nodes of trees looked at before and after,
+  -- and together they code the image.
+  pub record IsStill (grids : List (Grid ℤ)) (before after : ℕ) : Type 0 where
+    pub can : CanDecode
+    pub decoded : AreDecoded d w to_int zero can.has.stands.image passes global (can.first ∷ can.has.groups) grids before after
+
+  -- what each error says: up to which stage all stands, and what fails there; no two hold of one input, memory aside
+  abbrev pub StillFails : FrameError → Type 0
+  StillFails (errors.Header e) = UnlessMemory (kind_of e)
+      ((¬ (IsWeightedAt bytes p)) × (q : ℕ) × (IsErrorAt (opened global bytes given p) (kind_of e) q ⊎ IsTreeErrorAt d global bytes given p (kind_of e) q))
+  StillFails errors.WeightedPalette = IsWeightedAt bytes p
+  StillFails errors.NoGroups = (s : HeaderStands) × IsFalse (can_cut group_dim (coded_list s.image))
+  StillFails errors.NoSection = (s : HeaderStands) × IsTrue (can_cut group_dim (coded_list s.image)) × (part : SectionPart) × IsGroup s part × (section_of part ≡ None)
+  StillFails errors.GroupWeightedPalette = (s : HasSections) × Any (λ t. IsWeightedAt (bytes_of t.bits) 0) s.groups
+  StillFails (errors.Samples e) = UnlessMemory (kind_of e) ((s : CanDecode) × (left : List (Grid S)) × (before : ℕ) × (after : ℕ)
+      × SectionsStop d w to_int zero s.has.stands.image passes global false (s.first ∷ s.has.groups) e s.has.stands.image.store left before after)
+  StillFails errors.OutOfMemory = Unit {0}

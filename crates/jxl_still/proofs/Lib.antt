@@ -1,9 +1,0 @@
-pub mod Adding
-pub mod Listings
-pub mod Headers
-pub mod Frames
-pub mod Passes
-pub mod Order
-pub mod Weighted
-pub mod Alike
-pub mod Complete

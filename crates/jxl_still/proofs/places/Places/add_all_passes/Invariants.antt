@@ -1,7 +1,0 @@
-use Rattle.jxl_modular.specs.GroupParts.{image_of, passes_in}
-use Rattle.jxl_still.specs.Inner.Parts.{parts_of_passes}
-use Rattle.jxl_still.specs.Inner.Listing.{AreAdded}
-use Rattle.jxl_still.proofs.places.Places.add_all_passes.Given as goal
-
-abbrev pub invariant-loop-pass : goal.invariant-loop-pass
-invariant-loop-pass g l = AreAdded l.self (parts_of_passes (image_of l.groups) (passes_in l.groups) l.pass) l.initial.list.items l.list.items

@@ -1,4 +1,0 @@
-pub mod Listing
-pub mod Openings
-pub mod Parts
-pub mod Weighted
