@@ -1,4 +1,4 @@
-.PHONY: help jxldec jxlmod demo demo-plain demo-triangle demo-groups bench compare-djxl check-docs check-alloc test
+.PHONY: help jxldec jxlmod demo demo-plain demo-triangle demo-groups bench compare-djxl check-docs check-alloc check-commands test
 
 help: ## this list
 	@awk -F ':.*## ' '/^[a-z-]+:.*## / { printf "make %-14s %s\n", $$1, $$2 }' Makefile
@@ -35,5 +35,9 @@ check-docs: ## look up the names and the code that the documents cite
 check-alloc: ## refuse each request for memory of each call that takes memory, in turn; it proves nothing
 	@python3 scripts/check_alloc.py
 
-test: check-docs check-alloc ## check-docs, check-alloc, and then every proof, must-fail edit and test, and the programs' runs
+check-commands: ## run jxldec, as it was last built, by its command line, and compare statuses, outputs and standard error
+	@sh scripts/commands.sh crates/jxldec/out/jxldec
+
+test: check-docs check-alloc ## check-docs, check-alloc, every proof, must-fail edit and test, the programs' runs, and check-commands
 	rt ci
+	@sh scripts/commands.sh crates/jxldec/out/jxldec

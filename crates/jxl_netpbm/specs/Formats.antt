@@ -23,7 +23,7 @@ can_stand c = not (is_full_alpha c) || is_whole 31 c.bit_depth
 -- the format can hold the picture's colours, PAM its alpha of the same size too, and decimal numbers all of it
 abbrev pub suits : Format → Image → Bool
 suits Pgm image = is_grey image && is_whole 16 image.samples.bit_depth
-suits Ppm image = not (is_grey image) && is_whole 16 image.samples.bit_depth
+suits Ppm image = is_whole 16 image.samples.bit_depth
 suits Pam image = is_whole 16 image.samples.bit_depth && list_all can_stand image.ec_info
 suits Pfm image = (image.samples.bit_depth.exp_bits == 8) && (image.samples.bit_depth.bits_per_sample == 32)
 suits Text image = true
@@ -75,6 +75,10 @@ tuple_type image =
 abbrev pub tuple_count : Image → ℕ
 tuple_count image = if has_full_alpha image then colour_count image + 1 else colour_count image
 
+-- a PGM file for grey, a PPM file for red, green and blue
+abbrev pub pnm_magic : Image → List ℕ
+pnm_magic image = if is_grey image then codes "P5" else codes "P6"
+
 abbrev pub pnm_head : List ℕ → Image → List ℕ
 pnm_head magic image = line magic ++ size_line image ++ line (decimal (most_of image))
 
@@ -95,7 +99,7 @@ raster_of image layers = raster_text (most_of image) layers image.size.width ima
 -- the text of a picture: a head, and its samples
 abbrev pub text_of : Format → Image → List (Grid ℤ) → List ℕ
 text_of Pgm image channels = pnm_head (codes "P5") image ++ raster_of image (colour_layers image channels)
-text_of Ppm image channels = pnm_head (codes "P6") image ++ raster_of image (colour_layers image channels)
+text_of Ppm image channels = pnm_head (pnm_magic image) image ++ raster_of image (colour_layers image channels)
 text_of Pam image channels = pam_head image ++ raster_of image (pam_layers image channels)
 text_of Pfm image channels =
     pfm_head image ++ float_rows (colours_of image channels) image.size.width image.size.height image.size.height

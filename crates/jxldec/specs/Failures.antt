@@ -13,7 +13,7 @@ failure_text (failures.File error) = Some (file_text error)
 failure_text (failures.TooLarge size extra most) = None
 failure_text failures.NoFormat = Some (codes "this format cannot hold the picture; --format text can")
 failure_text failures.OutOfMemory = Some (codes "out of memory")
-failure_text failures.Ending = Some (codes "no format has this ending; there are .pgm, .ppm, .pam, .pfm and .text")
+failure_text failures.Ending = Some (codes "no format has this ending; there are .pgm, .ppm, .pnm, .pam, .pfm and .text")
 failure_text (failures.Unwritable error) = None
 failure_text failures.Closed = None
 

@@ -89,7 +89,7 @@ impl fmt::Display for Failure {
             }
             Failure::OutOfMemory => f.write_str("out of memory"),
             Failure::Ending => f.write_str(
-                "no format has this ending; there are .pgm, .ppm, .pam, .pfm and .text",
+                "no format has this ending; there are .pgm, .ppm, .pnm, .pam, .pfm and .text",
             ),
             Failure::Unwritable(error) => write!(f, "cannot write: {error}"),
             Failure::Closed => f.write_str("a pipe that was closed"),

@@ -3,7 +3,7 @@
 ghost use Rattle.std.specs.Prelude.{◌≡◌, ◌≢◌, MatchOption, Some, map};
 ghost use Rattle.std.specs.Option.{option_copied};
 ghost use Rattle.std.specs.Path.{path_extension};
-ghost use Rattle.jxldec.specs.Options.{IsNoFormat, IsWordOf};
+ghost use Rattle.jxldec.specs.Options.{IsNoFormat, IsWordOf, limits_of as the_limits};
 
 use clap::{Arg, ArgAction, ArgMatches, Command};
 use jxl_netpbm::format::Format;
@@ -41,7 +41,7 @@ fn output(alloc: Global) -> Arg<'static> {
     Arg::new(alloc, "output")
         .short('o')
         .long("output")
-        .value_name("FILE")
+        .value_name("OUT")
         .help("Where to write the picture [default, and -: standard output]")
 }
 
@@ -57,7 +57,7 @@ fn format(alloc: Global) -> Arg<'static> {
     Arg::new(alloc, "format")
         .long("format")
         .value_name("FORMAT")
-        .value_parser(["pgm", "ppm", "pam", "pfm", "text"].as_slice())
+        .value_parser(["pgm", "ppm", "pnm", "pam", "pfm", "text"].as_slice())
         .help("Its format [default: by the ending of its name, else by what the picture holds]")
 }
 
@@ -67,6 +67,14 @@ fn pixels(alloc: Global) -> Arg<'static> {
         .value_name("N")
         .value_parser(clap::value_parser!(u64))
         .help("The maximum number of pixels [default: 268435456]")
+}
+
+fn bytes(alloc: Global) -> Arg<'static> {
+    Arg::new(alloc, "bytes")
+        .long("max-bytes")
+        .value_name("N")
+        .value_parser(clap::value_parser!(u64))
+        .help("The maximum number of bytes of samples, four each [default: 2147483648]")
 }
 
 fn quiet(alloc: Global) -> Arg<'static> {
@@ -85,6 +93,7 @@ pub fn command<'a>(alloc: Global) -> Result<Command<'a>, AllocError> {
         info(alloc)?,
         format(alloc),
         pixels(alloc),
+        bytes(alloc),
         quiet(alloc),
     ]?;
     Command::new(alloc, "jxldec")
@@ -99,7 +108,7 @@ fn format_of(name: &str) -> Option<Format>
 {
     if name.eq_ignore_ascii_case("pgm") {
         Some(Format::Pgm)
-    } else if name.eq_ignore_ascii_case("ppm") {
+    } else if name.eq_ignore_ascii_case("ppm") || name.eq_ignore_ascii_case("pnm") {
         Some(Format::Ppm)
     } else if name.eq_ignore_ascii_case("pam") {
         Some(Format::Pam)
@@ -119,15 +128,23 @@ fn ending(path: &str) -> Option<&str>
     Path::new(path).extension()
 }
 
+// How large a picture may be: as by default, but for so many pixels and bytes of samples, where they are asked for.
+fn limits_of(pixels: Option<u64>, bytes: Option<u64>) -> Limits
+    ensures { result ≡ the_limits pixels bytes }
+{
+    let usual = Limits::usual();
+    Limits {
+        pixels: pixels.unwrap_or(usual.pixels),
+        bytes: bytes.unwrap_or(usual.bytes),
+        ..usual
+    }
+}
+
 impl<'a> Options<'a> {
     /// What a command line asks for: of the format by its name, else by the ending of the picture's path.
     pub fn of(matches: &ArgMatches<'a>) -> Options<'a> {
         let path = matches.get_str("output").unwrap_or("-");
         let output = if path == "-" { None } else { Some(path) };
-        let mut limits = Limits::usual();
-        if let Some(pixels) = matches.get_one::<u64>("pixels") {
-            limits.pixels = pixels;
-        }
         let name = matches.get_str("format").or(output.and_then(ending));
         Options {
             input: matches.get_str("input").unwrap_or(""),
@@ -135,7 +152,7 @@ impl<'a> Options<'a> {
             output_name: output.unwrap_or("standard output"),
             info: matches.get_flag("info"),
             format: name.and_then(format_of),
-            limits,
+            limits: limits_of(matches.get_one("pixels"), matches.get_one("bytes")),
             quiet: matches.get_flag("quiet"),
         }
     }

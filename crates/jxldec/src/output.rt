@@ -1,10 +1,22 @@
-//! A file that is made when it is first written to.
+//! What the program writes to: standard output, or a file that is made when it is first written to.
 
-ghost use Rattle.std.specs.Prelude.{◌≡◌, None};
+ghost use Rattle.std.specs.Prelude.{◌≡◌, None, OnOk, false};
+ghost use Rattle.std.specs.Io.KnownBytes.{Keeps};
 
 use std::fs;
-use std::io::{self, Write};
+use std::io::{self, Stdout, Write};
 use std::rt::Files;
+
+/// A writer that says whether it is flushed.
+pub trait Flush: Write {
+    /// It passed on all that was written.
+    ghost is_flushed: { Self → Type 0 };
+
+    /// Passes on all that was written.
+    fn flush_all(&mut self) -> io::Result<()>
+        ensures bytes { Keeps (Self.contents self.old) (Self.contents self.new) }
+        ensures flushed { OnOk result (is_flushed self.new) };
+}
 
 /// A file that is made, or emptied, at the first write: where nothing is written, nothing of it changes.
 #[derive(Drop)]
@@ -12,6 +24,8 @@ pub struct OutputFile<'a, R: Files> {
     rt: &'a R,
     path: &'a str,
     file: Option<R::File>,
+    /// Whether a write was begun since the file was last flushed.
+    waits: bool,
 }
 
 impl<'a, R: Files> OutputFile<'a, R> {
@@ -23,6 +37,7 @@ impl<'a, R: Files> OutputFile<'a, R> {
             rt,
             path,
             file: None,
+            waits: false,
         }
     }
 }
@@ -32,6 +47,7 @@ impl<'a, R: Files> Write for OutputFile<'a, R> {
         if self.file.is_none() {
             self.file = Some(fs::create(self.rt, self.path)?);
         }
+        self.waits = true;
         match &mut self.file {
             Some(file) => file.write(buf),
             None => Ok(0),
@@ -43,5 +59,25 @@ impl<'a, R: Files> Write for OutputFile<'a, R> {
             Some(file) => file.flush(),
             None => Ok(()),
         }
+    }
+}
+
+impl<'a, R: Files> Flush for OutputFile<'a, R> {
+    ghost is_flushed = { λ output. output.waits ≡ false };
+
+    fn flush_all(&mut self) -> io::Result<()> {
+        self.flush()?;
+        self.waits = false;
+        Ok(())
+    }
+}
+
+impl Flush for Stdout {
+    ghost use Rattle.std.specs.Prelude.{⊤};
+
+    ghost is_flushed = { λ _. ⊤ };
+
+    fn flush_all(&mut self) -> io::Result<()> {
+        self.flush()
     }
 }

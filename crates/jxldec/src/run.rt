@@ -12,6 +12,7 @@ ghost use Rattle.jxldec.specs.Warnings.{warnings};
 use crate::failures::Failure;
 use crate::meter::Line;
 use crate::options::Options;
+use crate::output::Flush;
 use crate::warning::{LeftOut, warn};
 use jxl_codestream::error::FrontError;
 use jxl_coding::decoder::EntropyDecoder;
@@ -177,21 +178,22 @@ fn text_asked<P: Line>(
 }
 
 // Writes the bytes and passes them on.
-fn write_bytes<W: Write>(output: &mut W, bytes: &[u8]) -> Result<(), Failure>
+fn write_bytes<W: Flush>(output: &mut W, bytes: &[u8]) -> Result<(), Failure>
     ensures ok { OnOk result (Appends (W.contents output.old) (W.contents output.new) bytes.now) }
+    ensures flushed { OnOk result (W.is_flushed output.new) }
     ensures err { IfErr result IsOfWriting }
 {
     if let Err(error) = output.write_all(bytes) {
         return Err(Failure::of_write(error));
     }
-    match output.flush() {
+    match output.flush_all() {
         Ok(()) => Ok(()),
         Err(error) => Err(Failure::of_write(error)),
     }
 }
 
 // Reads the file, and writes what is asked of it. It returns what that leaves out.
-fn carry_out<R: Read, W: Write, P: Line>(
+fn carry_out<R: Read, W: Flush, P: Line>(
     alloc: Global,
     options: &Options<'_>,
     input: &mut R,
@@ -203,6 +205,7 @@ fn carry_out<R: Read, W: Write, P: Line>(
         (string_bytes l.channels) l.profile) }
     ensures failed { IfErr result (InputFails options.now.info options.now.limits options.now.format
         (R.remaining input.old) (R.remaining input.new)) }
+    ensures flushed { OnOk result (W.is_flushed output.new) }
     ensures kept { IfErr result (λ failure. is_of_output failure ≡ false → output.new ≡ output.old) }
 {
     let mut file = Vec::new(alloc);
@@ -258,7 +261,7 @@ fn succeed<E: Write>(errors: &mut E, options: &Options<'_>, left_out: &LeftOut) 
 /// `errors` got the line of a failure that holds of the file, unless the output is a pipe that was closed. Nothing is
 /// written to the output unless the whole picture was decoded. With status 0 `errors` got nothing but the lines that warn
 /// of what is left out. Each section that is decoded is told of to `progress`.
-pub fn run<R: Read, W: Write, E: Write, P: Line>(
+pub fn run<R: Read, W: Flush, E: Write, P: Line>(
     alloc: Global,
     options: Options<'_>,
     input: &mut R,
@@ -271,6 +274,7 @@ pub fn run<R: Read, W: Write, E: Write, P: Line>(
         options.entry.format options.entry.input.now (R.remaining input.old) (R.remaining input.new)
         (W.contents output.old) (W.contents output.new)
         (IsReported result.reported (E.contents errors.old) (E.contents errors.new)) (errors.new ≡ errors.old) }
+    ensures flushed { result.status ≡ 0 → W.is_flushed output.new }
     ensures failed { result.status ≡ 1 → IsFailed options.entry.info options.entry.limits options.entry.format
         options.entry.input.now options.entry.output_name.now (R.remaining input.old) (R.remaining input.new)
         (output.new ≡ output.old)

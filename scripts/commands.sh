@@ -1,0 +1,214 @@
+#!/bin/sh
+# Runs jxldec by its command line, and compares statuses, outputs and standard error: commands.sh PROGRAM
+#
+# PROGRAM is jxldec, built. A line tells each command that ends otherwise than docs/JXLDEC.md says; the last line counts
+# them. The status is 1 if one does. After "cannot read" and "cannot write" comes what the C library says of the error.
+set -u
+program=$(realpath "$1")
+here=$(cd "$(dirname "$0")" && pwd)
+ball=$here/../examples/ball.jxl
+folder=$(mktemp -d)
+trap 'rm -rf "$folder"' EXIT
+cd "$folder" || exit 1
+cp "$ball" ball.jxl
+cp ball.jxl ./-x.jxl
+printf 'no picture' > other.jxl
+: > empty.jxl
+head -c 20 ball.jxl > short.jxl
+head -c 5 ball.jxl > header.jxl
+printf '\0\0\0\014JXL \r\n\207\n' > boxes.jxl
+mkdir folder a.b
+# Pictures of 3x2 that libjxl's encoder made: RGB, RGB with alpha, and grey with depths and a spot colour.
+printf '\377\012\010\100\020\011\010\002\001\000\120\000\113\022\245\102\205\044\222\241\172\001\203\103\301\017\300\062\337\231\007\000' > colours.jxl
+printf '\377\012\010\100\260\022\010\010\020\000\130\000\113\022\245\102\205\044\222\241\172\001\205\303\300\017\100\163\276\347\074\000\250\131' > alpha.jxl
+printf '\377\012\010\100\120\020\200\000\000\340\001\000\000\000\000\300\101\161\043\010\040\000\001\000\110\000\113\022\245\102\205\044\022\240\172\031\136\000\077\000\352\255\003\003' > spot.jxl
+# A lossy one, of cjxl.
+printf '\377\012\010\100\220\024\027\002\000\022\010\001\000\310\000\135\345\022\000\000\025\052\243\214\033\274\234\353\371\362\103\207' > lossy.jxl
+input=/dev/null
+right=0
+wrong=0
+
+# Counts a comparison: judge NUMBER TEXT; the number is 0 where it holds.
+judge() {
+    if [ "$1" -eq 0 ]; then
+        right=$((right + 1))
+    else
+        wrong=$((wrong + 1))
+        echo "wrong: $2"
+    fi
+}
+
+# Runs a command on the file $input: expect STATUS ERROR ARGUMENT.. ERROR is the one line on standard error, or - for none;
+# of a command line that is refused, standard error only has to begin with it.
+expect() {
+    status=$1
+    error=$2
+    shift 2
+    "$program" "$@" > out 2> err < "$input"
+    seen=$?
+    line=$(cat err)
+    case $error in
+        -) test ! -s err ;;
+        error:*) test "${line#"$error"}" != "$line" ;;
+        *) test "$line" = "$error" ;;
+    esac
+    fits=$?
+    test "$seen" -eq "$status"
+    judge "$((fits + $?))" "$* -> $seen: $line"
+}
+
+# Judges what a file begins with: begins FILE TEXT.
+begins() {
+    test "$(head -c "${#2}" "$1" 2> err)" = "$2"
+    judge $? "$1 does not begin with $2"
+}
+
+# Judges that a file was not made.
+absent() {
+    test ! -e "$1"
+    judge $? "$1 was made"
+}
+
+# Endings and formats.
+expect 0 - ball.jxl -o a.pgm
+begins a.pgm P5
+expect 0 - ball.jxl -o a.PGM
+begins a.PGM P5
+expect 0 - colours.jxl -o a.ppm
+begins a.ppm P6
+expect 0 - colours.jxl -o a.PpM
+begins a.PpM P6
+expect 0 - colours.jxl -o a.pnm
+cmp -s a.pnm a.PpM
+judge $? 'RGB to .pnm is not what it is to .ppm'
+for ending in ppm PPM pnm PNM; do
+    expect 0 - ball.jxl -o "grey.$ending"
+    cmp -s "grey.$ending" a.pgm
+    judge $? "grey to .$ending is not what it is to .pgm"
+done
+expect 0 - ball.jxl --format pnm
+begins out P5
+expect 0 - ball.jxl -o a.pam
+begins a.pam P7
+expect 0 - ball.jxl -o a.text
+begins a.text 'channel 0 64x32'
+expect 0 - ball.jxl --output a.other --format pgm
+begins a.other P5
+expect 0 - ball.jxl -o a.ppm --format text
+begins a.ppm 'channel 0 64x32'
+expect 0 - ball.jxl -o plain
+begins plain P5
+expect 0 - colours.jxl -o plain
+begins plain P6
+expect 0 - alpha.jxl -o plain
+begins plain P7
+expect 0 - ball.jxl -o a.b/c
+begins a.b/c P5
+expect 0 - ball.jxl -o .pam
+begins .pam P5
+expect 1 'jxldec: a.png: no format has this ending; there are .pgm, .ppm, .pnm, .pam, .pfm and .text' ball.jxl -o a.png
+absent a.png
+expect 1 'jxldec: ball.jxl: this format cannot hold the picture; --format text can' ball.jxl -o a.pfm
+absent a.pfm
+expect 1 'jxldec: colours.jxl: this format cannot hold the picture; --format text can' colours.jxl -o b.pgm
+expect 2 "error: invalid value 'png'" ball.jxl --format png
+
+# Standard input and standard output.
+expect 0 - ball.jxl
+begins out P5
+expect 0 - ball.jxl -o -
+begins out P5
+absent ./-
+expect 0 - ball.jxl --info
+begins out 'JPEG XL image, 64x32, (possibly) lossless, 8-bit Grayscale'
+expect 2 "error: the argument '--info' cannot be used with" ball.jxl --info -o a.txt
+absent a.txt
+input=ball.jxl
+expect 0 - -
+begins out P5
+expect 0 - - --info
+begins out 'JPEG XL image, 64x32'
+input=/dev/null
+expect 0 - -- -x.jxl
+begins out P5
+expect 0 - -h
+begins out 'Decodes a lossless JPEG XL file'
+expect 0 - --help
+begins out 'Decodes a lossless JPEG XL file'
+expect 0 - -V
+begins out 'jxldec '
+expect 0 - --version
+
+# What a format leaves out.
+expect 0 'jxldec: spot.jxl: channels left out: Depth Spotcolor' spot.jxl
+expect 0 'jxldec: spot.jxl: channels left out: Depth Spotcolor' spot.jxl --format pam
+expect 0 'jxldec: alpha.jxl: channels left out: Alpha' alpha.jxl --format ppm
+begins out P6
+expect 0 - spot.jxl -q
+expect 0 - spot.jxl --format text
+expect 0 - spot.jxl --info
+
+# Files that cannot be read or decoded: an output that exists keeps its contents.
+printf 'kept' > b.pgm
+expect 1 'jxldec: none.jxl: cannot read: No such file or directory (os error 2)' none.jxl -o b.pgm
+expect 1 'jxldec: folder: cannot read: Is a directory (os error 21)' folder -o b.pgm
+expect 1 'jxldec: other.jxl: not a JPEG XL file' other.jxl -o b.pgm
+expect 1 'jxldec: empty.jxl: not a JPEG XL file' empty.jxl -o b.pgm
+expect 1 'jxldec: other.jxl: not a JPEG XL file' other.jxl --info
+expect 1 'jxldec: short.jxl: section 0 is truncated' short.jxl -o b.pgm
+expect 1 'jxldec: other.jxl: not a JPEG XL file' other.jxl -q -o b.pgm
+expect 1 'jxldec: header.jxl: image header: bitstream error: unexpected end of input' header.jxl -o b.pgm
+expect 1 'jxldec: header.jxl: image header: bitstream error: unexpected end of input' header.jxl --info
+expect 1 'jxldec: boxes.jxl: no codestream' boxes.jxl --info
+expect 1 'jxldec: lossy.jxl: not supported: a lossy picture (XYB)' lossy.jxl -o b.pgm
+expect 0 - lossy.jxl --info
+test "$(tail -n 1 out)" = 'not supported: a lossy picture (XYB)'
+judge $? '--info does not say why a lossy picture is not decoded'
+expect 0 - short.jxl --info
+test "$(tail -n 1 out)" = 'section 0 is truncated'
+judge $? '--info does not say that a section is truncated'
+expect 1 'jxldec: -: not a JPEG XL file' - -o b.pgm
+begins b.pgm kept
+expect 2 'error: ' -o b.pgm
+expect 2 'error: ' ball.jxl other.jxl
+expect 2 'error: ' ball.jxl --depth 8
+begins b.pgm kept
+
+# Limits.
+limits='a picture above the limits: 64x32 with 0 extra channels'
+expect 1 "jxldec: ball.jxl: $limits (maximum: 2047 pixels, 256 channels, 2147483648 bytes of samples)" ball.jxl --max-pixels 2047
+expect 0 - ball.jxl --max-pixels 2048
+expect 1 "jxldec: ball.jxl: $limits (maximum: 268435456 pixels, 256 channels, 8191 bytes of samples)" ball.jxl --max-bytes 8191
+expect 0 - ball.jxl --max-bytes 8192
+expect 1 "jxldec: ball.jxl: $limits (maximum: 2048 pixels, 256 channels, 8191 bytes of samples)" ball.jxl --max-pixels 2048 --max-bytes 8191
+expect 0 - ball.jxl --max-pixels 2048 --max-bytes 8192
+expect 0 - --help
+grep -q 'max-pixels.*default: 268435456' out
+judge $? 'the help does not say the default of --max-pixels'
+grep -q 'max-bytes.*default: 2147483648' out
+judge $? 'the help does not say the default of --max-bytes'
+expect 2 "error: invalid value 'many'" ball.jxl --max-bytes many
+expect 2 "error: invalid value 'many'" ball.jxl --max-pixels many
+expect 2 "error: " ball.jxl --max-pixels -1
+
+# Outputs that cannot be written.
+expect 1 'jxldec: folder: cannot write: Is a directory (os error 21)' ball.jxl -o folder
+expect 1 'jxldec: none/b.pgm: cannot write: No such file or directory (os error 2)' ball.jxl -o none/b.pgm
+if [ -e /dev/full ]; then
+    expect 1 'jxldec: /dev/full: cannot write: No space left on device (os error 28)' ball.jxl -o /dev/full
+    "$program" ball.jxl > /dev/full 2> err
+    test "$?$(cat err)" = '1jxldec: standard output: cannot write: No space left on device (os error 28)'
+    judge $? "standard output that is full -> $(cat err)"
+fi
+
+# A pipe that is closed before the program writes: status 1, and silence.
+{
+    sleep 1
+    "$program" ball.jxl 2> err
+    echo $? > status
+} | true
+test "$(cat status)$(cat err)" = 1
+judge $? "a closed pipe -> $(cat status): $(cat err)"
+
+echo "commands: $right right, $wrong wrong"
+test "$wrong" -eq 0
