@@ -1,5 +1,5 @@
-//! Checks rows of tables of JPEG XL files, of decoders of entropy codes and of commands, which come on standard input: each
-//! says what is asked, and what is expected of it. A line that begins with # says what the rows after it are.
+//! Checks rows of tables of JPEG XL files, of decoders of entropy codes and of commands, files that the arguments name:
+//! each row says what is asked, and what is expected of it. A line that begins with # says what the rows after it are.
 #![tactic(auto)]
 
 mod answers;
@@ -17,9 +17,10 @@ mod told;
 mod words;
 mod writing;
 
-use check_rows::Row;
+use check_rows::{Kinds, Row, check_arguments};
 use std::alloc::Global;
 use std::io;
+use std::process::ExitCode;
 
 /// What comes of a row of a file, or of a decoder of entropy codes.
 fn seen_of_files(alloc: Global, row: &Row<'_>) -> Option<String> {
@@ -57,25 +58,18 @@ fn seen_of_commands(alloc: Global, row: &Row<'_>) -> Option<String> {
     }
 }
 
-/// What comes of a row, by its kind; none where the row cannot be read.
-fn seen(alloc: Global, row: &Row<'_>) -> Option<String> {
-    if let Some(seen) = seen_of_files(alloc, row) {
-        return Some(seen);
+/// The kinds of rows of files, of decoders of entropy codes and of commands.
+struct FileRows;
+
+impl Kinds for FileRows {
+    fn seen(alloc: Global, row: &Row<'_>) -> Option<String> {
+        if let Some(seen) = seen_of_files(alloc, row) {
+            return Some(seen);
+        }
+        seen_of_commands(alloc, row)
     }
-    seen_of_commands(alloc, row)
 }
 
-fn main(rt: HostRuntime) -> io::Result<()> {
-    let mut rows = 0u64;
-    for line in rt.lines(rt.alloc()) {
-        let line = line?;
-        let Some(row) = Row::parse(line.as_str()) else {
-            continue;
-        };
-        if let Some(seen) = row.fault(rt.alloc(), seen(rt.alloc(), &row))? {
-            println!(rt; "wrong: {line}\n  seen: {seen}")?;
-        }
-        rows = rows.saturating_add(1);
-    }
-    println!(rt; "{rows} rows")
+fn main(rt: HostRuntime) -> io::Result<ExitCode> {
+    check_arguments::<FileRows>(&rt)
 }

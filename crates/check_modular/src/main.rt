@@ -1,4 +1,4 @@
-//! Checks rows of tables, which come on standard input: each says what is asked, and what is expected of it. A line
+//! Checks rows of tables, files that the arguments name: each row says what is asked, and what is expected of it. A line
 //! that begins with # says what the rows after it are.
 #![tactic(auto)]
 
@@ -15,11 +15,12 @@ mod within;
 use crate::encoded::Format;
 use check_examples::bytewise::Bytewise;
 use check_images::{picture, sections, viewer};
-use check_rows::Row;
+use check_rows::{Kinds, Row, check_arguments};
 use jxl_modular::plain::{PlainDecoder, PlainDecoder2};
 use jxlm_fault::fault::FaultDecoder;
 use std::alloc::Global;
 use std::io;
+use std::process::ExitCode;
 
 /// What comes of a row of what an image is read by.
 fn seen_of_reading(alloc: Global, row: &Row<'_>) -> Option<String> {
@@ -81,31 +82,24 @@ fn seen_of_encoder(alloc: Global, row: &Row<'_>) -> Option<String> {
     }
 }
 
-/// What comes of a row, by its kind; none where the row cannot be read.
-fn seen(alloc: Global, row: &Row<'_>) -> Option<String> {
-    if let Some(seen) = seen_of_images(alloc, row) {
-        return Some(seen);
+/// The kinds of rows of Modular images.
+struct ModularRows;
+
+impl Kinds for ModularRows {
+    fn seen(alloc: Global, row: &Row<'_>) -> Option<String> {
+        if let Some(seen) = seen_of_images(alloc, row) {
+            return Some(seen);
+        }
+        if let Some(seen) = seen_of_reading(alloc, row) {
+            return Some(seen);
+        }
+        if let Some(seen) = seen_of_trees(alloc, row) {
+            return Some(seen);
+        }
+        seen_of_encoder(alloc, row)
     }
-    if let Some(seen) = seen_of_reading(alloc, row) {
-        return Some(seen);
-    }
-    if let Some(seen) = seen_of_trees(alloc, row) {
-        return Some(seen);
-    }
-    seen_of_encoder(alloc, row)
 }
 
-fn main(rt: HostRuntime) -> io::Result<()> {
-    let mut rows = 0u64;
-    for line in rt.lines(rt.alloc()) {
-        let line = line?;
-        let Some(row) = Row::parse(line.as_str()) else {
-            continue;
-        };
-        if let Some(seen) = row.fault(rt.alloc(), seen(rt.alloc(), &row))? {
-            println!(rt; "wrong: {line}\n  seen: {seen}")?;
-        }
-        rows = rows.saturating_add(1);
-    }
-    println!(rt; "{rows} rows")
+fn main(rt: HostRuntime) -> io::Result<ExitCode> {
+    check_arguments::<ModularRows>(&rt)
 }
