@@ -30,13 +30,13 @@ pub enum FrameError {
     Samples(Error),
     /// Out of memory.
     #[error("out of memory")]
-    NoMemory,
+    OutOfMemory,
 }
 
 impl From<OutOfMemory> for FrameError {
-    ghost use Rattle.jxl_lossless.specs.declared.still.error.FrameError.TheVariants.{NoMemory};
+    ghost use Rattle.jxl_lossless.specs.declared.still.error.FrameError.TheVariants.{OutOfMemory};
 
-    ghost from_gives = { λ _ e. e ≡ NoMemory };
+    ghost from_gives = { λ _ e. e ≡ OutOfMemory };
 
     fn from(_error: OutOfMemory) -> FrameError {
         FrameError::OutOfMemory
@@ -45,9 +45,9 @@ impl From<OutOfMemory> for FrameError {
 
 /// `OutOfMemory`, so that `?` serves on `push`; the value is dropped.
 impl<T: Drop> From<AllocFailed<T>> for FrameError {
-    ghost use Rattle.jxl_lossless.specs.declared.still.error.FrameError.TheVariants.{NoMemory};
+    ghost use Rattle.jxl_lossless.specs.declared.still.error.FrameError.TheVariants.{OutOfMemory};
 
-    ghost from_gives = { λ _ e. e ≡ NoMemory };
+    ghost from_gives = { λ _ e. e ≡ OutOfMemory };
 
     fn from(_error: AllocFailed<T>) -> FrameError {
         FrameError::OutOfMemory
