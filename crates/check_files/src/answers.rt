@@ -45,7 +45,7 @@ fn about(text: &mut String, decoder: &EntropyDecoder) -> Option<()> {
     Some(())
 }
 
-/// Adds so many tokens of a context, up to an error.
+/// Adds this number of tokens of a context, up to an error.
 fn tokens(
     text: &mut String,
     asked: &mut Asked<'_>,
@@ -61,8 +61,8 @@ fn tokens(
     Some(Ok(()))
 }
 
-/// Adds so many tokens of a context that are read together into a list of sevens: the list, and where an error ended
-/// them, how many there are, and the error. The words after it are asked where that left decoder and reader.
+/// Adds this number of tokens of a context that are read together into a list of sevens: the list, and where an error
+/// ended them, how many there are, and the error. The words after it are asked where that left decoder and reader.
 fn together(text: &mut String, asked: &mut Asked<'_>, context: u32, count: usize) -> Option<()> {
     let cluster = *asked.decoder.cluster_map().get(context as usize)?;
     let mut room = [7; 80];
@@ -93,7 +93,7 @@ fn of_word(
     tokens(text, asked, context, count)
 }
 
-/// Passes so many bits, or those that there are.
+/// Passes this number of bits, or those that there are.
 fn skip(bits: &mut Bitstream<'_>, n: u32) {
     for _ in 0..n {
         let _ = bits.read_bits(1);
@@ -101,7 +101,7 @@ fn skip(bits: &mut Bitstream<'_>, n: u32) {
 }
 
 /// Adds what a word asks for: to begin, to end, what the decoder is, the reader's position, or tokens; `m` and a number
-/// is the multiplier of those that follow, `skip` and a number passes so many bits.
+/// is the multiplier of those that follow, `skip` and a number passes this number of bits.
 fn ask(text: &mut String, asked: &mut Asked<'_>, word: &str) -> Option<Result<(), DecoderError>> {
     if let Some(digits) = word.strip_prefix('m') {
         asked.multiplier = number(digits)?;

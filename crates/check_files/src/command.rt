@@ -8,7 +8,8 @@
 //! `text ARGUMENTS | TEXT -> STATUS | BYTES | ERRORS` is the same of a text, whose lines end with a slash, too; what is
 //! written on standard output is hexadecimal.
 //!
-//! `report FAILURE ROOM -> STATUS | ERRORS` is what is said of a failure where standard error takes so many bytes.
+//! `report FAILURE ROOM -> STATUS | ERRORS` is what is said of a failure where standard error takes this number of
+//! bytes.
 
 use crate::streams::{BrokenReader, SmallWriter};
 use check_rows::{number, repeated, word};
@@ -120,7 +121,7 @@ pub fn seen_of_broken_input(alloc: Global, asked: &str) -> Option<String> {
     written(alloc, status, &output, &errors)
 }
 
-/// What it does where the output takes so many bytes, which it can pass on or not.
+/// What it does where the output takes this number of bytes, which it can pass on or not.
 pub fn seen_of_full_output(alloc: Global, asked: &str, flushes: bool) -> Option<String> {
     let (room, asked) = word(asked);
     let command = Command::parse(alloc, asked)?;

@@ -17,7 +17,7 @@ fn tell_depth(text: &mut String, depth: BitDepth) -> Option<()> {
     }
 }
 
-/// Adds what is told of how the image is shown, where that is not the usual.
+/// Adds what the header says of how the image is shown, where that is not the usual.
 fn tell_display(text: &mut String, display: Display) -> Option<()> {
     if display.orientation != 1 {
         write!(text, " turned {}", display.orientation).ok()?;

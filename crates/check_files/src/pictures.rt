@@ -65,7 +65,7 @@ pub fn seen_of_beginnings(alloc: Global, asked: &str) -> Option<String> {
     Some(text)
 }
 
-/// How many sections were told of, and of how many the last of them was one.
+/// For how many sections a `Progress` was called, and of how many the last of them was one.
 #[derive(Drop)]
 struct Told {
     sections: u64,
@@ -79,8 +79,8 @@ impl Progress for Told {
     }
 }
 
-/// A row asks with the bytes of a file. It gives how many sections of its frames were told of while it was decoded, and
-/// how many sections with samples the last of these frames has.
+/// A row asks with the bytes of a file. It gives how many sections of its frames a `Progress` was called for while it
+/// was decoded, and how many sections with samples the last of these frames has.
 pub fn seen_of_sections(alloc: Global, asked: &str) -> Option<String> {
     let file = bytes(alloc, asked)?;
     let mut told = Told { sections: 0, of: 0 };

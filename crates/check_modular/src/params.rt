@@ -7,7 +7,7 @@ use jxl_modular::bits::{Bitstream, BitstreamError, U32Spec};
 use jxl_modular::plain::PlainDecoder;
 use std::alloc::{AllocError, Global};
 
-/// What a word asks of the reader: a flag, a number of four choices, or so many bits.
+/// What a word asks of the reader: a flag, a number of four choices, or a number of bits.
 fn ask(bits: &mut Bitstream<'_>, word: &str) -> Result<u32, BitstreamError> {
     match word {
         "flag" => Ok(u32::from(bits.read_bool()?)),

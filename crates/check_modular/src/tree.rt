@@ -111,7 +111,7 @@ fn described<D: Decoder>(
     format!(in alloc; "{nodes} {depth} {name}: {leaves}").ok()
 }
 
-/// The reader after so many bits.
+/// The reader after this number of bits.
 pub(crate) fn after(bytes: &[u8], before: u32) -> Option<Bitstream<'_>> {
     let mut bits = Bitstream::new(bytes);
     for _ in 0..before {

@@ -13,7 +13,7 @@ use Rattle.jxl_codestream.specs.Orders.{IsOrder, IsBijection}
 use Rattle.jxl_codestream.specs.Inner.Free.{free_below, is_taken, IsNext}
 use Rattle.jxl_codestream.specs.Inner.Counts.{AreDigits, IsBegun}
 
--- so many are left after the first i
+-- this number of are left after the first i
 pub left_after : (code : List ℕ) (n : ℕ) (order : List ℕ) → IsBegun code n order → (i : ℕ) → i ≤ length order → free_below (take i order) n + i ≡ n
 left_after code n order o zero h = let e = free_all n in omega (arith, e)
 left_after code n order o (suc i) h =
@@ -31,7 +31,7 @@ next_at code n order o i h = leads_to n (take i order) (slice_index_or code i 0)
 begun : (code : List ℕ) (n : ℕ) (order : List ℕ) → IsOrder code n order → IsBegun code n order
 begun code n order o = record { each = λ i h. next_at code n order o i (omega (arith, h, o.length)) }
 
--- a number that is among the first so many stands at one of these places
+-- a number that is among the first this number of stands at one of these places
 abbrev StandsBelow : List ℕ → ℕ → ℕ → Type 0
 StandsBelow order v i = (j : ℕ) × (j < i) × (slice_index order j ≡ v)
 

@@ -139,7 +139,7 @@ module _ {D : Type 0} (d : Meaning D) (limits : Limits) (bytes : List ℕ) where
       subst (λ k. AreBefore d limits bytes image (fs ++ f ∷ []) (k + end_of f.entries) (n + cells_of (frame_size image.size f.header))) start
       (OneMore fs n f (subst (λ k. AreBefore d limits bytes image fs k n) (sym start) before) stands saved)
 
-  -- the image header stands there
+  -- the bits code the image header
   pub image_before : {image : Image} {fs : List FrameAt} {q n : ℕ} → AreBefore d limits bytes image fs q n → (p : ℕ) × ImageStands d limits bytes image p
   image_before (NoFrame end padding p stands passed) = (end, stands)
   image_before (OneMore fs n f before stands saved) = image_before before
@@ -197,7 +197,7 @@ both false b e = absurd (no e) where
   no : false ≡ true → ⊥
   no e = cc
 
--- where sections end that lie within so many bytes
+-- where sections end that lie within this number of bytes
 pub end_within : (most : ℕ) (entries : List TocEntry) → list_all (is_within most) entries ≡ true → end_of entries ≤ most
 end_within most [] all = omega arith
 end_within most (e ∷ es) all =

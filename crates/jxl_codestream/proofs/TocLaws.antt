@@ -1,4 +1,4 @@
--- Tables of contents and profiles are read exactly: what is read stands there, and what stands there is read.
+-- Tables of contents and profiles are read exactly: the parser returns exactly what the bits at its position code.
 use Rattle.std.proofs.Common.{◌≡◌, ℕ, ◌+◌, ◌*◌, ◌/◌, ◌%◌, Bool, true, false, List, [], ◌∷◌, ◌++◌, length, Ok, Err, Some, None, Result, refl, ap, sym}
 use Rattle.std.specs.Prelude.{nat_lt, nat_le, codes, if◌then◌else◌}
 use Rattle.std.proofs.lemmas.Bool.{ltb-false, le-ltb}

@@ -46,11 +46,11 @@ pub record IsReady (bytes : List ℕ) (front : Front) : Type 0 where
   pub shown : IsReadyFrame bytes (image_of front.image) front.shown
   pub covers : frame_size front.image.size (frame_of front.shown.header) ≡ front.image.size
 
--- a frame begins at this byte, after saved frames with so many cells
+-- a frame begins at this byte, after saved frames with this number of cells
 abbrev pub IsNext : {D : Type 0} → Meaning D → Limits → List ℕ → Image → ℕ → ℕ → Type 0
 IsNext d limits bytes image start used = (saved : List FrameAt) × AreBefore d limits bytes image saved start used
 
--- what was read stands there
+-- the bits at this place code what was read
 pub record IsFrontOf {D : Type 0} (d : Meaning D) (limits : Limits) (bytes : List ℕ) (front : Front) : Type 0 where
   pub stands : FrontStands d limits bytes (image_of front.image) (map frame_at front.saved.items) (frame_at front.shown)
   pub ready : IsReady bytes front

@@ -29,7 +29,8 @@ FailsAt field bytes p error = (q : ℕ) × IsErrorAt (field.read bytes p) error 
 abbrev pub between : {D : Type 0} → Meaning D → ℕ → Bool → Grammar ℕ
 between d limit there = either there (profile d limit) (give 0) >>= λ n. aligned
 
--- a frame, as it is told before its sections: the byte where it begins, its header, and where its sections lie from there on
+-- a frame, as its header describes it before its sections: the byte where it begins, its header, and where its sections lie from
+-- there on
 pub record FrameAt : Type 0 where
   pub start : ℕ
   pub header : Frame
@@ -49,7 +50,8 @@ module _ {D : Type 0} (d : Meaning D) (limits : Limits) (bytes : List ℕ) where
   abbrev pub ImageStands : Image → ℕ → Type 0
   ImageStands image p = StandsAt image_header bytes 0 image p × (image_refusal image ≡ None) × Allow limits image
 
-  -- A frame's header stands at this byte, up to bit q from there: it is supported, and after so many cells within the limits.
+  -- A frame's header stands at this byte, up to bit q from there: it is supported, and after this number of cells within the
+  -- limits.
   abbrev pub FrameGoesOn : Image → ℕ → ℕ → Frame → ℕ → Type 0
   FrameGoesOn image start used frame q = StandsAt (frame_header image) (drop start bytes) 0 frame q × (frame_refusal image frame ≡ None)
       × AllowFrame limits image used (frame_size image.size frame)
@@ -66,18 +68,18 @@ module _ {D : Type 0} (d : Meaning D) (limits : Limits) (bytes : List ℕ) where
   FrameStands image used frame = ContentsStand image frame.start used frame.header frame.entries
       × (list_all (is_within (length (drop frame.start bytes))) frame.entries ≡ true)
 
-  -- These saved frames, with so many cells together, stand one after another before the frame that begins at this byte. The first
-  -- frame begins after the image header and what comes between them.
+  -- These saved frames, with this number of cells together, stand one after another before the frame that begins at this byte.
+  -- The first frame begins after the image header and what comes between them.
   pub data AreBefore (image : Image) : List FrameAt → ℕ → ℕ → Type 0 where
     NoFrame : (end padding p : ℕ) → ImageStands image end → StandsAt (between d limits.profile image.shown.colour_encoding.want_icc) bytes end padding p → AreBefore image [] (p / 8) 0
     OneMore : (saved : List FrameAt) (used : ℕ) (f : FrameAt) → AreBefore image saved f.start used → FrameStands image used f → is_saved f.header ≡ true →
         AreBefore image (saved ++ f ∷ []) (f.start + end_of f.entries) (used + cells_of (frame_size image.size f.header))
 
-  -- The image header and saved frames stand there, and after them the frame that is shown.
+  -- The codestream has the image header and these saved frames, and after them the frame that is shown.
   abbrev pub FrontStands : Image → List FrameAt → FrameAt → Type 0
   FrontStands image saved shown = (used : ℕ) × AreBefore image saved shown.start used × FrameStands image used shown × (is_saved shown.header ≡ false)
 
-  -- where a frame begins: after saved frames with so many cells
+  -- where a frame begins: after saved frames with this number of cells
   pub record Next : Type 0 where
     pub image : Image
     pub saved : List FrameAt

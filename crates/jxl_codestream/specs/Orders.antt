@@ -32,7 +32,7 @@ abbrev pub one_more : {S : Type 0} → Meaning S → ℕ → List ℕ → Tokens
 one_more d n code = token d (context_of (slice_index_or code (length code - 1) 0)) (λ v.
     either (nat_lt (v + length code) n) (give (code ++ v ∷ [])) (fail (BadEnum (codes "permutation") v)))
 
--- the Lehmer code of an order of n numbers: how many digits are told, at most n, and these
+-- the Lehmer code of an order of n numbers: how many digits are coded, at most n, and these
 abbrev pub lehmer_code : {S : Type 0} → Meaning S → ℕ → Grammar (List ℕ)
 lehmer_code d n = coded_tokens d 8
     (token d (context_of n) (λ v. number_meant (codes "permutation") (nat_le v n) v) >>= λ told. chained (one_more d n) told [])

@@ -4,7 +4,7 @@ use Rattle.jxlm_bits.specs.Grammar.{Grammar, flag, ◌>>=◌}
 use Rattle.jxl_image_header.specs.Fields.{skipped, told_if, when}
 use Rattle.jxl_image_header.specs.declared.size.Size.{Size}
 
--- three floats of 16 bits, where they are told, which Modular does not use; and whether a tree follows that sections share
+-- three floats of 16 bits, if the header signals them, which Modular does not use; and whether a tree follows that sections share
 abbrev pub section_start : Grammar Bool
 section_start = told_if true >>= λ told. when told (skipped 6) tt >>= λ u. flag
 

@@ -11,8 +11,8 @@ use Rattle.jxl_codestream.specs.Orders.{IsOrder, lehmer_code}
 use Rattle.jxl_codestream.specs.declared.toc.TocEntry.{TocEntry}
 use Rattle.jxl_codestream.specs.declared.toc.Toc.{Toc}
 
--- What is told: the Lehmer code of the order in which sections stand (none where they stand in their own), the sizes of the
--- sections in bytes, as they stand, and the byte where the first begins.
+-- What the table says: the Lehmer code of the order in which sections stand (none where they stand in their own), the sizes of
+-- the sections in bytes, as they stand, and the byte where the first begins.
 pub record Table : Type 0 where
   pub code : List ℕ
   pub sizes : List ℕ
@@ -48,11 +48,11 @@ abbrev pub TocReads : Result Toc Error → ℕ → Result (Found Table) ErrorAt 
 TocReads (Ok toc) q reading = (table : Table) × (reading ≡ Ok (record { value = table; position = q })) × IsToc table toc.entries.items
 TocReads (Err e) q reading = UnlessMemory (kind_of e) (IsErrorAt reading (kind_of e) q)
 
--- a section lies within so many bytes
+-- a section lies within this number of bytes
 abbrev pub is_within : ℕ → TocEntry → Bool
 is_within length entry = nat_le (entry.offset + entry.size) length
 
--- Section k is the first, by number, that does not lie within so many bytes.
+-- Section k is the first, by number, that does not lie within this number of bytes.
 pub record IsFirstTruncated (length : ℕ) (entries : List TocEntry) (k : ℕ) : Type 0 where
   pub entry : TocEntry
   pub there : slice_get entries k ≡ Some entry

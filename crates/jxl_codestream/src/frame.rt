@@ -45,7 +45,7 @@ fn cells_of(size: Size) -> u64
     u64::from(size.width) * u64::from(size.height)
 }
 
-// Whether a frame of this size, after others with so many cells, is within the limits.
+// Whether a frame of this size, after others with this number of cells, is within the limits.
 fn allows(limits: &Limits, image: &ImageHeader, used: u64, size: Size) -> bool
     requires many { channel_count (image_of image.now) ≤ 2 ^ 20 }
     ensures { IsTrue result ↔ AllowFrame limits.now (image_of image.now) used size }
@@ -66,7 +66,7 @@ fn allows(limits: &Limits, image: &ImageHeader, used: u64, size: Size) -> bool
     }
 }
 
-// The last byte that one of these sections reaches; they lie within so many bytes.
+// The last byte that one of these sections reaches; they lie within this number of bytes.
 fn end_of(entries: &[TocEntry], most: u64) -> u64
     requires within { list_all (is_within most) entries.now ≡ true }
     ensures end { result ≡ the_end_of entries.now }
@@ -82,7 +82,7 @@ fn end_of(entries: &[TocEntry], most: u64) -> u64
     end
 }
 
-/// Where a frame of a codestream begins, after others with so many cells.
+/// Where a frame of a codestream begins, after others with this number of cells.
 #[derive(Clone, Copy)]
 struct Start<'a> {
     bytes: &'a [u8],
@@ -164,8 +164,8 @@ impl Start<'_> {
 impl FrameFront {
     ghost use Rattle.jxl_codestream.specs.FrontParts.{IsNext, IsReadyFrame, frame_at};
 
-    /// What a frame tells that begins at this byte, after others with so many cells: it is supported, with these within
-    /// the limits, and all its sections lie in the codestream.
+    /// What a frame tells that begins at this byte, after others with this number of cells: it is supported, with these
+    /// within the limits, and all its sections lie in the codestream.
     pub fn read<D: Decoder>(
         alloc: Global,
         bytes: &[u8],
@@ -213,7 +213,7 @@ impl FrameFront {
         })
     }
 
-    /// How many cells there are with those of this frame, which are at most so many.
+    /// How many cells there are with those of this frame, which are at most this number.
     pub fn cells_with(&self, image: &ImageHeader, used: u64, most: u64) -> u64
         requires within { used + the_cells_of (frame_size image.now.size (frame_of self.now.header)) ≤ most }
         ensures { result ≡ used + the_cells_of (frame_size image.now.size (frame_of self.now.header)) }

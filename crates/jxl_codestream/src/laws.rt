@@ -8,12 +8,12 @@ ghost use Rattle.jxl_codestream.specs.Profiles.{profile};
 
 use jxlm_bits::decoder::Decoder;
 
-/// What is read as a table of contents stands there, and what stands there is read.
+/// The parser returns a table of contents exactly if the bits at its position code it.
 pub fn tables_are_read_exactly<D: Decoder>()
     ensures { (count : ℕ) → IsExact (toc D.meaning count) }
 {}
 
-/// What is read as a profile stands there, and what stands there is read.
+/// The parser returns a profile exactly if the bits at its position code it.
 pub fn profiles_are_read_exactly<D: Decoder>()
     ensures { (limit : ℕ) → IsExact (profile D.meaning limit) }
 {}

@@ -25,7 +25,7 @@ fn context_of(v: u32) -> u32
     few + more + u32::from(v >= 64)
 }
 
-/// A decoder of so many contexts, at the begin of its tokens.
+/// A decoder of this number of contexts, at the begin of its tokens.
 pub fn decoder<D: Decoder>(alloc: Global, bits: &mut Bitstream<'_>, contexts: u32) -> Result<D>
     ensures gives { Decodes (λ v. v) result (position_of bits.new)
         ((the_decoder D.meaning contexts).read (bytes_of bits.old) (position_of bits.old)) }
@@ -119,7 +119,7 @@ fn digits<D: Decoder>(
     Ok(code)
 }
 
-/// The Lehmer code of an order of so many numbers, by a decoder that comes first.
+/// The Lehmer code of an order of this number of numbers, by a decoder that comes first.
 pub fn lehmer_code<D: Decoder>(
     alloc: Global,
     bits: &mut Bitstream<'_>,
@@ -168,7 +168,7 @@ fn all_free(alloc: Global, levels: u32) -> Result<Vec<u32>>
     Ok(counts)
 }
 
-// The number that was not taken, where so many before it were not.
+// The number that was not taken, where this number before it were not.
 fn find(counts: &[u32], levels: u32, digit: u32) -> u32
     requires small { levels ≤ 24 }
     requires nodes { length counts.now ≡ 2 * 2 ^ levels }
@@ -240,7 +240,7 @@ fn turns(
     Ok(order)
 }
 
-/// The order of so many numbers that a Lehmer code tells.
+/// The order of this number of numbers that a Lehmer code tells.
 pub fn taken_in_turn(alloc: Global, code: &[u32], count: u32) -> Result<Vec<u32>>
     requires few { count ≤ 2 ^ 24 }
     requires digits { AreDigits code.now count }

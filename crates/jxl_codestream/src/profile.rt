@@ -80,7 +80,7 @@ fn length_within(bits: &mut Bitstream<'_>, limit: u64) -> fields::Result<u64>
     }
 }
 
-// So many bytes.
+// This number of bytes.
 fn bytes<D: Decoder>(decoder: &mut D, bits: &mut Bitstream<'_>, count: u64) -> Result<()>
     requires { length (D.meaning.cluster_map decoder.old) ≡ 41 }
     ensures gives { StateReads result decoder.new (position_of bits.new)

@@ -22,7 +22,8 @@ pub fn section_start(bits: &mut Bitstream<'_>) -> Result<bool>
     bits.read_bool()
 }
 
-/// The limit of nodes of that tree, in a frame of this size with so many channels: it may have one node more than this.
+/// The limit of nodes of that tree, in a frame of this size with this number of channels: it may have one node more
+/// than this.
 pub fn tree_limit(size: Size, channels: u64) -> usize
     ensures { result ≡ the_tree_limit size channels }
 {

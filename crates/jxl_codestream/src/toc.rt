@@ -36,7 +36,7 @@ pub struct Toc {
     pub entries: Vec<TocEntry>,
 }
 
-// What is told.
+// What the table says.
 #[derive(Drop)]
 struct Table {
     code: Vec<u32>,
@@ -44,7 +44,7 @@ struct Table {
     start: u64,
 }
 
-// Whether so many sizes can be there.
+// Whether this number of sizes can be there.
 fn room(bits: &Bitstream<'_>, count: u32) -> fields::Result<()>
     ensures { Reads (λ v. v) result (position_of bits.now)
         ((the_room (12 * count)).read (bytes_of bits.now) (position_of bits.now)) }
@@ -173,8 +173,9 @@ fn placed(alloc: Global, table: &Table) -> Result<Vec<TocEntry>>
 }
 
 impl Toc {
-    /// The table of contents of a frame of so many sections that stands at the reader's position. The reader is left
-    /// where the first section in the file begins. Whether the sections are there is not looked at; `truncated` tells.
+    /// The table of contents of a frame of this number of sections that stands at the reader's position. The reader is
+    /// left where the first section in the file begins. Whether the sections are there is not looked at; `truncated`
+    /// tells.
     ///
     /// Where the table is permuted, the decoder reads its order.
     ///
@@ -198,7 +199,7 @@ impl Toc {
 }
 
 impl TocEntry {
-    /// Whether the section ends within so many bytes.
+    /// Whether the section ends within this number of bytes.
     pub fn is_within(&self, length: u64) -> bool
         ensures { result ≡ the_is_within length self.now }
     {
@@ -216,7 +217,7 @@ impl TocEntry {
 }
 
 impl Toc {
-    /// The first section, by number, that does not end within so many bytes; none where all do.
+    /// The first section, by number, that does not end within this number of bytes; none where all do.
     pub fn truncated(&self, length: u64) -> Option<usize>
         ensures some { IfSome result (λ k. IsFirstTruncated length self.now.entries.items k) }
         ensures none { IfNone result (list_all (the_is_within length) self.now.entries.items ≡ true) }

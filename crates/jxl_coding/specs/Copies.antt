@@ -34,7 +34,7 @@ special_distances =
 abbrev pub special_distance : ℕ → ℕ → ℕ
 special_distance distance which = get_or (get_or special_distances distance []) which 0
 
--- how many tokens back a place near by is, where rows have so many; at least 1
+-- how many tokens back a place near by is, where rows have this number of them; at least 1
 abbrev pub back_to : ℕ → ℕ → ℕ → ℕ
 back_to columns rows multiplier = max 1 (columns + rows * multiplier - 8)
 
@@ -53,7 +53,7 @@ pub record Ring : Type 0 where
 abbrev pub empty_ring : Ring
 empty_ring = record { tokens = []; place = 0 }
 
--- the token so many back; 0 where there is none
+-- the token this number of tokens back; 0 where there is none
 abbrev pub ring_token : Ring → ℕ → ℕ
 ring_token ring distance = if distance == 0 then 0 else slice_index_or ring.tokens ((ring.place + window_size - distance) % window_size) 0
 

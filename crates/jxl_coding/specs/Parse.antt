@@ -109,7 +109,7 @@ abbrev pub codes_by : List ℕ → Option Lz77 → Coder → ℕ → Coded → C
 codes_by clusters lz77 coder bucket_size s =
     record { clusters = clusters; lz77 = lz77; cluster_codes = s.cluster_codes; coder = coder; bucket_size = bucket_size; symbols = s.symbols; buckets = s.buckets }
 
--- the codes of so many clusters, by codewords
+-- the codes of this number of clusters, by codewords
 unfoldable pub prefix_codes_at : List ℕ → Option Lz77 → ℕ → List ℕ → ℕ → Result (Found Codes) DecoderError
 prefix_codes_at clusters lz77 n bytes p = do
   configs ← steps (list_and_one (λ all q. config_at all 15 q)) n [] bytes p
@@ -123,7 +123,7 @@ log_at bytes p = do
   more ← number_at bytes p 2
   Ok (record { value = more.value + 5; position = more.position })
 
--- the codes of so many clusters, by slots
+-- the codes of this number of clusters, by slots
 unfoldable pub ans_codes_at : List ℕ → Option Lz77 → ℕ → List ℕ → ℕ → Result (Found Codes) DecoderError
 ans_codes_at clusters lz77 n bytes p = do
   log ← log_at bytes p
@@ -131,7 +131,7 @@ ans_codes_at clusters lz77 n bytes p = do
   all ← steps (distribution_step configs.value log.value) n nothing_coded bytes configs.position
   Ok (record { value = codes_by clusters lz77 ByAns (whole / 2 ^ log.value) all.value; position = all.position })
 
--- the codes of so many clusters
+-- the codes of this number of clusters
 unfoldable pub clusters_codes_at : List ℕ → Option Lz77 → ℕ → List ℕ → ℕ → Result (Found Codes) DecoderError
 clusters_codes_at clusters lz77 n bytes p = do
   prefix ← number_at bytes p 1

@@ -22,7 +22,7 @@ pub record Has (b : Buckets) (at : Place) (symbol number : ℕ) : Type 0 where
   pub its : at.place < b.own at.bucket → (at.bucket ≡ symbol) × (at.place ≡ number)
   pub others : b.own at.bucket ≤ at.place → (b.other at.bucket ≡ symbol) × (b.first at.bucket + (at.place - b.own at.bucket) ≡ number)
 
--- Each bucket has so many places, and each place a symbol and a number below its count, one place for each.
+-- Each bucket has this number of places, and each place a symbol and a number below its count, one place for each.
 pub record Laid (n : ℕ) (count : ℕ → ℕ) (b : Buckets) (size : ℕ → ℕ) (where_is : ℕ → ℕ → Place) : Type 0 where
   pub own_count : (i : ℕ) → i < n → b.own i ≤ count i
   pub own_size : (i : ℕ) → i < n → b.own i ≤ size i

@@ -1,4 +1,4 @@
--- What is read is the symbol whose codeword stands there.
+-- What is read is the symbol whose codeword is at the reader's position.
 use Rattle.std.specs.Prelude.{◌≡◌, ◌≢◌, ℕ, zero, suc, ◌+◌, ◌-◌, ◌*◌, ◌/◌, ◌%◌, ◌^◌, ◌<◌, ◌≤◌, List, [], ◌∷◌, ◌++◌, length, take, Bool, true, false, cond, nat_lt, ◌==◌, Result, Ok, slice_index, slice_index_or}
 use Rattle.std.proofs.Common.{refl, sym, ap, subst, ◌∙◌, inl, inr, arith}
 use Rattle.std.proofs.lemmas.Bool.{cases_order, cases_lt, cases_eq}
@@ -24,7 +24,7 @@ module _ (lengths bytes : List ℕ) (p : ℕ) where
   abbrev bits : ℕ → ℕ
   bits n = leading_bits_at bytes p n
 
-  -- the first codeword that is longer than so many bits, less its last bit
+  -- the first codeword that is longer than this number of bits, less its last bit
   abbrev longer_from : ℕ → ℕ
   longer_from l = first_codeword lengths l + codewords_of lengths l
 

@@ -136,7 +136,7 @@ no_widest all = record {
   told = λ some. absurd (omega (arith, some));
 }
 
--- of the counts that were read, where so many are left: that of the widest is not yet there
+-- of the counts that were read, where this number of are left: that of the widest is not yet there
 record AreCounts (all widest left : ℕ) (counts : List ℕ) : Type 0 where
   many : left + length counts ≡ all
   none : slice_index counts widest ≡ 0

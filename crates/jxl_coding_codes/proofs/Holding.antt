@@ -32,7 +32,7 @@ pub of_ok : {A : Type 0} (r : Result A DecoderError) (Q : A → Type 0) (x : A) 
 of_ok (Ok y) Q x h e = rw (ok_same _ _ e) h
 of_ok (Err f) Q x h e = cc
 
--- what each reading keeps, where so many are left
+-- what each reading keeps, where this number of are left
 pub steps_keep : {X : Type 0} (step : X → List ℕ → ℕ → Result (Found X) DecoderError) (Inv : ℕ → X → Type 0) →
     ((k : ℕ) (x : X) (bytes : List ℕ) (p : ℕ) → Inv (suc k) x → IfOk (step x bytes p) (λ f. Inv k f.value)) →
     (n : ℕ) (x : X) (bytes : List ℕ) (p : ℕ) → Inv n x → IfOk (steps step n x bytes p) (λ f. Inv 0 f.value)

@@ -53,7 +53,7 @@ none_left : (symbols : List ℕ) (code place : ℕ) (a : List ℕ) (p : ℕ) (f 
 unfolding codeword_at
 none_left symbols code place a p f h = cc
 
--- The codeword that was read has so many bits, and is read wherever these stand.
+-- The codeword that was read has this number of bits, and is read wherever these stand.
 record Anywhere (counts symbols : List ℕ) (code place : ℕ) (a : List ℕ) (p : ℕ) (f : Found ℕ) : Type 0 where
   pub many : ℕ
   pub end : f.position ≡ p + many

@@ -45,7 +45,7 @@ next a n lt = omega arith
 below_next : (x m r y : ℕ) → y ≡ x + m → r < m → x + r < y
 below_next x m r y e lt = omega arith
 
--- a number of so many parts and a rest
+-- a number of this number of parts and a rest
 below : (a n m r : ℕ) → a < n → r < m → a * m + r < n * m
 below a n m r lt less =
     let up : suc a * m ≤ n * m = mul-le-mul_right m (next a n lt) in
@@ -118,7 +118,7 @@ module _ (split high low : ℕ) (tells : high + low ≤ split) where
   abbrev lower : ℕ → ℕ
   lower symbol = symbol % 2 ^ low
 
-  -- the split is a multiple of what is told
+  -- the split is a multiple of what is coded
   split_parts : 2 ^ split ≡ 2 ^ (split - (high + low)) * known
   split_parts = subst (λ (n : ℕ). 2 ^ n ≡ 2 ^ (split - (high + low)) * known) (sym (off_and_on split (high + low) tells)) (pow-add 2 (split - (high + low)) (high + low))
 

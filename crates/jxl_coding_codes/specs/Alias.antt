@@ -85,7 +85,7 @@ abbrev pub filled_one : ℕ → Filling → Filling
 filled_one bucket_size s =
     if length s.overfull == 0 then s else if length s.underfull == 0 then s else filled_up s bucket_size (last_of s.overfull) (last_of s.underfull)
 
--- so many times
+-- repeated this number of times
 unfoldable pub filled_by : ℕ → ℕ → Filling → Filling
 filled_by bucket_size zero s = s
 filled_by bucket_size (suc n) s = filled_one bucket_size (filled_by bucket_size n s)

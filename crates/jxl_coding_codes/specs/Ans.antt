@@ -23,7 +23,7 @@ slot_in bucket i place =
     if nat_lt place bucket.cutoff then record { symbol = i; number = place; count = bucket.count }
     else record { symbol = bucket.alias_symbol; number = (bucket.alias_offset + (place - bucket.cutoff)) % 2 ^ 32; count = bucket.alias_count }
 
--- what a slot stands for, by the buckets from a place on, each of so many slots
+-- what a slot stands for, by the buckets from a place on, each of this number of slots
 abbrev pub slot_of : List Bucket → ℕ → ℕ → ℕ → Slot
 slot_of buckets start bucket_size slot = slot_in (bucket_of buckets ((start + slot / bucket_size) % 2 ^ 32)) (slot / bucket_size) (slot % bucket_size)
 

@@ -32,7 +32,8 @@ few_at bytes p = do
       count ← number_at bytes second.position 12
       Ok (record { value = two_symbols first.value second.value count.value; position = count.position })))
 
--- how often a symbol comes of so many that come as often as each other, the first ones once more where that is not exact
+-- how often a symbol comes of a number of symbols that come as often as each other, the first ones once more where that is not
+-- exact
 abbrev pub even_at : ℕ → ℕ → ℕ
 even_at symbol all = if nat_lt symbol (whole % all) then whole / all + 1 else whole / all
 

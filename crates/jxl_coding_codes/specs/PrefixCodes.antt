@@ -62,7 +62,7 @@ next_symbol_at code bytes p =
     if length code.symbols == 1 then Ok (record { value = slice_index code.symbols 0; position = p })
     else codeword_at code.counts code.symbols 0 0 bytes p
 
--- what a codeword takes of so many shares; none takes nothing
+-- what a codeword takes of this number of shares; none takes nothing
 abbrev pub share : ℕ → ℕ → ℕ
 share whole l = if l == 0 then 0 else whole / 2 ^ l
 
@@ -123,11 +123,11 @@ one_length s l =
 abbrev pub open_run : Lengths → ℕ → ℕ
 open_run s l = if s.of == l then s.run else 0
 
--- how many a run has with a number more, which counts so many times as much as those before
+-- how many a run has with a number more, which counts that many times as much as those before
 abbrev pub longer : ℕ → ℕ → ℕ → ℕ
 longer run times more = (if run == 0 then 0 else (run - 2) * times) + 3 + more
 
--- a run of a length, up to so many; more than the alphabet, or than the room, is refused
+-- a run of a length, up to this number; more than the alphabet, or than the room, is refused
 abbrev pub run_up_to : Lengths → ℕ → ℕ → ℕ → ℕ → Result Lengths DecoderError
 run_up_to s alphabet l before run =
     if nat_lt alphabet (length s.lengths + (run - before)) then Err (refusal_error LengthsOverrun) else

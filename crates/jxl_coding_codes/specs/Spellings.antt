@@ -3,7 +3,7 @@ use Rattle.std.specs.Prelude.{◌≡◌, ℕ, ◌+◌, ◌-◌, ◌/◌, ◌^◌
 use Rattle.jxl_coding_codes.specs.IntegerConfigs.{width_of, whole_of}
 use Rattle.jxl_coding_codes.specs.declared.config.IntegerConfig.{IntegerConfig}
 
--- A symbol that is no token spells this one with so many bits after it as it says; the token has at most 32 bits.
+-- A symbol that is no token spells this one with as many bits after it as it says; the token has at most 32 bits.
 pub record Spells (h : IntegerConfig) (symbol rest token : ℕ) : Type 0 where
   pub beyond : 2 ^ h.split_exponent ≤ symbol
   pub fits : h.split_exponent + (symbol - 2 ^ h.split_exponent) / 2 ^ (h.msb_in_token + h.lsb_in_token) < 32

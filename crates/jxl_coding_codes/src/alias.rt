@@ -218,7 +218,7 @@ fn fill_one(s: &mut Filling, bucket_size: u32) -> Result<(), DecoderError>
     sort(s, bucket_size, full, kept)
 }
 
-/// Settles so many.
+/// Settles this number of buckets.
 fn fill_all(s: &mut Filling, bucket_size: u32, size: u32) -> Result<(), DecoderError>
     ensures ok { OnOk result (filling_seen s.new ≡ all_filled bucket_size size (filling_seen s.old)) }
     ensures err { IfErr result (λ e. e ≡ DecoderError.OutOfMemory) }

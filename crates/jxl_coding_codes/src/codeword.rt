@@ -10,8 +10,8 @@ use crate::refusal::Refusal;
 use jxlm_bits::bits::Bitstream;
 use jxlm_bits::decoder::DecoderError;
 
-/// The symbol of the codeword at the reader's position, where so many codewords have the lengths from 1 on, and their
-/// symbols begin at `start`.
+/// The symbol of the codeword at the reader's position, where this number of codewords have the lengths from 1 on, and
+/// their symbols begin at `start`.
 pub fn codeword(
     bits: &mut Bitstream<'_>,
     counts: &[u32],

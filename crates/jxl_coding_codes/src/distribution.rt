@@ -65,7 +65,7 @@ fn few(alloc: Global, bits: &mut Bitstream<'_>) -> Result<Vec<u32>, DecoderError
     two_symbols(alloc, first, second, count)
 }
 
-/// How often a symbol comes of so many that come as often as each other.
+/// How often a symbol comes of a number of symbols that come as often as each other.
 fn even_count(symbol: u32, all: u32) -> u32
     requires { 0 < all }
     ensures { result ≡ even_at symbol all }

@@ -53,7 +53,7 @@ pub fn no_codeword_begins_another()
         → codeword_of lengths t / 2 ^ (slice_index lengths t - slice_index lengths s) ≢ codeword_of lengths s }
 {}
 
-/// What is read is the symbol whose codeword stands there, and the codeword's bits are what is taken.
+/// What is read is the symbol whose codeword is at the reader's position, and the codeword's bits are what is taken.
 pub fn codewords_are_read()
     ensures { (lengths bytes : List ℕ) (symbol p : ℕ) → length lengths ≤ 2 ^ 15
         → length (prefix_of lengths).symbols ≢ 1 → HasCodeword lengths symbol → StandsAt lengths symbol bytes p

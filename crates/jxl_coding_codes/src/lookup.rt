@@ -160,7 +160,8 @@ impl Lookup {
         Ok(())
     }
 
-    /// The table of a code, where so many codewords have the lengths from 1 on, and their symbols begin at `start`.
+    /// The table of a code, where this number of codewords have the lengths from 1 on, and their symbols begin at
+    /// `start`.
     pub fn new(
         alloc: Global,
         counts: &[u32],

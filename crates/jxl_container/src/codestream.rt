@@ -97,7 +97,7 @@ fn boxed(alloc: Global, file: &[u8]) -> Result<Codestream<'_>, FileError>
 ///
 /// After the signature come boxes up to the end of the file: `ftyp` with the brand `jxl `; among the others `jxlc`
 /// once, whose contents are the codestream, or parts of it, each a `jxlp` with its number from 0 on, the last of
-/// them marked, whose contents after their numbers are joined. What else stands there is skipped. Memory is taken for
+/// them marked, whose contents after their numbers are joined. Other boxes are skipped. Memory is taken for
 /// the joined parts alone.
 ///
 /// # Errors

@@ -146,7 +146,7 @@ fn fault(file: &[u8], seen: Seen, found: FileBox) -> Option<FileError>
     }
 }
 
-/// What there is with one more box, or why it may not stand there.
+/// What there is with one more box, or why it is not allowed there.
 pub fn with(file: &[u8], seen: Seen, found: FileBox) -> Result<Seen, FileError>
     requires within { found.end ≤ length file.now }
     requires ordered { found.body ≤ found.end }

@@ -1,4 +1,4 @@
--- Frame headers are read exactly: what is read stands there, and what stands there is read.
+-- Frame headers are read exactly: the parser returns exactly what the bits at its position code.
 use Rattle.std.proofs.Common.{ℕ, zero, suc, ◌∷◌, ◌-◌, ◌*◌, ◌^◌, Bool, true, false, [], length, Some, None, Option}
 use Rattle.std.specs.Prelude.{nat_lt, nat_le, codes, ◌==◌, ◌&&◌, ◌||◌, not, is_some, if◌then◌else◌}
 use Rattle.std.specs.Option.{option_map_or}

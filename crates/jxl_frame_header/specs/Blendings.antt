@@ -12,7 +12,7 @@ use Rattle.jxl_frame_header.specs.declared.blending.BlendMode.TheVariants.{Repla
 use Rattle.jxl_frame_header.specs.declared.blending.BlendingInfo.{BlendingInfo}
 use Rattle.jxl_frame_header.specs.declared.blending.Ending.{Ending}
 
--- how some channels are blended, in an image with so many extra channels, where some modes look at one of these: alpha
+-- how some channels are blended, in an image with this number of extra channels, where some modes look at one of these: alpha
 unfoldable pub blending_info : Bool → ℕ → Bool → Grammar BlendingInfo
 blending_info there extra partial = do
   n ← when there (checked (codes "BlendMode") (λ v. nat_lt v 5) (u32 (Const 0) (Const 1) (Const 2) (Offset 3 2))) 0

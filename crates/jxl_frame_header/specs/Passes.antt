@@ -24,7 +24,7 @@ in_turn zero field before = give []
 in_turn (suc n) field before = field before >>= λ v. in_turn n field (Some v) >>= λ vs. give (v ∷ vs)
 
 -- The passes of a frame, with no more resolutions than passes; frames that others use have one pass. The factor of a
--- resolution is finer than the one before, and its last pass, which is one of so many, a later one.
+-- resolution is finer than the one before, and its last pass, which is one of this number, a later one.
 unfoldable pub passes : Bool → Grammar Passes
 passes there = do
   count ← when there (u32 (Const 1) (Const 2) (Const 3) (Offset 4 3)) 1

@@ -150,8 +150,8 @@ fn alpha_if(bits: &mut Bitstream<'_>, there: bool, extra: usize) -> Result<u32>
 }
 
 impl BlendingInfo {
-    /// How some channels are blended, in an image with so many extra channels, of a frame that is partial or not.
-    /// `InvalidEnum` for a mode that there is not, and for an alpha channel that there is not.
+    /// How some channels are blended, in an image with this number of extra channels, of a frame that is partial or
+    /// not. `InvalidEnum` for a mode that there is not, and for an alpha channel that there is not.
     pub fn parse(bits: &mut Bitstream<'_>, extra: usize, partial: bool) -> Result<BlendingInfo>
         ensures gives { Reads (λ v. v) result (position_of bits.new)
             ((blending_info true extra partial).read (bytes_of bits.old) (position_of bits.old)) }
@@ -160,7 +160,7 @@ impl BlendingInfo {
         BlendingInfo::parse_if(bits, true, extra, partial)
     }
 
-    /// The same where it is told; else the frame's samples replace others.
+    /// The same if the header signals it; else the frame's samples replace others.
     #[tactic(auto, unfolding(crate::specs::Blendings::blending_info))]
     pub fn parse_if(
         bits: &mut Bitstream<'_>,
@@ -199,7 +199,7 @@ impl BlendingInfo {
     }
 }
 
-// So many extra channels.
+// This number of extra channels.
 fn read_infos(
     alloc: Global,
     bits: &mut Bitstream<'_>,
@@ -219,7 +219,7 @@ fn read_infos(
     Ok(infos)
 }
 
-// So many extra channels, where they are told.
+// This number of extra channels, if the header signals them.
 pub(crate) fn read_infos_if(
     alloc: Global,
     bits: &mut Bitstream<'_>,
@@ -263,7 +263,7 @@ impl Blending {
     }
 }
 
-// For how long a frame is shown, where that is told.
+// For how long a frame is shown, if the header signals it.
 fn duration_if(bits: &mut Bitstream<'_>, there: bool) -> Result<u32>
     ensures gives { Reads (λ v. v) result (position_of bits.new)
         ((when there (u32 (Const 0) (Const 1) (Offset 0 8) (Offset 0 32)) 0).read
@@ -304,8 +304,8 @@ fn may_save_before(
 }
 
 impl Ending {
-    /// What becomes of a frame of this type, as it stands at the reader's position, where it is told, and the frame is
-    /// shown or not; it replaces the whole picture or not.
+    /// What becomes of a frame of this type, as it stands at the reader's position, if the header signals it, and the
+    /// frame is shown or not; it replaces the whole picture or not.
     #[tactic(auto, unfolding(crate::specs::Blendings::ending))]
     pub fn parse(
         bits: &mut Bitstream<'_>,

@@ -119,7 +119,7 @@ impl FrameFlags {
     }
 }
 
-// How much smaller than the picture something is coded, where that is told.
+// How much smaller than the picture something is coded, if the header signals it.
 #[tactic(auto, unfolding(crate::specs::Codings::factor))]
 fn factor_if(bits: &mut Bitstream<'_>, there: bool) -> Result<u32>
     ensures gives { Reads (λ v. v) result (position_of bits.new)
@@ -139,7 +139,7 @@ fn factor_if(bits: &mut Bitstream<'_>, there: bool) -> Result<u32>
 
 impl Coding {
     /// How a frame of an image whose colours are XYB, or are not, is coded, as it stands at the reader's position,
-    /// where that is told.
+    /// if the header signals it.
     #[tactic(auto, unfolding(crate::specs::Codings::coding))]
     pub fn parse(bits: &mut Bitstream<'_>, told: bool, xyb: bool) -> Result<Coding>
         ensures gives { Reads (λ v. v) result (position_of bits.new)

@@ -11,7 +11,7 @@ use jxlm_bits::bits::{Bitstream, U32Spec};
 use jxlm_bits::error;
 use std::alloc::Global;
 
-/// So many `U32` fields of one kind.
+/// This number of `U32` fields of one kind.
 pub fn fields(
     alloc: Global,
     bits: &mut Bitstream<'_>,

@@ -35,7 +35,7 @@ pub struct Closing {
     pub extensions: u64,
 }
 
-/// What is told of a frame before its sections.
+/// What the headers say of a frame before its sections.
 #[derive(Drop)]
 pub struct FrameHeader {
     pub coding: Coding,
@@ -51,7 +51,7 @@ pub struct FrameHeader {
     pub closing: Closing,
 }
 
-// How much smaller than the picture each extra channel is coded, where that is told.
+// How much smaller than the picture each extra channel is coded, if the header signals it.
 fn factors_if(
     alloc: Global,
     bits: &mut Bitstream<'_>,

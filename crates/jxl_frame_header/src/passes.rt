@@ -34,7 +34,7 @@ pub struct Passes {
     pub last_pass: Vec<u32>,
 }
 
-// Numbers of a list that each stand in this order: factors, or last passes of so many.
+// Numbers of a list that each stand in this order: factors, or last passes of this number.
 #[derive(Clone, Copy)]
 enum Order {
     Finer,
@@ -58,7 +58,7 @@ fn shifts(alloc: Global, bits: &mut Bitstream<'_>, count: usize) -> Result<Vec<u
     )
 }
 
-/// So many factors: 1, 2, 4 or 8.
+/// This number of factors: 1, 2, 4 or 8.
 #[tactic(auto, unfolding(crate::specs::Codings::factor))]
 pub fn factors(alloc: Global, bits: &mut Bitstream<'_>, count: usize) -> Result<Vec<u32>>
     ensures gives { Parses (λ v. v.items) result (position_of bits.new)
@@ -176,7 +176,7 @@ fn next(bits: &mut Bitstream<'_>, order: Order, before: Option<u32>) -> fields::
     }
 }
 
-// So many numbers in this order.
+// This number of numbers in this order.
 fn in_turn(alloc: Global, bits: &mut Bitstream<'_>, n: usize, order: Order) -> Result<Vec<u32>>
     ensures gives { Parses (λ v. v.items) result (position_of bits.new)
         ((the_list n (the_next order) None).read (bytes_of bits.old) (position_of bits.old)) }
@@ -233,7 +233,7 @@ fn shift_of(factor: u32) -> u32
 }
 
 impl Passes {
-    /// The passes that stand at the reader's position, where they are told; else there is one. `InvalidEnum` of
+    /// The passes that stand at the reader's position, if the header signals them; else there is one. `InvalidEnum` of
     /// `num_downsample` for more resolutions than passes, of `downsample` for one that is not finer than the one
     /// before, and of `last_pass` for a last pass that there is not, or that is not later than the one before.
     #[tactic(auto, unfolding(crate::specs::Passes::passes))]

@@ -71,7 +71,7 @@ impl FrameType {
     }
 }
 
-/// How often the low frequencies of a frame are low frequencies, where that is told.
+/// How often the low frequencies of a frame are low frequencies, if the header signals it.
 pub(crate) fn lf_level(bits: &mut Bitstream<'_>, there: bool) -> Result<u32>
     ensures gives { Reads (λ v. v) result (position_of bits.new)
         ((when there (u32 (Const 1) (Const 2) (Const 3) (Const 4)) 0).read (bytes_of bits.old) (position_of bits.old)) }

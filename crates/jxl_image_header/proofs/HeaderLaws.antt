@@ -1,4 +1,4 @@
--- Headers are read exactly: what is read stands there, and what stands there is read.
+-- Headers are read exactly: the parser returns exactly what the bits at its position code.
 use Rattle.std.proofs.Common.{◌≡◌, ℕ, zero, suc, ◌+◌, ◌*◌, ◌/◌, ◌%◌, Bool, true, false, List, [], Ok, Err, Some, None, Result, refl, ap, sym}
 use Rattle.std.specs.Prelude.{◌-◌, nat_lt, nat_le, codes, ◌==◌, ◌&&◌, ◌||◌, not, count_ones, sum}
 use Rattle.jxlm_bits.specs.Decoding.{Found}

@@ -1,4 +1,4 @@
--- Colour encodings and what is told of brightness (ISO/IEC 18181-1, image header: ColourEncoding, ToneMapping).
+-- Colour encodings and what the header says of brightness (ISO/IEC 18181-1, image header: ColourEncoding, ToneMapping).
 use Rattle.std.specs.Prelude.{ℕ, ◌*◌, ◌==◌, ◌&&◌, ◌||◌, nat_lt, nat_le, Bool, false, not, codes}
 use Rattle.jxlm_bits.specs.Grammar.{Grammar, number, flag, u32, give, ◌>>=◌}
 use Rattle.jxlm_bits.specs.declared.bits.U32Spec.TheVariants.{Offset}

@@ -24,7 +24,7 @@ when there field usual = either there field (give usual)
 abbrev pub optional : {X : Type 0} → Grammar X → Grammar (Option X)
 optional field = flag >>= λ there. when there (field >>= λ v. give (Some v)) None
 
--- whether a bundle is told: it may be there, and no flag says that all of it is as by default
+-- whether a bundle is coded: it may be there, and no flag says that all of it is as by default
 abbrev pub told_if : Bool → Grammar Bool
 told_if there = when there (flag >>= λ all_default. give (not all_default)) false
 

@@ -19,7 +19,7 @@ pub struct BitDepth {
     pub exp_bits: u32,
 }
 
-/// What is told of a channel beside the colours.
+/// What the headers say of a channel beside the colours.
 #[derive(Clone, Copy)]
 pub struct ExtraChannel {
     /// What it is: 0 alpha, 1 depth, 2 a spot colour, 3 a selection mask, 4 black, 5 a colour filter, 6 heat, 15 not
@@ -85,7 +85,7 @@ fn fits_float(bits: u32, exponent: u32) -> bool
     2 <= exponent && exponent <= 8 && exponent + 3 <= bits && bits <= exponent + 24
 }
 
-// How many of so many bits are an exponent: none of a whole number.
+// How many of this number of bits are an exponent: none of a whole number.
 fn exponent_bits(bits: &mut Bitstream<'_>, float: bool, all: u32) -> Result<u32>
     ensures gives { Reads (λ v. v) result (position_of bits.new)
         ((when float (checked (codes "exponent_bits") (the_fits_float all) (part (Offset 1 4))) 0).read
@@ -122,7 +122,7 @@ impl BitDepth {
         })
     }
 
-    // How samples are stored, where that is told.
+    // How samples are stored, if the header signals it.
     pub(crate) fn parse_if(bits: &mut Bitstream<'_>, there: bool) -> Result<BitDepth>
         ensures gives { Reads (λ v. v) result (position_of bits.new)
             ((when there bit_depth (record { bits_per_sample = 8; exp_bits = 0 })).read

@@ -1,4 +1,4 @@
-//! Colour encodings, and what is told of brightness.
+//! Colour encodings, and what the header says of brightness.
 
 ghost use Rattle.std.specs.Prelude.{◌≡◌, ◌==◌, ◌||◌, ◌&&◌, not, nat_lt, nat_le, ◌*◌, true, codes};
 ghost use Rattle.jxlm_bits.specs.Bits.{bytes_of, position_of};
@@ -67,7 +67,7 @@ pub struct ColourEncoding {
     pub rendering_intent: u32,
 }
 
-/// What is told of brightness: floats of 16 bits, as the numbers of their bits.
+/// What the header says of brightness: floats of 16 bits, as the numbers of their bits.
 #[derive(Clone, Copy)]
 pub struct ToneMapping {
     /// The brightness of the maximum, in nits.
@@ -333,7 +333,7 @@ impl ColourEncoding {
 }
 
 impl ToneMapping {
-    /// What is told of brightness at the reader's position. The floats are not looked at.
+    /// What the header says of brightness at the reader's position. The floats are not looked at.
     pub fn parse(bits: &mut Bitstream<'_>) -> Result<ToneMapping>
         ensures gives { Reads (λ v. v) result (position_of bits.new)
             ((tone_mapping true).read (bytes_of bits.old) (position_of bits.old)) }
@@ -342,7 +342,7 @@ impl ToneMapping {
         ToneMapping::parse_if(bits, true)
     }
 
-    // What is told of brightness, where something may be.
+    // What the header says of brightness, where something may be.
     #[tactic(auto, unfolding(crate::specs::Colours::tone_mapping))]
     pub(crate) fn parse_if(bits: &mut Bitstream<'_>, there: bool) -> Result<ToneMapping>
         ensures gives { Reads (λ v. v) result (position_of bits.new)

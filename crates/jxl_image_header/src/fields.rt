@@ -62,7 +62,7 @@ pub fn number_if(bits: &mut Bitstream<'_>, there: bool, n: u32, usual: u32) -> R
     if there { number(bits, n) } else { Ok(usual) }
 }
 
-/// Whether a bundle is told: it may be there, and its first bit does not say that all of it is as by default.
+/// Whether a bundle is coded: it may be there, and its first bit does not say that all of it is as by default.
 pub fn told_if(bits: &mut Bitstream<'_>, there: bool) -> Result<bool>
     ensures gives { Reads (λ v. v) result (position_of bits.new)
         ((the_told_if there).read (bytes_of bits.old) (position_of bits.old)) }

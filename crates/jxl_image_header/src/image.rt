@@ -23,7 +23,7 @@ use std::alloc::Global;
 /// When the pictures of an animation change.
 #[derive(Clone, Copy)]
 pub struct Animation {
-    /// So many units of time, by the denominator, make a second.
+    /// The units of time in a second, times the denominator.
     pub tps_numerator: u32,
     pub tps_denominator: u32,
     /// How often the pictures are shown, 0 for ever.
@@ -64,7 +64,7 @@ pub struct Shown {
     pub extensions: u64,
 }
 
-/// What is told of an image before its frames.
+/// What the headers say of an image before its frames.
 #[derive(Drop)]
 pub struct ImageHeader {
     pub size: Size,
@@ -158,7 +158,7 @@ impl Animation {
     }
 }
 
-// So many extra channels.
+// This number of extra channels.
 fn read_channels(
     alloc: Global,
     bits: &mut Bitstream<'_>,

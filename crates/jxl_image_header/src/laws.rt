@@ -7,7 +7,7 @@ ghost use Rattle.jxl_image_header.specs.Colours.{colour_encoding};
 ghost use Rattle.jxl_image_header.specs.Fields.{long, extensions, name, aligned};
 ghost use Rattle.jxl_image_header.specs.Images.{image_header};
 
-/// What is read as a field of headers stands there, and what stands there is read.
+/// The parser returns a field of headers exactly if the bits at its position code it.
 pub fn header_fields_are_read_exactly()
     ensures long { IsExact long }
     ensures extensions { IsExact extensions }
@@ -18,7 +18,7 @@ pub fn header_fields_are_read_exactly()
     ensures colours { (there : Bool) → IsExact (colour_encoding there) }
 {}
 
-/// What is read as an image header stands there, and what stands there is read.
+/// The parser returns an image header exactly if the bits at its position code it.
 pub fn image_headers_are_read_exactly()
     ensures { IsExact image_header }
 {}

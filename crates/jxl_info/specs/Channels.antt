@@ -23,7 +23,7 @@ unfoldable pub colours_name : Image → List ℕ
 colours_name image =
     if is_grey image then codes "Grayscale" else if has_black image then codes "CMYK" else if has_alpha image then codes "RGBA" else codes "RGB"
 
--- the kind of extra channels whose first is told with the colours; 17 is none
+-- the kind of extra channels whose first is printed with the colours; 17 is none
 abbrev pub told_kind : Image → ℕ
 told_kind image = if is_grey image then 17 else if has_black image then 4 else 0
 
@@ -47,7 +47,7 @@ shift_text shift = if shift == 0 then [] else codes ", dim_shift " ++ decimal sh
 unfoldable pub premultiplied_text : Bool → List ℕ
 premultiplied_text premultiplied = if premultiplied then codes ", premultiplied" else []
 
--- what is told of an extra channel
+-- what the headers say of an extra channel
 unfoldable pub extra_line : ℕ → ExtraChannel → List ℕ
 extra_line number c = line (codes "extra channel " ++ decimal number ++ codes ": " ++ kind_name c.kind ++ codes ", " ++ depth_text c.bit_depth
     ++ shift_text c.dim_shift ++ premultiplied_text c.alpha_associated)

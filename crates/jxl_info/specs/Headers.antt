@@ -17,7 +17,7 @@ abbrev pub is_boxed : List ℕ → Bool
 is_boxed file = not (starts_with nat_eq file (255 ∷ 10 ∷ []))
 
 module _ {D : Type 0} (d : Meaning D) (limits : Limits) where
-  -- all that comes before the sections of the frames stands there, under this image header
+  -- all that comes before the sections of the frames is in the codestream, under this image header
   pub record IsSupported (bytes : List ℕ) (image : Image) : Type 0 where
     pub saved : List FrameAt
     pub shown : FrameAt
@@ -52,7 +52,7 @@ module _ {D : Type 0} (d : Meaning D) (limits : Limits) where
   HeadersFail file (errors.File error) = UnlessMemory error (HasCodestream file (Err error))
   HeadersFail file (errors.Front error) = FrontOfFileFails file error
 
-  -- the text is what is told of the file
+  -- the text is what `--info` prints of the file
   pub record IsInfoOfFile (file text : List ℕ) : Type 0 where
     pub image : Image
     pub reason : Option FrontError

@@ -1,4 +1,4 @@
--- What is told of a file: lines of text.
+-- What `--info` prints of a file: lines of text.
 use Rattle.std.specs.Prelude.{ℕ, List, [], ◌++◌, Bool, if◌then◌else◌, Option, Some, None, is_some, codes}
 use Rattle.std.specs.Fmt.{decimal}
 use Rattle.jxl_image_header.specs.Images.{Image}
@@ -49,7 +49,7 @@ unfoldable pub animation_lines : Option Animation → List ℕ
 animation_lines (Some a) = rate_lines a
 animation_lines None = []
 
--- the size at which the picture is to be shown, where that is told
+-- the size at which the picture is to be shown, if the header signals it
 unfoldable pub intrinsic_line : Option Size → List ℕ
 intrinsic_line (Some size) = line (codes "Intrinsic dimensions: " ++ size_text size)
 intrinsic_line None = []
@@ -63,7 +63,7 @@ unfoldable pub reason_line : Option FrontError → List ℕ
 reason_line (Some error) = line (reason_text error)
 reason_line None = []
 
--- what is told of a file whose codestream has this image header, and is not decoded for this reason
+-- what `--info` prints of a file whose codestream has this image header, and is not decoded for this reason
 abbrev pub info_text : Bool → Image → Option FrontError → List ℕ
 info_text boxed image reason = container_line boxed ++ image_line image ++ extra_lines image.ec_info ++ display_lines image.display
     ++ line (colour_text image.shown.colour_encoding) ++ reason_line reason

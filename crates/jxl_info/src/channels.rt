@@ -56,7 +56,7 @@ fn told_kind(header: &ImageHeader) -> u32
     }
 }
 
-// The kinds of extra channels but the first of the kind that is told already, each after a plus.
+// The kinds of extra channels but the first of the kind that is printed already, each after a plus.
 fn append_kinds(text: &mut String, told: u32, extra: &[ExtraChannel]) -> Result<(), OutOfMemory>
     ensures { OnOk result (string_bytes text.new ≡ string_bytes text.old ++ kinds_but told extra.now) }
 {

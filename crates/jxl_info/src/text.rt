@@ -1,4 +1,4 @@
-//! What is told of a file: lines of text.
+//! What `--info` prints of a file: lines of text.
 
 ghost use Rattle.std.specs.Prelude.{◌≡◌, ◌++◌, IfErr, IfOk, OnOk, string_bytes};
 ghost use Rattle.jxlm_bits.specs.Decoding.{Meaning};

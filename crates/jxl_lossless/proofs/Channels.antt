@@ -195,7 +195,7 @@ of_one_size image size grids none are =
     let all = All-from_get_or (Sides size) grids (grid 0 0 []) (λ c lt. (are.sides.width c lt, are.sides.height c lt)) in
     of_full size (shifts_of image) grids (none_halved (colour_count image) image.ec_info none) (are.count ∙ sym (count_shifts image)) all
 
--- so many channels have a frame
+-- this number of channels have a frame
 pub count_channels : (image : Image) (size : Size) (grids : List (Grid ℤ)) → AreChannels image size grids → length grids ≡ channel_count image
 count_channels image size grids are = zip_length (HasShift size) (shifts_of image) grids are ∙ count_shifts image
 

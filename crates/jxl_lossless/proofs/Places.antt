@@ -33,7 +33,7 @@ module _ (l : Layout) (sections : List (List ℕ)) (places : Places) (count : le
   none_told one true i n le = ap (Told n) (slice_get_past sections i (omega (arith, count, one, le)))
   none_told one false i n le = refl
 
-  -- a section that is given is the one that is told
+  -- a section that is given is the one that the table lists
   same : (xs : List (Bor (List ℕ))) (i j n m : ℕ) → n ≡ m → slice_get (lent xs) i ≡ slice_get sections j → Given n (slice_get xs i) ≡ Told m (slice_get sections j)
   same xs i j n m e at = with_index n m e (slice_get xs i) ∙ ap (Told m) (sym (slice_get-map (λ (b : Bor (List ℕ)). b.now) xs i) ∙ at)
 
@@ -105,7 +105,7 @@ module _ (l : Layout) (sections : List (List ℕ)) (places : Places) (count : le
       by true = at_place p k
       by false = refl
 
-  -- each part has the section that is told, with the index of its stream
+  -- each part has the section that the table lists, with the index of its stream
   pub same_sections : (part : SectionPart) → section_at places part ≡ section_of l sections part
   same_sections parts.Global = refl
   same_sections (parts.Lf k) = by (section_count_of l == 1) refl where

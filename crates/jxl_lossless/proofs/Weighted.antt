@@ -60,7 +60,7 @@ stands_in : (r : Result (Found Header) ErrorAt) → found_weighted r ≡ true �
 stands_in (Ok found) e = let (palette, some, pred) = some_palette found.value.transform e in (found, refl, palette, some, pred)
 stands_in (Err e) is = absurd (no is)
 
--- one that is found stands there
+-- one that is found is in the header
 pub stands_there : (bytes : List ℕ) (p : ℕ) → weighted_at bytes p ≡ true → IsWeightedAt bytes p
 stands_there bytes p e = stands_in (header.read bytes p) e
 
@@ -70,7 +70,7 @@ module _ {X : Type 0} (test : X → Bool) where
   any_get (x ∷ xs) zero d lt e = rw e refl
   any_get (x ∷ xs) (suc k) d lt e = or_right (test x) (list_any test xs) (any_get xs k d (omega (arith, lt)) e)
 
--- one that stands there is found
+-- one that is in the header is found
 pub found_there : (bytes : List ℕ) (p : ℕ) → IsWeightedAt bytes p → weighted_at bytes p ≡ true
 found_there bytes p (found, reads, palette, (k, t, lt, at, is), pred) =
     let one : is_weighted t ≡ true = ap is_weighted is ∙ ap weighted pred in

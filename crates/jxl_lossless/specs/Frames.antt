@@ -1,5 +1,5 @@
 -- The samples of a frame of a codestream (ISO/IEC 18181-1, frame: sections, LF global), stage by stage, and what fails at each:
--- what is not supported is told before what is wrong with samples.
+-- what is not supported comes before what is wrong with samples.
 use Rattle.std.specs.Prelude.{◌≡◌, ℕ, ◌^◌, ◌⊎◌, pos, ℤ, List, [], length, map, get_or, Bool, true, MatchBool, Option, Some, None}
 use Rattle.std.specs.Int.{div_ceil, w32}
 use Rattle.jxlm_bits.specs.Decoding.{Meaning}
@@ -74,7 +74,7 @@ module _ {D : Type 0} (d : Meaning D) (image : Image) (slots : Slots) (bytes : L
   abbrev pub dictionary : Grammar (Option Patches)
   dictionary = optional_patches d frame.header.coding.flags.patches sides (length image.ec_info) slots.sizes
 
-  -- They stand there,
+  -- The bits code them,
   pub record HasPatches : Type 0 where
     pub patches : Option Patches
     pub begin : ℕ

@@ -1,5 +1,5 @@
 -- The samples of a frame, from its sections (ISO/IEC 18181-1, frame: sections, LF global, groups), stage by stage, and what fails
--- at each: that a palette of the weighted predictor is in the header of a group is told before what is wrong with samples.
+-- at each: that a palette of the weighted predictor is in the header of a group comes before what is wrong with samples.
 use Rattle.std.specs.Prelude.{◌≡◌, ◌≢◌, ◌↔◌, ℕ, ◌<◌, ◌⊎◌, ℤ, List, ◌∷◌, Any, false, true, IsFalse, IsTrue, Option, None, Some, Ok}
 use Rattle.std.specs.Int.{Width}
 use Rattle.std.specs.List.{All, AllPairs}
@@ -72,8 +72,8 @@ module _ {S D : Type 0} (d : Meaning D) (w : Width) (to_int : S → ℤ) (zero :
     pub goes_on : position_of first.bits ≡ has.stands.end
     pub is : first ≡ record { part = parts.Global; bits = first.bits; stream_index = 0; nested = false }
 
-  -- These are the channels of a frame: each section codes its part whole, with so many nodes of trees looked at before and after,
-  -- and together they code the image.
+  -- These are the channels of a frame: each section codes its part whole, with this number of nodes of trees looked at before and
+  -- after, and together they code the image.
   pub record IsStill (grids : List (Grid ℤ)) (before after : ℕ) : Type 0 where
     pub can : CanDecode
     pub decoded : AreDecoded d w to_int zero can.has.stands.image passes global (can.first ∷ can.has.groups) grids before after

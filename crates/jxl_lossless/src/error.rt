@@ -9,7 +9,7 @@ use jxl_patches::error::PatchError;
 use jxlm_base::grid::OutOfMemory;
 use jxlm_bits::error::Error;
 
-/// Why a file is not decoded: the first reason in the order of its bits, but that what is not supported is told before
+/// Why a file is not decoded: the first reason in the order of its bits, but that what is not supported comes before
 /// what is wrong with samples.
 #[derive(Clone, Copy, Debug, PartialEq, Eq, thiserror::Error)]
 pub enum FileError {

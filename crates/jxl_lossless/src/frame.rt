@@ -53,7 +53,7 @@ fn channel_of(size: Size, shift: u32) -> ModularChannelParams
         .with_gradient_sums(GradientSums::Clamped)
 }
 
-// Channels of a frame of this size: so many of colours, and the extra ones, each of its own shift.
+// Channels of a frame of this size: this number of of colours, and the extra ones, each of its own shift.
 fn channel_list(
     alloc: Global,
     size: Size,

@@ -89,7 +89,7 @@ fn decode_codestream<P: Progress>(
 ///
 /// # Errors
 ///
-/// The first in the order of the bits, but that what is not supported is told before what is wrong with samples, and by
+/// The first in the order of the bits, but that what is not supported comes before what is wrong with samples, and by
 /// its name (docs/FILES.md); and `OutOfMemory` at any time. Nothing is left behind. Sizes are compared with the limits
 /// before memory is taken for samples.
 pub fn decode_lossless(
@@ -105,7 +105,7 @@ pub fn decode_lossless(
     decode_lossless_with(alloc, file, limits, steps, &mut ())
 }
 
-/// The picture of a JPEG XL file, as [`decode_lossless`] gives it; each section of a frame is told of after it was decoded.
+/// The picture of a JPEG XL file, as [`decode_lossless`] gives it; `progress` is called after each section of a frame.
 pub fn decode_lossless_with<P: Progress>(
     alloc: Global,
     file: &[u8],

@@ -14,8 +14,8 @@ use jxlm_bits::error::Error;
 use jxlm_tree::ma::{MaConfig, MaConfigParams};
 use std::alloc::Global;
 
-/// The tree that sections share, where there is one, of a frame of this size with so many channels. The reader is left
-/// before the header of the image.
+/// The tree that sections share, where there is one, of a frame of this size with this number of channels. The reader
+/// is left before the header of the image.
 pub fn shared_tree<D: Decoder>(
     alloc: Global,
     bits: &mut Bitstream<'_>,

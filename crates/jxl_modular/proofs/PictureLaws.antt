@@ -57,7 +57,7 @@ module _ {S D : Type 0} (d : Meaning D) (z : S) (bytes : List ℕ) (p : ℕ) (pa
   none_read [] m q h none = (refl, h.1)
   none_read (c ∷ cs) m q h none = absurd (no_image h.0 (image_of m) none h.1)
 
-  -- else the image that stands there
+  -- else the image that the bits code
   pub image_read : (list : List ModularChannelParams) (m : Modular S D) (read : Image S D) (q : ℕ) → ParseGives d z bytes p params list (Ok m) q → image_of m ≡ Some read → (list ≢ []) × IsImageAt d z bytes p params read q
   image_read [] m read q h is = absurd (no_image read (image_of m) h.0 is)
   image_read (c ∷ cs) m read q h is = (not_empty c cs, subst (λ (x : Image S D). IsImageAt d z bytes p params x q) (same_image h.0 read (image_of m) h.1 is) h.2)

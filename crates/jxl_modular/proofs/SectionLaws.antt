@@ -127,7 +127,7 @@ module _ {S D : Type 0} (d : Meaning D) (w : Width) (to_int : S → ℤ) (zero :
       later_keep partly part ss ts between new (still_lie s.part old between (turned_outside partly s t old between turn) lie) (All-tail (λ (s : Section). s.part ≡ part → ⊥) s ss none) rest
       ∙ other_stands s.part part old between (All-head (λ (s : Section). s.part ≡ part → ⊥) s ss none) lie (turned_outside partly s t old between turn)
 
-  -- a part that has no samples missing is coded whole, for so many nodes
+  -- a part that has no samples missing is coded whole, for this number of nodes
   part_whole : (part : Part) (bytes : List ℕ) (decoder : D) (p : ℕ) (regions : List Region) (partly : Bool) (t : Turn) (old new : List (Grid S)) → t.partial ≡ false →
       PartTurn d w to_int part bytes decoder p regions partly (Ok tt) t old new → CodesWhole d w part bytes decoder p (grids_in regions (store_meanings to_int new)) (most t)
   part_whole part bytes decoder p regions partly t old new none h =

@@ -64,7 +64,7 @@ module _ {S D : Type 0} where
   abbrev pub IsOnlyPart : Width → ℕ → Layer S D → List (Grid ℤ) → List (Grid ℤ) → Type 0
   IsOnlyPart w bit_depth l part coded = IsOnlyImage w bit_depth (transforms_of l) (list_of l) part coded
 
-  -- Its part lies in the image's buffers and in tables of headers around it, and there are so many buffers.
+  -- Its part lies in the image's buffers and in tables of headers around it, and there are this number of buffers.
   pub record StandsIn (l : Layer S D) (x : Image S D) : Type 0 where
     pub lie : AllLie l.held (store_of l x)
     pub count : l.buffers ≡ length x.store + length l.tables

@@ -26,7 +26,7 @@ module _ {S D : Type 0} (d : Meaning D) (zero : S) (bytes : List ℕ) (p : ℕ) 
     pub cells : image ≡ fresh zero (image_list params.channels.items) head image.config params.group_dim params.bit_depth
 
   -- What reading an image of these channels gives, and where it leaves the reader. With no channels no bit is read,
-  -- and there is no image. Else there is the image that stands there, or the error of the first check that fails; it
+  -- and there is no image. Else there is the image that the bits code, or the error of the first check that fails; it
   -- may be out of memory at any time.
   abbrev pub ParseGives : List ModularChannelParams → Result (Modular S D) Error → ℕ → Type 0
   ParseGives [] (Ok m) q = (image_of m ≡ None) × (q ≡ p)

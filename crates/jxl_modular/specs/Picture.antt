@@ -47,7 +47,7 @@ module _ {D : Type 0} (d : Meaning D) (w : Width) (global : Option (Config D)) (
   PictureFails error q before after =
       UnlessMemory error (((IsErrorAt (opened global bytes given p) error q ⊎ IsTreeErrorAt d global bytes given p error q) × (after ≡ before)) ⊎ SamplesFail error q before after)
 
--- whatever is returned, no step was taken, or header and tree stand there, and steps are within those for all samples
+-- whatever is returned, no step was taken, or the bits code a header and a tree, and steps are within those for all samples
 abbrev pub StepsWithin : {D : Type 0} → Meaning D → Option (Config D) → List ℕ → ChannelList → ℕ → ℕ → ℕ → Type 0
 StepsWithin {D} d global bytes given p before after =
     (after ≡ before) ⊎ ((head : Opening) × (config : Config D) × (q : ℕ) × IsStartAt d global bytes given p head config q × MovesWithin before after (sum_by area head.coded.list.channels * (depth config.tree + 1)))

@@ -29,7 +29,7 @@ use Rattle.jxl_modular.specs.declared.recursive.RecursiveModularImage.{Recursive
 
 -- what reading a part's own header and tree at position p gives, whose channels and regions these are
 module _ {S D : Type 0} (d : Meaning D) (zero : S) (global : Option (Config D)) (bytes : List ℕ) (channels : List Channel) (p : ℕ) where
-  -- Ok: they stand there, up to q. The store is that of the image and of headers around it; the header's own tables
+  -- Ok: the bits up to q code them. The store is that of the image and of headers around it; the header's own tables
   -- come after it, and their cells are 0.
   pub record IsReadIn (held : List Region) (x : Image S D) (outer : List (Grid S)) (l : Layer S D) (q : ℕ) : Type 0 where
     pub start : IsStartAt d global bytes (list_within channels) p l.head l.config q

@@ -26,7 +26,7 @@ use Rattle.jxl_modular.specs.Image.{Image, IsOnlyImage, coded_list}
 pub use Rattle.jxlm_nested.specs.Nested.{Turn, most}
 pub use Rattle.jxl_modular.specs.declared.sections.Section.{Section}
 
--- These are the grids of a part that it codes whole from bit position p, and its samples may take so many nodes.
+-- These are the grids of a part that it codes whole from bit position p, and its samples may take this number of nodes.
 pub record CodesWhole {D : Type 0} (d : Meaning D) (w : Width) (part : Part) (bytes : List ℕ) (decoder : D) (p : ℕ)
     (grids : List (Grid ℤ)) (nodes : ℕ) : Type 0 where
   pub end : ℕ
@@ -63,7 +63,7 @@ module _ {S D : Type 0} (x : Image S D) (passes : List Pass) where
 module _ {S D : Type 0} (d : Meaning D) (w : Width) (to_int : S → ℤ) (zero : S) (x : Image S D) (passes : List Pass)
     (global : Option (Config D)) where
   -- A section with a header of its own: header and tree stand in its bits; behind them it codes samples of the header's
-  -- channels whole, which may take so many nodes; and these grids of its part are the only ones that the header's
+  -- channels whole, which may take this number of nodes; and these grids of its part are the only ones that the header's
   -- transforms turn into those samples.
   pub record CodesNested (s : Section) (grids : List (Grid ℤ)) (nodes : ℕ) : Type 0 where
     pub start : Start d global (bytes_of s.bits) (list_in x passes s.part) (position_of s.bits)
@@ -79,7 +79,7 @@ module _ {S D : Type 0} (d : Meaning D) (w : Width) (to_int : S → ℤ) (zero :
       grids nodes)
 
   -- The headline: there is one list of coded grids; each section codes its part of them whole, each part with samples
-  -- has a section, the image is the only one that the transforms turn into these grids, and so many nodes were read.
+  -- has a section, the image is the only one that the transforms turn into these grids, and this number of nodes were read.
   pub record AreDecoded (sections : List Section) (image : List (Grid ℤ)) (before after : ℕ) : Type 0 where
     pub coded : List (Grid ℤ)
     pub sizes : AreGridsOf x.channels coded
@@ -134,6 +134,6 @@ module _ {S D : Type 0} (d : Meaning D) (w : Width) (to_int : S → ℤ) (zero :
 abbrev pub Heard : {P : Type 0} → (P → ℕ → P → Type 0) → ℕ → ℕ → P → P → Type 0
 Heard gives n k old new = FoldsTo gives old (replicate k n) new
 
--- the same of so many calls as there are sections, or of fewer
+-- the same of this number of calls as there are sections, or of fewer
 abbrev pub HeardSome : {P : Type 0} → (P → ℕ → P → Type 0) → ℕ → P → P → Type 0
 HeardSome gives n old new = (k : ℕ) × (k ≤ n) × Heard gives n k old new

@@ -12,7 +12,7 @@ use Rattle.jxl_netpbm.specs.Rasters.{Layer, maximum, raster_text, float_rows}
 use Rattle.jxl_netpbm.specs.declared.format.Format.{Format}
 use Rattle.jxl_netpbm.specs.declared.format.Format.TheVariants.{Pgm, Ppm, Pam, Pfm, Text}
 
--- whole numbers of so many bits at most
+-- whole numbers of this number of bits at most
 abbrev pub is_whole : ℕ → BitDepth → Bool
 is_whole most d = (d.exp_bits == 0) && nat_le 1 d.bits_per_sample && nat_le d.bits_per_sample most
 

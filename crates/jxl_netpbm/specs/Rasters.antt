@@ -4,7 +4,7 @@ use Rattle.std.specs.Int.{w32, cast_unsigned, to_le_bytes}
 use Rattle.std.specs.List.{flat_map}
 use Rattle.jxlm_base.specs.Grid.{Grid, below, at}
 
--- the maximum of whole numbers of so many bits
+-- the maximum of whole numbers of this number of bits
 abbrev pub maximum : ℕ → ℕ
 maximum bits = 2 ^ bits - 1
 

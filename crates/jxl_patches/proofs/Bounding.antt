@@ -53,7 +53,7 @@ module _ {S : Type 0} (d : Meaning S) where
         let rest = modes_add kinds (record { places = a.places ++ place ∷ []; modes = a.modes }) y.state b bytes st.3.1 q st.3.3 in
         omega (arith, more, rest)
 
-    -- so many places of a rectangle put its cells so often
+    -- this number of places of a rectangle put its cells so often
     pub places_add : (n : ℕ) (a : Patches) (s : S) (b : After S Patches) (bytes : List ℕ) (p q : ℕ) → (chained (one_place d size kinds k r) n a s).Stands bytes p b q → put b.value ≡ put a + n * (r.width * r.height)
     unfolding chained
     places_add zero a s b bytes p q st = rw st.0 (omega arith)

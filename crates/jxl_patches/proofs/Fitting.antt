@@ -29,7 +29,7 @@ pub was_ok : {X : Type 0} (r : Result X ErrorKind) (bytes : List ℕ) (p : ℕ) 
 was_ok (Ok y) bytes p x q s = ap Ok (sym s.0)
 was_ok (Err e) bytes p x q s = absurd s
 
--- the rectangle at this corner of a frame, whose sides are told less one
+-- the rectangle at this corner of a frame, whose sides are coded less one
 abbrev within : Option Size → ℕ → ℕ → ℕ → ℕ → ℕ → Result Rectangle ErrorKind
 within o slot x0 y0 w h = if option_map_or (λ f. nat_lt (x0 + w) f.width && nat_lt (y0 + h) f.height) o false
     then Ok (record { slot = slot; x0 = x0; y0 = y0; width = w + 1; height = h + 1 }) else Err (BadEnum (codes "rectangle of a patch") slot)
@@ -80,7 +80,7 @@ module _ {S : Type 0} (d : Meaning S) (size : Size) (kinds : ℕ) (slots : List 
       let ok = token_ok d 2 (λ h. within (get_or slots slot None) slot x0 y0 w.value h) w.state bytes st.3.3.3.1 y q last in
       in_frame slots slot x0 y0 w.value ok.0 (get_or slots slot None) y.value refl ok.1
 
-  -- What was read so far lies in its frames; so many modes are owed.
+  -- What was read so far lies in its frames; this number of modes are owed.
   record Framed (owed : ℕ) (a : Patches) : Type 0 where
     modes : length a.modes + owed ≡ length a.places * kinds
     each : (n : ℕ) → n < length a.places → IsWithin size slots (get_or a.places n nowhere)

@@ -36,7 +36,7 @@ module _ (old from new : List ℤ) (start finish : ℕ) (e : start + length from
     outside = beyond;
   }
 
--- so many samples were added
+-- this number of samples were added
 pub record IsPartlyAdded (start i : ℕ) (from old new : List ℤ) : Type 0 where
   pub same : length new ≡ length old
   pub inside : (k : ℕ) → k < i → get_or new (start + k) (pos 0) ≡ mixed_sample Add (get_or old (start + k) (pos 0)) (get_or from k (pos 0))

@@ -1,4 +1,4 @@
--- A coordinate that is told as how far it lies from the one before.
+-- A coordinate that is coded as how far it lies from the one before.
 use Rattle.std.proofs.Common.{◌≡◌, ℕ, ℤ, pos, negsuc, ◌+◌, ◌-◌, ◌/◌, ◌%◌, Bool, true, false, Option, Some, None, refl, ap, arith}
 use Rattle.std.specs.Prelude.{◌==◌, nat_lt, if◌then◌else◌, ◌+ℤ◌, ◌↔◌}
 use Rattle.std.proofs.lemmas.Int.{ints}

@@ -1,4 +1,4 @@
--- Patches are read exactly: what is read stands there, and what stands there is read.
+-- Patches are read exactly: the parser returns exactly what the bits at its position code.
 use Rattle.std.proofs.Common.{ℕ, ◌+◌, Bool, List, length, get_or, Ok, Err, Option, None, Result}
 use Rattle.std.specs.Prelude.{nat_le, codes, is_some}
 use Rattle.jxlm_bits.specs.Decoding.{Meaning}

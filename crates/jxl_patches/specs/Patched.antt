@@ -38,7 +38,7 @@ patched_sample frames patches kinds kind channel x y zero v = v
 patched_sample frames patches kinds kind channel x y (suc n) v = let p : Place = get_or patches.places n nowhere in
     sample_put (channel_of frames p.source.slot channel) p (get_or patches.modes (n * kinds + kind) Keep) x y (patched_sample frames patches kinds kind channel x y n v)
 
--- how many modes a place has; its mode for a kind of channels, of so many kinds
+-- how many modes a place has; its mode for a kind of channels, of this number of kinds
 abbrev pub kinds_of : ℕ → ℕ → ℕ
 kinds_of colours channels = 1 + (channels - colours)
 
@@ -56,7 +56,7 @@ pub record PlaceFits (p : Place) (source target : Grid ℤ) : Type 0 where
   pub source_columns : p.source.x0 + p.source.width ≤ source.width
   pub source_rows : p.source.y0 + p.source.height ≤ source.height
 
--- Patches fit channels, of which so many are colours, and saved frames.
+-- Patches fit channels, of which this number are colours, and saved frames.
 pub record Fits (frames : List (List (Grid ℤ))) (colours : ℕ) (patches : Patches) (channels : List (Grid ℤ)) : Type 0 where
   pub modes : length patches.modes ≡ length patches.places * kinds_of colours (length channels)
   pub slots : (n : ℕ) → n < length patches.places → (place_at patches n).source.slot < length frames
@@ -64,7 +64,7 @@ pub record Fits (frames : List (List (Grid ℤ))) (colours : ℕ) (patches : Pat
   pub places : (n c : ℕ) → n < length patches.places → c < length channels →
       PlaceFits (place_at patches n) (channel_of frames (place_at patches n).source.slot c) (get_or channels c (grid 0 0 []))
 
--- Frames are saved in slots: one of each size that a slot holds, of so many channels, each with its sides.
+-- Frames are saved in slots: one of each size that a slot holds, of this number of channels, each with its sides.
 pub record AreSaved (slots : List (Option Size)) (channels : ℕ) (frames : List (List (Grid ℤ))) : Type 0 where
   pub slot : (k : ℕ) (size : Size) → get_or slots k None ≡ Some size → k < length frames
   pub count : (k : ℕ) (size : Size) → get_or slots k None ≡ Some size → channels ≤ length (get_or frames k [])
@@ -81,8 +81,8 @@ abbrev pub ReadPatchesFit : Type 0
 ReadPatchesFit = (size : Size) (extra : ℕ) (slots : List (Option Size)) (patches : Patches) (frames : List (List (Grid ℤ))) (colours : ℕ) (channels : List (Grid ℤ)) →
     AreWithin size extra slots patches → AreSaved slots (length channels) frames → HaveSides size channels → length channels ≡ colours + extra → Fits frames colours patches channels
 
--- Channels, of which so many are colours, are patched: they keep their sizes, and each sample is what all places make of it. Colours
--- take the first mode of a place, each extra channel one of its own.
+-- Channels, of which this number are colours, are patched: they keep their sizes, and each sample is what all places make of it.
+-- Colours take the first mode of a place, each extra channel one of its own.
 pub record ArePatched (frames : List (List (Grid ℤ))) (colours : ℕ) (patches : Patches) (old new : List (Grid ℤ)) : Type 0 where
   pub count : length new ≡ length old
   pub width : (c : ℕ) → c < length old → (get_or new c (grid 0 0 [])).width ≡ (get_or old c (grid 0 0 [])).width

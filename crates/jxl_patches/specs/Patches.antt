@@ -33,7 +33,8 @@ source d slots = do
   token d 2 (λ h. checked (if option_map_or (λ f. nat_lt (x0 + w) f.width && nat_lt (y0 + h) f.height) (get_or slots slot None) false
       then Ok (record { slot = slot; x0 = x0; y0 = y0; width = w + 1; height = h + 1 }) else Err (BadEnum (codes "rectangle of a patch") slot)))
 
--- a coordinate is told as it is; a later one as how far it lies from the one before: 2k for k, 2k + 1 for -k - 1, if at 0 or above
+-- a coordinate is coded as it is; a later one as how far it lies from the one before: 2k for k, 2k + 1 for -k - 1, if at 0 or
+-- above
 abbrev pub coordinate_of : Bool → ℕ → ℕ → Option ℕ
 coordinate_of later before v =
     if later then (if v % 2 == 0 then Some (before + v / 2) else if nat_lt (v / 2) before then Some (before - (v / 2 + 1)) else None) else Some v
@@ -68,7 +69,7 @@ one_place d size kinds n r a = do
   y ← coordinate d (nat_lt n (length a.places)) (get_or a.places (length a.places - 1) nowhere).y r.height size.height
   chained (one_mode d) kinds (record { places = a.places ++ (record { source = r; x = x; y = y }) ∷ []; modes = a.modes })
 
--- a rectangle, and its places, one more than is told: with those before not too many, and of not too many cells
+-- a rectangle, and its places, one more than is coded: with those before not too many, and of not too many cells
 abbrev pub one_rectangle : {S : Type 0} → Meaning S → Size → ℕ → List (Option Size) → ℕ → Patches → Tokens S Patches
 one_rectangle d size kinds slots limit a = do
   r ← source d slots
@@ -77,7 +78,8 @@ one_rectangle d size kinds slots limit a = do
       else Err (BadProfile (codes "patches of too many cells"))) else Err (BadEnum (codes "places of a patch") v)))
   chained (one_place d size kinds (length a.places) r) n a
 
--- the dictionary of a frame of this size with so many extra channels, of slots with these sizes, that puts at most so many cells
+-- the dictionary of a frame of this size with this number of extra channels, of slots with these sizes, that puts at most this
+-- number of cells
 abbrev pub dictionary : {S : Type 0} → Meaning S → Size → ℕ → List (Option Size) → ℕ → Grammar Patches
 dictionary d size extra slots limit = coded_tokens d 10 (token d 0 (λ v. number_meant (codes "count of patches") (nat_le v (most_rectangles size)) v) >>= λ n.
     chained (one_rectangle d size (1 + extra) slots limit) n (record { places = []; modes = [] }))

@@ -31,12 +31,12 @@ pub record AreOfSize (n : ℕ) (size : Size) (grids : List (Grid ℤ)) : Type 0 
   pub count : length grids ≡ n
   pub sides : HaveSides size grids
 
--- the dictionary of patches, if its header says that there is one, of a frame of this size with so many extra channels; they
--- may put, with repetitions, four times its cells, and 4096
+-- the dictionary of patches, if its header says that there is one, of a frame of this size with this number of extra channels;
+-- they may put, with repetitions, four times its cells, and 4096
 abbrev pub optional_patches : {D : Type 0} → Meaning D → Bool → Size → ℕ → List (Option Size) → Grammar (Option Patches)
 optional_patches d there size extra sizes = when there (dictionary d size extra sizes (4096 + 4 * (size.width * size.height)) >>= λ p. give (Some p)) None
 
--- Patches, if there are any, are put into channels, of which so many are colours.
+-- Patches, if there are any, are put into channels, of which this number are colours.
 abbrev pub ArePut : Slots → ℕ → Option Patches → List (Grid ℤ) → List (Grid ℤ) → Type 0
 ArePut slots colours None old new = new ≡ old
 ArePut slots colours (Some patches) old new = ArePatched slots.frames colours patches old new

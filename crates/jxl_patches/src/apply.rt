@@ -126,7 +126,7 @@ impl Dictionary {
         self.places[n]
     }
 
-    // The mode of a place for a kind of channels, of so many.
+    // The mode of a place for a kind of channels, of this number.
     fn nth_mode(&self, n: usize, kinds: usize, kind: usize) -> PatchMode
         requires place { n < length self.now.places.items }
         requires kind { kind < kinds }
@@ -156,9 +156,9 @@ impl Dictionary {
         }
     }
 
-    /// Puts the patches into the channels of their frame, of which so many are colours, in their order. Each slot holds
-    /// the channels of its saved frame, as they were saved; none where it holds no frame. Sums of samples are taken
-    /// modulo 2^32. No channel changes its size, and no cell changes that no place covers.
+    /// Puts the patches into the channels of their frame, of which this number are colours, in their order. Each slot
+    /// holds the channels of its saved frame, as they were saved; none where it holds no frame. Sums of samples are
+    /// taken modulo 2^32. No channel changes its size, and no cell changes that no place covers.
     ///
     /// It takes time for each cell of each place, in each channel: `parse` bounds them by its limit.
     pub fn apply(

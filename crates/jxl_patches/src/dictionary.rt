@@ -59,7 +59,7 @@ pub struct Dictionary {
     pub modes: Vec<PatchMode>,
 }
 
-// One rectangle more, and its places, where so many cells are put before: gives how many are put with its own.
+// One rectangle more, and its places, where this number of cells are put before: gives how many are put with its own.
 fn one_rectangle<D: Decoder>(
     decoder: &mut D,
     bits: &mut Bitstream<'_>,
@@ -95,7 +95,7 @@ fn one_rectangle<D: Decoder>(
     Ok(counted.cells)
 }
 
-// So many rectangles.
+// This number of rectangles.
 fn rectangles<D: Decoder>(
     decoder: &mut D,
     bits: &mut Bitstream<'_>,
@@ -156,10 +156,10 @@ fn read<D: Decoder>(
 }
 
 impl Dictionary {
-    /// The dictionary of patches of a frame of this size with so many extra channels, which stands at the reader's
-    /// position. Each of the four slots holds a saved frame of its size, or none. At most so many cells are put, counted
-    /// with their repetitions and once for all channels: `apply` takes this many steps for each channel, and those of a
-    /// place besides.
+    /// The dictionary of patches of a frame of this size with this number of extra channels, which stands at the
+    /// reader's position. Each of the four slots holds a saved frame of its size, or none. At most this number of cells
+    /// are put, counted with their repetitions and once for all channels: `apply` takes this many steps for each
+    /// channel, and those of a place besides.
     ///
     /// # Errors
     ///

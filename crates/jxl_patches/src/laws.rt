@@ -9,13 +9,13 @@ ghost use Rattle.jxl_patches.specs.Patched.{LastReplacementStays, ReadPatchesFit
 
 use jxlm_bits::decoder::Decoder;
 
-/// What is read as a dictionary stands there, and what stands there is read.
+/// The parser returns a dictionary exactly if the bits at its position code it.
 pub fn dictionaries_are_read_exactly<D: Decoder>()
     ensures { (size : TheSize) (extra : ℕ) (slots : List (Option TheSize)) (limit : ℕ) → IsExact (dictionary D.meaning
         size extra slots limit) }
 {}
 
-/// A later coordinate is told as a signed number, how far it lies from the one before.
+/// A later coordinate is coded as a signed number, how far it lies from the one before.
 pub fn moves_are_signed()
     ensures { (before token c : ℕ) → (coordinate_of true before token ≡ Some c) ↔ (pos before +ℤ unpack token ≡ pos c) }
 {}

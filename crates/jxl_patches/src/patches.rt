@@ -26,8 +26,8 @@ fn patch_limit(size: Size) -> u64
     4096 + 4 * (u64::from(size.width) * u64::from(size.height))
 }
 
-/// The dictionary of patches, if there is one, of a frame of this size with so many extra channels. Slots hold frames of
-/// these sizes.
+/// The dictionary of patches, if there is one, of a frame of this size with this number of extra channels. Slots hold
+/// frames of these sizes.
 pub fn read_patches<D: Decoder>(
     alloc: Global,
     bits: &mut Bitstream<'_>,
@@ -52,7 +52,7 @@ pub fn read_patches<D: Decoder>(
     Ok(Some(dictionary))
 }
 
-/// Puts patches, if there are any, into channels of this size, of which so many are colours and so many are extra ones.
+/// Puts patches, if there are any, into channels of this size, of which these numbers are colours and extra ones.
 pub fn put_patches(
     patches: &Option<Dictionary>,
     size: Size,

@@ -102,7 +102,7 @@ fn mode<D: Decoder>(
     Ok(())
 }
 
-// So many modes.
+// This number of modes.
 fn modes<D: Decoder>(
     decoder: &mut D,
     bits: &mut Bitstream<'_>,
@@ -165,7 +165,7 @@ fn place<D: Decoder>(
     modes(decoder, bits, kinds, growing)
 }
 
-/// So many places of a rectangle, after those of the rectangles before, of which there are `first`.
+/// This number of places of a rectangle, after those of the rectangles before, of which there are `first`.
 pub fn places<D: Decoder>(
     decoder: &mut D,
     bits: &mut Bitstream<'_>,

@@ -73,7 +73,7 @@ fn slot<D: Decoder>(
     }
 }
 
-// The rectangle at this corner of the frame that a slot holds, whose sides are told less one.
+// The rectangle at this corner of the frame that a slot holds, whose sides are coded less one.
 fn rectangle_within(
     slots: &[Option<Size>],
     slot: u32,
@@ -167,7 +167,7 @@ fn count_within(
     }
 }
 
-/// At how many places a rectangle is put, where so many places and cells come before.
+/// At how many places a rectangle is put, where these numbers of places and cells come before.
 pub fn place_count<D: Decoder>(
     decoder: &mut D,
     bits: &mut Bitstream<'_>,

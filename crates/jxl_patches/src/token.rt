@@ -11,7 +11,7 @@ use jxlm_bits::bits::Bitstream;
 use jxlm_bits::decoder::Decoder;
 use std::alloc::Global;
 
-/// A decoder of so many contexts, at the begin of its tokens.
+/// A decoder of this number of contexts, at the begin of its tokens.
 pub fn decoder<D: Decoder>(alloc: Global, bits: &mut Bitstream<'_>, contexts: u32) -> Result<D>
     ensures gives { PatchesRead (λ v. v) result (position_of bits.new)
         ((the_decoder D.meaning contexts).read (bytes_of bits.old) (position_of bits.old)) }

@@ -35,7 +35,7 @@ of_extra size [] (g ∷ gs) s = absurd s
 of_extra size (c ∷ cs) [] s = absurd s
 of_extra size (c ∷ cs) (g ∷ gs) s = ((s.0.wide, s.0.high), of_extra size cs gs s.1)
 
--- so many channels of colours, and extra ones
+-- this number of channels of colours, and extra ones
 record Parts (size : Size) (n : ℕ) (cs : List ExtraChannel) (gs : List (Grid ℤ)) : Type 0 where
   count : length gs ≡ n + length cs
   colours : All (HasSides size.width size.height) (take n gs)

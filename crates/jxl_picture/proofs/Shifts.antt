@@ -9,7 +9,7 @@ use Rattle.jxl_image_header.specs.declared.channel.ExtraChannel.{ExtraChannel}
 use Rattle.jxl_image_header.specs.declared.size.Size.{Size}
 use Rattle.jxl_picture.specs.Sides.{HasShiftedSides, HasSides}
 
--- a side of so many samples in a channel of this shift
+-- a side of this number of samples in a channel of this shift
 abbrev pub shifted : ℕ → ℕ → ℕ
 shifted shift n = div_ceil n (2 ^ shift)
 

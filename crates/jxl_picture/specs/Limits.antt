@@ -13,7 +13,7 @@ channel_count image = colour_count image + length image.ec_info
 abbrev pub cells_of : Size → ℕ
 cells_of size = size.width * size.height
 
--- A frame of this size, after others with so many cells, is within the limits: its sides are those of a Modular image, and
+-- A frame of this size, after others with this number of cells, is within the limits: its sides are those of a Modular image, and
 -- together they have no more cells and bytes than one picture may have, where samples have four bytes each.
 abbrev pub AllowFrame : Limits → Image → ℕ → Size → Type 0
 AllowFrame limits image used size = (size.width ≤ 2 ^ 30) × (size.height ≤ 2 ^ 30) × (used + cells_of size ≤ limits.pixels)

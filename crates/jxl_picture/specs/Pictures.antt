@@ -1,4 +1,4 @@
--- A decoded picture: its channels, and what is told of it.
+-- A decoded picture: its channels, and what the headers say of it.
 use Rattle.std.specs.Prelude.{◌≡◌, ℕ, ◌^◌, ◌==◌, ◌&&◌, ℤ, List, ◌++◌, map, replicate, Bool, if◌then◌else◌}
 use Rattle.std.specs.Int.{div_ceil}
 use Rattle.std.specs.List.{AllZip, list_any}

@@ -17,7 +17,7 @@ pub record HasSides (width height : ℕ) (g : Grid ℤ) : Type 0 where
 abbrev pub HasShiftedSides : Size → ExtraChannel → Grid ℤ → Type 0
 HasShiftedSides size c g = HasSides (div_ceil size.width (2 ^ c.dim_shift)) (div_ceil size.height (2 ^ c.dim_shift)) g
 
--- there are so many channels, those of colours have the frame's sides, and each extra channel has its own
+-- there are this number of channels, those of colours have the frame's sides, and each extra channel has its own
 pub record HaveSides (image : Image) (size : Size) (channels : List (Grid ℤ)) : Type 0 where
   pub count : length channels ≡ colour_count image + length image.ec_info
   pub colours : All (HasSides size.width size.height) (take (colour_count image) channels)

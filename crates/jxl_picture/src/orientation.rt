@@ -50,7 +50,7 @@ fn one_of(orientation: u32, first: usize, second: usize) -> usize
     }
 }
 
-// The coded column, of so many, that is shown in column `x` of row `y`.
+// The coded column, of this number, that is shown in column `x` of row `y`.
 fn column_of(orientation: u32, width: usize, x: usize, y: usize) -> usize
     requires { (if turned orientation then y else x) < width }
     ensures value { result ≡ the_column orientation width x y }
@@ -60,7 +60,7 @@ fn column_of(orientation: u32, width: usize, x: usize, y: usize) -> usize
     counted(from_right(orientation), width, i)
 }
 
-// The coded row, of so many.
+// The coded row, of this number.
 fn row_of(orientation: u32, height: usize, x: usize, y: usize) -> usize
     requires { (if turned orientation then x else y) < height }
     ensures value { result ≡ the_row orientation height x y }

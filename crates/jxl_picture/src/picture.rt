@@ -15,10 +15,10 @@ use jxl_image_header::size::Size;
 use jxlm_base::grid::{AlignedGrid, OutOfMemory};
 use std::alloc::Global;
 
-/// A picture: what is told of it, and its samples.
+/// A picture: what the headers say of it, and its samples.
 #[derive(Drop)]
 pub struct Picture {
-    /// What is told of the picture.
+    /// What the headers say of the picture.
     pub header: ImageHeader,
     /// Its channels: of colours one where they are grey, else red, green and blue, each with the sides of the picture;
     /// then the extra channels in the header's order, each with these sides divided by 2 to the power of its shift and
@@ -62,7 +62,7 @@ pub fn has_full_alpha(header: &ImageHeader) -> bool
     header.ec_info.iter().any(|channel| is_full_alpha(channel))
 }
 
-// A side of so many samples in a channel of this shift.
+// A side of this number of samples in a channel of this shift.
 fn shifted(shift: u32, side: u32) -> u32
     ensures { result ≡ div_ceil side (2 ^ shift) }
 {

@@ -37,11 +37,11 @@ line_count channels = sum_by (λ g. g.height + 1) channels
 abbrev pub HasNoName : ℕ → List ℕ → Type 0
 HasNoName number text = (width height : ℕ) (after : List ℕ) → IsNamed number width height → text ≢ heading number width height ++ after
 
--- it begins with no line of so many numbers of this width
+-- it begins with no line of this number of numbers of this width
 abbrev pub HasNoRow : Width → ℕ → List ℕ → Type 0
 HasNoRow w count text = (numbers : List ℤ) (after : List ℕ) → length numbers ≡ count → All (FitsSigned w) numbers → text ≢ line (row_text numbers) ++ after
 
--- the text of rows of so many numbers begins with these rows, and then comes none of them
+-- the text of rows of this number of numbers begins with these rows, and then comes none of them
 pub record AreRowsWrong (w : Width) (width : ℕ) (text : List ℕ) (rows : Grid ℤ) : Type 0 where
   pub wide : rows.width ≡ width
   pub numbers : AreNumbers w rows

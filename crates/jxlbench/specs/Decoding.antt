@@ -22,7 +22,7 @@ module _ {V : Type 0} (d : Meaning V) (w : Width) (request : Request) (bytes : L
     pub place : ℕ
     pub picture : IsPicture d w None bytes 0 (channels_asked request) 0 request.bit_depth grids place
 
-  -- they are the picture that stands there in this way: in one part, or cut into sections
+  -- they are the picture that is coded in this way: in one part, or cut into sections
   abbrev pub StandsAs : Source → List (Grid ℤ) → Type 0
   StandsAs sources.Picture grids = IsPictureOf grids
   StandsAs (sources.CutPicture group_dim) grids =

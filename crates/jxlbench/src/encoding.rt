@@ -18,7 +18,7 @@ use jxlmod_commands::encoding::encode_image;
 use std::alloc::Global;
 use std::time::{Clock, Instant};
 
-/// Whether the encoder takes these channels: so many, and no side above 2^30.
+/// Whether the encoder takes these channels: at most this number, and no side above 2^30.
 fn are_small<S: Sample>(channels: &[AlignedGrid<S>]) -> bool
     ensures sides { IsTrue result → All IsSmall channels.now }
     ensures count { IsTrue result → length channels.now ≤ 2 ^ 20 }
@@ -41,7 +41,7 @@ fn encoded<S: Sample>(
     encode_image(alloc, channels, format)
 }
 
-/// The same, so many times; the last bytes are returned.
+/// The same, repeated; the last bytes are returned.
 fn encoded_again<S: Sample>(
     alloc: Global,
     channels: &[AlignedGrid<S>],

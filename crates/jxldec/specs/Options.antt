@@ -22,8 +22,8 @@ IsWordOf text format = IsName (map to_ascii_lowercase text) format
 abbrev pub IsNoFormat : List ℕ → Type 0
 IsNoFormat text = (format : Format) → ¬ (IsWordOf text format)
 
--- how large a picture may be, where so many pixels and so many bytes of samples are asked for: of what is not asked for, as
--- much as by default
+-- how large a picture may be, where this number of pixels and this number of bytes of samples are asked for: of what is not asked
+-- for, as much as by default
 abbrev pub limits_of : Option ℕ → Option ℕ → Limits
 limits_of pixels bytes =
     record { pixels = unwrap_or pixels (2 ^ 28); channels = 256; bytes = unwrap_or bytes (2 ^ 31); profile = 2 ^ 24 }

@@ -49,7 +49,7 @@ pub record PictureHasNoFormat (limits : Limits) (file : List ℕ) (asked : Optio
 abbrev pub HasNoFormat : Limits → List ℕ → Option Format → Type 0
 HasNoFormat limits file asked = HeadersHaveNoFormat limits file asked ⊎ PictureHasNoFormat limits file asked
 
--- The picture of the file is above the limits: it has these sides, and so many extra channels.
+-- The picture of the file is above the limits: it has these sides, and this number of extra channels.
 pub record IsAboveLimits (limits : Limits) (file : List ℕ) (size : Size) (extra : ℕ) (most : Limits) : Type 0 where
   pub image : Image
   pub headers : HeadersOfFile (entropy decoder_at) limits file image (Some fronts.TooLarge)

@@ -128,7 +128,8 @@ fn ending(path: &str) -> Option<&str>
     Path::new(path).extension()
 }
 
-// How large a picture may be: as by default, but for so many pixels and bytes of samples, where they are asked for.
+// How large a picture may be: as by default, but for these numbers of pixels and bytes of samples, if they are asked
+// for.
 fn limits_of(pixels: Option<u64>, bytes: Option<u64>) -> Limits
     ensures { result ≡ the_limits pixels bytes }
 {

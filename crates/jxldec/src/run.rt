@@ -86,7 +86,7 @@ fn above(limits: &Limits, header: &ImageHeader) -> Failure
     }
 }
 
-// That a picture whose headers stand is within the limits and can be written: what else is wrong with the file is told
+// That a picture whose headers stand is within the limits and can be written: other errors of the file come
 // when it is decoded.
 fn check_picture(
     alloc: Global,
@@ -260,7 +260,7 @@ fn succeed<E: Write>(errors: &mut E, options: &Options<'_>, left_out: &LeftOut) 
 /// decimal numbers. It returns the status to end with: 0 where the output got that text, alone and whole; else 1, and
 /// `errors` got the line of a failure that holds of the file, unless the output is a pipe that was closed. Nothing is
 /// written to the output unless the whole picture was decoded. With status 0 `errors` got nothing but the lines that warn
-/// of what is left out. Each section that is decoded is told of to `progress`.
+/// of what is left out. `progress` is called after each section.
 pub fn run<R: Read, W: Flush, E: Write, P: Line>(
     alloc: Global,
     options: Options<'_>,

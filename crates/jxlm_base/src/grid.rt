@@ -11,7 +11,7 @@ pub use jxlm_bits::error::OutOfMemory;
 use std::alloc::Global;
 use std::marker::Model;
 
-/// So many zeros. Memory is asked for once, and written by pieces, each of which is in the nearest cache.
+/// This number of zeros. Memory is asked for once, and written by pieces, each of which is in the nearest cache.
 fn zeros<S: Sealed>(alloc: Global, count: usize) -> Result<Vec<S>, OutOfMemory>
     ensures { IfOk result (λ v. v.items ≡ replicate count (S.from_int (pos 0))) }
 {

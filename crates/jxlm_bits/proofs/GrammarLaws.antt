@@ -1,4 +1,4 @@
--- The laws of fields: what is read stands there, and what stands there is read.
+-- The laws of fields: the parser returns exactly what the bits at its position code.
 use Rattle.std.proofs.Common.{◌≡◌, ℕ, zero, suc, ◌+◌, ◌*◌, Bool, true, false, List, [], ◌∷◌, length, Some, Ok, Err, Result, sym, refl, ap}
 use Rattle.std.specs.Prelude.{nat_lt, ◌==◌, if◌then◌else◌}
 use Rattle.std.proofs.lemmas.Bool.{ltb-false, le-ltb}

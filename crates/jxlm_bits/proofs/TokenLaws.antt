@@ -1,4 +1,4 @@
--- Tokens as fields are read exactly: what is read stands there, and what stands there is read.
+-- Tokens as fields are read exactly: the parser returns exactly what the bits at its position code.
 use Rattle.std.proofs.Common.{◌≡◌, ℕ, zero, suc, List, Ok, Err, None, Result, refl, ap}
 use Rattle.jxlm_bits.specs.Decoding.{Found, Meaning}
 use Rattle.jxlm_bits.specs.ErrorKind.{OfDecoder}

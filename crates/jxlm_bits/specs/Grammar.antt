@@ -15,7 +15,7 @@ pub record Grammar (X : Type 0) : Type 1 where
   -- the value stands from the first position to the second, in any of its spellings
   pub Stands : List ℕ → ℕ → X → ℕ → Type 0
 
--- The two laws of a field: what is read stands there; what stands there is read.
+-- The two laws of a field: the bits before the reader code what it read; the reader reads what the bits code.
 pub record IsExact {X : Type 0} (field : Grammar X) : Type 0 where
   pub read_stands : (bytes : List ℕ) (p : ℕ) (found : Found X) → field.read bytes p ≡ Ok found → field.Stands bytes p found.value found.position
   pub stands_read : (bytes : List ℕ) (p : ℕ) (x : X) (q : ℕ) → field.Stands bytes p x q → field.read bytes p ≡ Ok (record { value = x; position = q })

@@ -30,7 +30,7 @@ told d context s = called (λ bytes p. result_map_both (λ t. record { value = r
 abbrev pub token : {S X : Type 0} → Meaning S → ℕ → (ℕ → Grammar X) → Tokens S X
 token d context means s = told d context s >>= λ t. means t.value >>= λ x. give (record { value = x; state = t.state })
 
--- what the tokens of a decoder of so many contexts tell: it comes before them, and their end is checked
+-- what the tokens of a decoder of this number of contexts tell: it comes before them, and their end is checked
 abbrev pub coded_tokens : {S X : Type 0} → Meaning S → ℕ → Tokens S X → Grammar X
 coded_tokens d contexts tokens = do
   s ← called (λ bytes p. d.parse bytes p contexts) >>= λ s. called (λ bytes p. d.begin s bytes p)

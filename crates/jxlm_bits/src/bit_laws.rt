@@ -17,7 +17,7 @@ pub fn numbers_of_bits()
         ≡ slice_index bytes i }
 {}
 
-/// What is read as a number of n bits, a `Bool` or a `U32` stands there, and what stands there is read.
+/// The parser returns a number of n bits, a `Bool` or a `U32` exactly if the bits at its position code it.
 pub fn fields_are_read_exactly()
     ensures number { (n : ℕ) → IsExact (number n) }
     ensures flag { IsExact flag }

@@ -254,8 +254,8 @@ impl<'a> Bitstream<'a> {
         left >= 8 && (u64::from(self.bit) + n) / 8 <= (left - 8) as u64
     }
 
-    /// The bits from so many after the reader's position on, as a number: the first is the least significant, and at
-    /// least 57 are there. The reader stays where it is.
+    /// The bits from this number after the reader's position on, as a number: the first is the least significant, and
+    /// at least 57 are there. The reader stays where it is.
     #[inline(always)]
     pub fn ahead(&self, at: u64) -> u64
         requires few { at < 2 ^ 63 }
@@ -280,7 +280,8 @@ impl<'a> Bitstream<'a> {
         self.bit = (end % 8) as u32;
     }
 
-    // Whether so many numbers of n bits are followed by eight bytes. They are taken for less where they are 2^32 or more.
+    // Whether this number of numbers of n bits are followed by eight bytes. They are taken for less where they are 2^32
+    // or more.
     #[inline(always)]
     fn has_many(&self, n: u32, count: usize) -> bool
         requires { n ≤ 32 }

@@ -40,7 +40,7 @@ module _ {V : Type 0} (d : Meaning V) (exact : TreesAreReadExactly d) (w : Width
   abbrev here : IsPicture d w None bytes 0 (given_list image) 0 bit_depth image e.end
   here = encoded_is_picture d exact w ts nodes image bytes bit_depth e
 
-  -- a picture that stands there is the image
+  -- a picture that the bits code is the image
   pub comes_back : (other : List (Grid ℤ)) (r : ℕ) → IsPicture d w None bytes 0 (given_list image) 0 bit_depth other r → other ≡ image
   comes_back other r y = (one_picture d w None bytes 0 (given_list image) 0 bit_depth other image r e.end y here).3
 

@@ -1,4 +1,4 @@
--- A cell of a channel: what stands there, what is before it, and where the state is.
+-- A cell of a channel: its sample, what is before it, and where the state is.
 use Rattle.std.proofs.Common.{◌≡◌, ℕ, zero, suc, ◌+◌, ◌*◌, ◌/◌, ◌<◌, ◌≤◌, ◌^◌, List, [], ◌∷◌, ◌++◌, length, take, get_or, Bool, true, false, None, Some, refl, sym, ap, ◌∙◌, subst, arith, ℤ, pos}
 use Rattle.std.specs.List.{All}
 use Rattle.std.specs.Int.{Width}
@@ -153,7 +153,7 @@ module _ {D : Type 0} (c : PartCoding D) (coding : IsCodingOf c) (i : ℕ) (li :
       line_is : line (take j own) reg.width ≡ y
       line_is = ap (λ n. n / reg.width) own_long ∙ div-mul-add y reg.width x px
 
-      -- what stands there
+      -- the sample of the cell
       pub value_is : (row : List X) (d : X) → HasRow c store i y row → to_int (get_or row x d) ≡ get_or own j (pos 0)
       value_is row d has =
           let long = has.long in

@@ -122,7 +122,7 @@ fn place_after(height: usize, k: usize) -> usize
     }
 }
 
-/// Line `y` of lines of so many columns.
+/// Line `y` of lines of this number of columns.
 #[tactic(auto, using(crate::proofs::StripSteps::line_within))]
 fn line_at<S>(lines: &[S], columns: usize, y: usize) -> &[S]
     requires { y * columns + columns ≤ length lines.now }
@@ -223,7 +223,7 @@ fn squeeze_strip<S: Sample>(store: &mut [AlignedGrid<S>], strip: Region, coded: 
     write_lines(store, strip, coded);
 }
 
-/// The strip of a region of so many columns from column `x` on.
+/// The strip of a region of this number of columns from column `x` on.
 fn strip_of<S: Sample>(store: &[AlignedGrid<S>], region: Region, x: usize, columns: usize) -> Region
     requires lies { Lies region store.now }
     requires within { x + columns ≤ region.width }

@@ -82,7 +82,7 @@ transform_as (OfSqueeze steps) h bytes p q b e =
       last_as squeeze OfSqueeze steps (squeeze_bits steps) (squeeze_as steps h.count h.each) bytes (p + length (digits 2 2)) q (has_rest bytes p (digits 2 2) (squeeze_bits steps) b) (omega (arith, l, e)),
     )
 
--- the header that was written stands there
+-- the bits code the header that was written
 pub header_as : (ts : List Transform) → length ts ≤ 273 → All IsWritten ts → StandsAs header (record { use_global_tree = false; wp_params = default_weights; transform = ts }) (header_bits ts)
 header_as ts few each =
     let h : Header = record { use_global_tree = false; wp_params = default_weights; transform = ts } in

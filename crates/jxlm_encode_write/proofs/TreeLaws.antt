@@ -177,7 +177,7 @@ length-zeros : (n : ℕ) → length {A = ℕ} (replicate n 0) ≡ n
 length-zeros zero = refl
 length-zeros (suc n) = let l = length-zeros n in omega (arith, l)
 
--- the tree that was written, and the decoder of its leaves, stand there
+-- the bits code the tree that was written, and the decoder of its leaves
 tree_stands : {S : Type 0} (d : Meaning S) (state : ℕ → S) (head : ℕ → List ℕ) (one : ℕ → List ℕ) (Fits : ℕ → Type 0) (own : IsWritable d state head one Fits)
     (state2 : ℕ → S) (head2 : ℕ → List ℕ) (one2 : ℕ → List ℕ) (Fits2 : ℕ → Type 0) (leaves : IsWritable d state2 head2 one2 Fits2)
     (bytes : List ℕ) (start end node_limit depth_limit : ℕ) (t : Shape Leaf) (nodes : List EncodeNode) → levels t ≡ map node_of nodes →

@@ -59,7 +59,7 @@ residual_halved false w h c p = record { width = p.width; height = p.height; acr
 
 -- ---- before all transforms
 
--- a part, rounded up, of what is no more than so many times
+-- a part, rounded up, of what is no more than this number of times
 pub ceil_within : (a b q : ℕ) → 0 < b → a ≤ q * b → div_ceil a b ≤ q
 ceil_within a b q h le =
     let t = (div_ceil_times a b h).1 in

@@ -19,7 +19,7 @@ use Rattle.jxlm_header.specs.Opening.{resolved, opening}
 bind : {X Y : Type 0} {field : Grammar X} {next : X → Grammar Y} → IsExact field → ((x : X) → IsExact (next x)) → IsExact (field >>= next)
 bind {field} {next} first rest = exact-bind field next first rest
 
--- what is read as a header stands there, and what stands there is read
+-- the parser returns exactly what the bits at its position code
 pub exact-header : (tables : PaletteTables) → IsExact (header_by tables)
 exact-header tables =
     bind exact-flag λ use_global_tree. bind exact-wp_header λ weights.

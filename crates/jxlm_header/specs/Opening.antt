@@ -52,7 +52,7 @@ abbrev pub CheckGives : Result (Unit {0}) ErrorKind → Result (Unit {0}) Error 
 CheckGives check (Ok u) = check ≡ Ok tt
 CheckGives check (Err e) = check ≡ Err (kind_of e)
 
--- what is read before a tree stands there, and what stands there is read
+-- the parser returns what precedes a tree exactly if the bits at its position code it
 abbrev pub OpeningIsExact : Type 0
 OpeningIsExact = (has_global : Bool) (list : ChannelList) → IsExact (opening has_global list)
 

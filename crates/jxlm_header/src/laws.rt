@@ -2,7 +2,7 @@
 
 ghost use Rattle.jxlm_header.specs.Opening.{OpeningIsExact};
 
-/// What is read before an image's tree stands there, and what stands there is read.
+/// The parser returns what precedes an image's tree exactly if the bits at its position code it.
 pub fn each_opening_is_read_exactly()
     ensures { OpeningIsExact }
 {}

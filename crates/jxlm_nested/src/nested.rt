@@ -62,8 +62,8 @@ pub fn add_tables<S: Sample>(
 }
 
 impl<D: Decoder> NestedPart<D> {
-    /// Reads header and tree of a part that holds these pieces of an image with so many buffers. The header's list of
-    /// channels begins without meta channels.
+    /// Reads header and tree of a part that holds these pieces of an image with this number of buffers. The header's
+    /// list of channels begins without meta channels.
     ///
     /// # Errors
     ///

@@ -161,7 +161,7 @@ ended_by bytes p x false e h =
     let f = first_under bytes p le in
     rw (ok_same _ _ b.2) (f.zeros, f.one, le, n.2)
 
--- zeros that ended: so many, a one, and the position after it
+-- zeros that ended: their number, a one, and the position after it
 pub ended_first : (bytes : List ℕ) (p : ℕ) (x : Found ℕ) → zeros_end bytes p ≡ Ok x → (bits_at bytes p x.value ≡ 0) × (bit_at bytes (p + x.value) ≡ 1) × (x.value ≤ 32) × (x.position ≡ p + (x.value + 1))
 unfolding zeros_end
 ended_first bytes p x h = ended_by bytes p x (nat_lt 32 (zeros_at bytes p)) refl h

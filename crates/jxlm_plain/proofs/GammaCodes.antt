@@ -26,7 +26,7 @@ ok_chosen false r e x h = (refl, h)
 one_more : (a b : ℕ) → (a < b → ⊥) → (b < a → ⊥) → a ≡ b
 one_more a b f g = grind (arith, f, g)
 
--- numbers of so many digits
+-- numbers of this number of digits
 fewer_digits : (t n m : ℕ) → HasZeros t n → HasZeros t m → n < m → ⊥
 fewer_digits t n m h k lt = let more = pow_mono {i = n + 1} {j = m} (omega arith) in omega (arith, more, h.1, k.0)
 

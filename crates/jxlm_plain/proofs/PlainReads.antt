@@ -21,7 +21,7 @@ module _ (bytes : List ℕ) (n : ℕ) (codes : List Code) (clusters : List ℕ) 
   unfolding plain_read token_at
   number_read q v fits value = rw (← is, number_there bytes q n fits, value) refl
 
-  -- so many were read
+  -- this number of were read
   pub numbers_read : (tokens : List ℕ) (p k : ℕ) → p + n * k ≤ 8 * length bytes → ((j : ℕ) → j < k → slice_index tokens j ≡ bits_at bytes (p + n * j) n) →
       TakesTokens (λ u q. plain_read u bytes q c m) tokens (state Unsealed codes clusters) p k (state Unsealed codes clusters) (p + n * k)
   numbers_read tokens p zero fits values = (refl, omega arith)

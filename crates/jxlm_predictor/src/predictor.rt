@@ -239,8 +239,8 @@ pub fn self_correcting_stays_in_range()
     ensures { AlwaysInRange }
 {}
 
-/// The weights of a header are read exactly: what is read as weights stands there, and weights that
-/// stand there are read.
+/// The weights of a header are read exactly: the parser returns weights exactly if the bits at its
+/// position code them.
 pub fn weights_are_read_exactly()
     ensures { IsExact wp_header }
 {}

@@ -31,7 +31,7 @@ abbrev pub IsReached : {X : Type 0} → Bool → FlatTree → (X → ℤ) → Pr
 IsReached clamped flat to_int properties l = (s : Setting) (samples : List ℤ) → StandsAt (state_of properties) s samples →
     l ≡ leaf_at clamped flat s (store_meanings to_int (store_of properties)) samples
 
--- the leaf to which the tree leads where each property is this number, found in at most so many steps
+-- the leaf to which the tree leads where each property is this number, found in at most this number of steps
 pub record IsFoundBy (flat : FlatTree) (number : ℤ) (before after most : ℕ) (l : Leaf) : Type 0 where
   pub leaf : l ≡ leaf_reached flat (λ k. number)
   pub stands : StandsAtLeaf flat.tree l
@@ -39,7 +39,7 @@ pub record IsFoundBy (flat : FlatTree) (number : ℤ) (before after most : ℕ) 
   pub cost : after ≤ before + most
   pub more : before ≤ after
 
--- it is that leaf, found in at most so many steps
+-- it is that leaf, found in at most this number of steps
 pub record IsFound {X : Type 0} (clamped : Bool) (flat : FlatTree) (to_int : X → ℤ) (properties : Properties X)
     (before after most : ℕ) (l : Leaf) : Type 0 where
   pub leaf : IsReached clamped flat to_int properties l

@@ -263,8 +263,8 @@ pub fn flat_trees<D: Decoder>(
     Ok(flats)
 }
 
-/// A state with room for channels of these flat trees up to the width `widest`, and for a row of so many samples; it has
-/// the weights where one of the trees may ask for them.
+/// A state with room for channels of these flat trees up to the width `widest`, and for a row of this number of
+/// samples; it has the weights where one of the trees may ask for them.
 ///
 /// # Errors
 ///

@@ -14,7 +14,7 @@ use Rattle.jxl_modular.specs.Image.{Image}
 use Rattle.jxl_modular.specs.Sections.{AreDecoded, CodesNested, CodesPart, CodesWhole}
 use Rattle.jxl_modular.specs.declared.sections.Section.{Section}
 
--- the image as far as it is told without its store
+-- the image as far as it is known without its store
 abbrev pub storeless : {S D : Type 0} → Image S D → Image ℤ D
 storeless x = record {
   has_palette = x.has_palette;

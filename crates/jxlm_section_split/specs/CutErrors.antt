@@ -51,7 +51,7 @@ module _ {S D : Type 0} (d : Meaning D) (w : Width) (to_int : S → ℤ) (zero :
   abbrev pub begun : HeaderStands → Image S D
   begun h = fresh zero given h.head h.config group_dim bit_depth
 
-  -- the first section stands there, and its header or its tree has this error
+  -- the first section is in the bytes, and its header or its tree has this error
   pub record HeaderFails (error : ErrorKind) : Type 0 where
     pub section : List ℕ
     pub rest : List ℕ
@@ -72,7 +72,7 @@ module _ {S D : Type 0} (d : Meaning D) (w : Width) (to_int : S → ℤ) (zero :
 
   -- where samples may be missing, or may not
   module _ (partly : Bool) where
-    -- All sections stand there, and decoding them, one after another, returns this error.
+    -- All sections are in the bytes, and decoding them, one after another, returns this error.
     pub record SamplesFail (error : ErrorKind) : Type 0 where
       pub header : HeaderStands
       pub first : Section

@@ -65,7 +65,7 @@ AreNumbered sections = (n : ℕ) (d : Section) → n < length sections → let s
     (s.stream_index ≡ n % 2 ^ 32) × (s.nested ≡ nat_lt 0 n) × (0 < n → position_of s.bits ≡ 0)
 
 -- These are the grids of the picture whose sections stand at the start of the bytes: the first goes on with the global
--- part after the image's header and tree, each other codes a group, and so many nodes were looked at before and after.
+-- part after the image's header and tree, each other codes a group, and this number of nodes were looked at before and after.
 pub record IsCutPicture {D : Type 0} (d : Meaning D) (w : Width) (given : ChannelList) (group_dim bit_depth : ℕ) (bytes : List ℕ) (grids : List (Grid ℤ)) : Type 0 where
   pub first : Section
   pub groups : List Section

@@ -149,7 +149,7 @@ chosen true l m error e = cc
 chosen false l m error e = cc
 
 module _ {X : Type 0} where
-  -- what stands in a list stands there in a longer one
+  -- an item of a list is at the same place of a longer one
   longer : (xs ys : List X) (f : ℕ) (c : X) → slice_get xs f ≡ Some c → slice_get (xs ++ ys) f ≡ Some c
   longer [] ys f c e = cc
   longer (x ∷ xs) ys zero c e = e
@@ -175,7 +175,7 @@ module _ {X : Type 0} where
     one x c e = cc
   ranged (x ∷ xs) (suc f) n c e = ranged xs f n c e
 
-  -- what a rest of it begins with stands there
+  -- what a rest of it begins with is at that place
   begun : (xs rest : List X) (f : ℕ) (c : X) → drop f xs ≡ c ∷ rest → slice_get xs f ≡ Some c
   begun [] rest zero c e = cc
   begun [] rest (suc f) c e = cc

@@ -43,7 +43,7 @@ abbrev pub has_deltas : PaletteTables → Bool
 has_deltas OfColours = false
 has_deltas OfDeltasToo = true
 
--- how many columns the table of a palette of so many colours and deltas has
+-- how many columns the table of a palette of this number of colours and deltas has
 abbrev pub columns : PaletteTables → ℕ → ℕ → ℕ
 columns OfColours colours deltas = colours
 columns OfDeltasToo colours deltas = colours + deltas

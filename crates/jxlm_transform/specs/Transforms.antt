@@ -58,7 +58,7 @@ abbrev pub weights_for : Predictor → WpHeader → Option WpHeader
 weights_for SelfCorrecting weights = Some weights
 weights_for other weights = None
 
--- a palette: its range, how wide its table is by the colours and deltas that stand there, and the predictor of deltas
+-- a palette: its range, how wide its table is by its colours and deltas, and the predictor of deltas
 abbrev pub palette_by : PaletteTables → WpHeader → Grammar Palette
 palette_by tables weights = do
   begin ← begin_channel

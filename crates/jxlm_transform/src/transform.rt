@@ -36,7 +36,7 @@ pub struct Palette {
     pub begin_c: u32,
     /// How many channels the range has, from 1 to 8192.
     pub num_c: u32,
-    /// How many columns the table has, each a colour: at most 70911, and in tables of deltas too so many more as there
+    /// How many columns the table has, each a colour: at most 70911, and in tables of deltas as many more as there
     /// are deltas.
     pub nb_colours: u32,
     /// How many of them, the first ones, are added to a prediction: at most 66816.
@@ -382,7 +382,7 @@ impl TransformInfo {
     }
 }
 
-/// Transforms are read exactly: what is read as one stands there, and one that stands there is read.
+/// The parser returns a transform exactly if the bits at its position code it.
 pub fn transforms_are_read_exactly()
     ensures colour { IsExact rct }
     ensures palette { (tables : PaletteTables) (weights : WpHeader) → IsExact (palette_by tables weights) }

@@ -124,7 +124,7 @@ within_bounds log factor h =
         absurd (omega (arith, power, whole, h))
 
 module _ {S : Type 0} (d : Meaning S) (bytes : List ℕ) where
-  -- ---- what is read stands there
+  -- ---- the bits code what is read
 
   token_there : (context : ℕ) (s : S) (p : ℕ) (x : Taken ℕ S) → read_context d bytes context s p ≡ Ok x → TokenStands d bytes context (cursor s p) x.value (cursor x.state x.position)
   token_there context s p x h = of (d.read s bytes p (slice_index (d.cluster_map s) context) 0) refl where
@@ -307,7 +307,7 @@ module _ {S : Type 0} (d : Meaning S) (bytes : List ℕ) where
         within = h.within;
       })))
 
-  -- ---- what stands there is read
+  -- ---- what the bits code is read
 
   token_read : (context token : ℕ) (a b : Found S) → TokenStands d bytes context a token b → read_context d bytes context a.value a.position ≡ Ok (record { value = token; state = b.value; position = b.position })
   token_read context token a b h = rw h refl

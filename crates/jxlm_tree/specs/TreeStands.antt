@@ -69,7 +69,7 @@ abbrev pub EachListingIsOfATree : {S : Type 0} → Meaning S → Type 0
 EachListingIsOfATree {S} d = (bytes : List ℕ) (node_limit p : ℕ) (x : Taken (List (Node Leaf)) S) →
     listing_at d bytes node_limit p ≡ Ok x → (t : Shape Leaf) × (levels t ≡ x.value)
 
--- The two laws of a tree: what is read stands there, and what stands there is read.
+-- The two laws of a tree: the parser returns exactly what the bits at its position code.
 abbrev pub TreesAreReadExactly : {S : Type 0} → Meaning S → Type 0
 TreesAreReadExactly {S} d = (bytes : List ℕ) (node_limit depth_limit p : ℕ) (config : Config S) (q : ℕ) →
     IsTreeAt d bytes node_limit depth_limit p config q ↔ TreeStands d bytes node_limit depth_limit p config q

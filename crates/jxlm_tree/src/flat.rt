@@ -217,7 +217,7 @@ impl FlatNode {
     }
 }
 
-// The channel that comes so many after another, or the last one whose number decisions do not read as negative.
+// The channel that comes this number after another, or the last one whose number decisions do not read as negative.
 fn last_channel(channel: u32, more: u32) -> u32
     ensures within { result ≤ channel + more }
     ensures signed { result < 2 ^ 31 }

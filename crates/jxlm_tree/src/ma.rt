@@ -229,8 +229,8 @@ pub fn no_two_trees_share_a_listing()
     ensures { (t u : Shape Leaf) → levels t ≡ levels u → t ≡ u }
 {}
 
-/// A tree that is read stands in the bits token after token, a tree that stands there is read, and no two trees stand
-/// at one bit position.
+/// A tree that is read stands in the bits token after token, a tree whose bits are at the reader's position is read,
+/// and no two trees stand at one bit position.
 pub fn each_tree_is_read_exactly<D: Decoder>()
     ensures exactly { TreesAreReadExactly D.meaning }
     ensures one { OneTreeStands D.meaning }

@@ -27,7 +27,7 @@ name_in name Second = name ++ codes "2"
 abbrev pub IsOfNoFormat : List ℕ → List ℕ → Type 0
 IsOfNoFormat name word = (f : Format) → word ≢ name_in name f
 
--- a name, `W H N BITS i16|i32` with these numbers and this type, and so many more words
+-- a name, `W H N BITS i16|i32` with these numbers and this type, and this number of more words
 pub record AsksPicture (words : List (List ℕ)) (name : List ℕ) (more : ℕ) (format : Format) (width height channels bit_depth : ℕ) (samples : Samples) : Type 0 where
   pub count : length words ≡ 6 + more
   pub named : slice_index_or words 0 [] ≡ name_in name format

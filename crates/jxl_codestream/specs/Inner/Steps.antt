@@ -20,7 +20,7 @@ abbrev pub StateReads : {S X : Type 0} → Result (Unit {0}) Error → S → ℕ
 StateReads {S} {X} (Ok u) s q reading = (x : X) × (reading ≡ Ok (record { value = record { value = x; state = s }; position = q }))
 StateReads (Err e) s q reading = UnlessMemory (kind_of e) (IsErrorAt reading (kind_of e) q)
 
--- the decoder of so many contexts, at the begin of its tokens
+-- the decoder of this number of contexts, at the begin of its tokens
 abbrev pub decoder : {S : Type 0} → Meaning S → ℕ → Grammar S
 decoder d contexts = called (λ bytes p. d.parse bytes p contexts) >>= λ s. called (λ bytes p. d.begin s bytes p)
 

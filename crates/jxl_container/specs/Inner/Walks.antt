@@ -91,7 +91,7 @@ with_box bytes seen b = record {
   last = seen.last || is_last bytes b;
 }
 
--- boxes that follow one another from p to q after others, each of which may stand there
+-- boxes that follow one another from p to q after others, each of which is allowed there
 abbrev pub Reach : List ℕ → List FileBox → ℕ → List FileBox → ℕ → Type 0
 Reach bytes before p [] q = p ≡ q
 Reach bytes before p (b ∷ boxes) q = (b ≡ box_from bytes p) × (fault bytes before b ≡ None) × Reach bytes (before ++ b ∷ []) b.end boxes q

@@ -9,11 +9,11 @@ use Rattle.jxl_frame_header.specs.declared.coding.FrameFlags.{FrameFlags}
 use Rattle.jxl_frame_header.specs.declared.passes.Order.{Order}
 use Rattle.jxl_frame_header.specs.declared.passes.Order.TheVariants.{Finer, Later}
 
--- the flags, where they are told
+-- the flags, if the header signals them
 abbrev pub flags : Bool → Grammar FrameFlags
 flags told = when told long 0 >>= λ v. give (flags_of v)
 
--- the factor of a resolution, finer than the one before; and its last pass, which is one of so many, and a later one
+-- the factor of a resolution, finer than the one before; and its last pass, which is one of this number, and a later one
 abbrev pub finer : Option ℕ → Grammar ℕ
 finer before = checked (codes "downsample") (λ v. option_map_or (λ b. nat_lt v b) before true) factor
 
@@ -26,7 +26,7 @@ abbrev pub next : Order → Option ℕ → Grammar ℕ
 next Finer = finer
 next (Later count) = later count
 
--- how many resolutions are told: no more than there are passes
+-- how many resolutions the header lists: no more than there are passes
 abbrev pub resolutions : ℕ → Grammar ℕ
 resolutions count = checked (codes "num_downsample") (λ n. nat_le n count) (u32 (Const 0) (Const 1) (Const 2) (Offset 3 1))
 

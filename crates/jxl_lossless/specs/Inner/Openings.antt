@@ -18,7 +18,7 @@ abbrev pub HeaderFails : {D : Type 0} → Meaning D → Option (Config D) → Ch
 HeaderFails d global given bytes p error = (q : ℕ) × (IsErrorAt (opened global bytes given p) error q ⊎ IsTreeErrorAt d global bytes given p error q)
 
 module _ {D : Type 0} (d : Meaning D) (global : Option (Config D)) (given : ChannelList) (bytes : List ℕ) (p : ℕ) where
-  -- the image whose header stands there, up to bit q
+  -- the image whose header the bits up to bit q code
   pub record Opens {S : Type 0} (zero : S) (group_dim bit_depth : ℕ) (image : Image S D) (q : ℕ) : Type 0 where
     pub head : Opening
     pub plain : weighted_at bytes p ≡ false

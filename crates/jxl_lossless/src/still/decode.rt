@@ -63,7 +63,7 @@ fn decode_all<S: Sample, D: Decoder, P: Progress>(
 /// A header that uses a global tree has the one of the parameters. Each group with samples has a section, which begins
 /// with a header of its own; the others are not looked at. The indices of streams are 0 for the global part, 1 and the
 /// number of LF groups and its own number for an LF group, and 18 and three times the number of LF groups and its place
-/// for a group of a pass, of all groups of all passes, pass after pass. Each section is told of when it was decoded. It
+/// for a group of a pass, of all groups of all passes, pass after pass. `progress` is called after each section. It
 /// returns the image, whose transforms are undone; with no channels there is none.
 ///
 /// The parameters are valid, and their channels are of one picture; there are at most 2^24 groups of each kind, and

@@ -50,7 +50,8 @@ fn some_weighted(transforms: &[TransformInfo]) -> bool
         .any(|transform| is_weighted_palette(transform))
 }
 
-// Whether a header stands there that has a palette with the weighted predictor; not where no header can be read.
+// Whether the header at the reader's position has a palette with the weighted predictor; not where no header can be
+// read.
 fn begins_weighted(alloc: Global, bits: Bitstream<'_>) -> Result<bool, OutOfMemory>
     ensures { IfOk result (λ b. b ≡ weighted_at (bytes_of bits.entry) (position_of bits.entry)) }
 {
@@ -74,7 +75,7 @@ pub(crate) fn begin_weighted(alloc: Global, sections: &[Section<'_>]) -> Result<
     Ok(false)
 }
 
-// The image whose header stands there, or none where there are no channels.
+// The image whose header is at the reader's position, or none where there are no channels.
 fn read_image<S: Sample, D: Decoder>(
     alloc: Global,
     bits: &mut Bitstream<'_>,

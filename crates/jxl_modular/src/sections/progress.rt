@@ -2,7 +2,7 @@
 
 ghost use Rattle.std.specs.Prelude.{ℕ, ⊤};
 
-/// Who is told how far sections have come while they are decoded. Nothing of them depends on what it does.
+/// Receives how far sections have come while they are decoded. Nothing of them depends on what it does.
 pub trait Progress {
     /// What a call leaves of a value, by the number of sections; nothing, where an `impl` does not say it.
     ghost section_decoded_gives: { Self → ℕ → Self → Type 0 } = { λ _ _ _. ⊤ };
@@ -12,7 +12,7 @@ pub trait Progress {
         ensures { section_decoded_gives self.old count self.new };
 }
 
-/// Nobody is told.
+/// Receives nothing.
 impl Progress for () {
     fn section_decoded(&mut self, _count: usize) {}
 }

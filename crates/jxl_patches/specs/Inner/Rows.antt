@@ -32,7 +32,8 @@ pub record FitsChannel (frames : List (List (Grid ℤ))) (patches : Patches) (ki
   pub held : (n : ℕ) → n < length patches.places → channel < length (get_or frames (place_at patches n).source.slot [])
   pub places : (n : ℕ) → n < length patches.places → PlaceFits (place_at patches n) (channel_of frames (place_at patches n).source.slot channel) grid
 
--- of the modes of a place that of this channel, where so many are of colours: the first of colours, then one of each extra channel
+-- of the modes of a place that of this channel, where this number of are of colours: the first of colours, then one of each extra
+-- channel
 abbrev pub kind_of : ℕ → ℕ → ℕ
 kind_of colours channel = 1 + channel - colours
 

@@ -30,7 +30,7 @@ abbrev pub Checks : {X : Type 0} → Result X PatchError → Result X ErrorKind 
 Checks (Ok x) check = check ≡ Ok x
 Checks (Err e) check = check ≡ Err (patch_kind e)
 
--- the decoder of so many contexts, at the begin of its tokens
+-- the decoder of this number of contexts, at the begin of its tokens
 abbrev pub decoder : {S : Type 0} → Meaning S → ℕ → Grammar S
 decoder d contexts = called (λ bytes p. d.parse bytes p contexts) >>= λ s. called (λ bytes p. d.begin s bytes p)
 
@@ -38,7 +38,7 @@ decoder d contexts = called (λ bytes p. d.parse bytes p contexts) >>= λ s. cal
 abbrev pub slot : {S : Type 0} → Meaning S → List (Option Size) → Tokens S ℕ
 slot d slots = token d 1 (λ v. number_meant (codes "slot of a patch") (is_some (get_or slots v None)) v)
 
--- the rectangle at this corner of the frame that a slot holds, whose sides are told less one
+-- the rectangle at this corner of the frame that a slot holds, whose sides are coded less one
 abbrev pub rectangle_within : List (Option Size) → ℕ → ℕ → ℕ → ℕ → ℕ → Result Rectangle ErrorKind
 rectangle_within slots slot x0 y0 w h = if option_map_or (λ f. nat_lt (x0 + w) f.width && nat_lt (y0 + h) f.height) (get_or slots slot None) false
     then Ok (record { slot = slot; x0 = x0; y0 = y0; width = w + 1; height = h + 1 }) else Err (BadEnum (codes "rectangle of a patch") slot)
@@ -47,7 +47,7 @@ rectangle_within slots slot x0 y0 w h = if option_map_or (λ f. nat_lt (x0 + w) 
 abbrev pub rectangle_count : {S : Type 0} → Meaning S → Size → Tokens S ℕ
 rectangle_count d size = token d 0 (λ v. number_meant (codes "count of patches") (nat_le v (most_rectangles size)) v)
 
--- at how many places a rectangle is put, where so many places and cells come before
+-- at how many places a rectangle is put, where these numbers of places and cells come before
 abbrev pub count_within : Size → ℕ → ℕ → Rectangle → ℕ → ℕ → Result ℕ ErrorKind
 count_within size done cells r limit v = if nat_le (done + (v + 1)) (4 * most_rectangles size)
     then (if nat_le (cells + r.width * r.height * (v + 1)) limit then Ok (v + 1) else Err (BadProfile (codes "patches of too many cells"))) else Err (BadEnum (codes "places of a patch") v)

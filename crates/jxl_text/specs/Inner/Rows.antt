@@ -8,7 +8,7 @@ use Rattle.jxl_text.specs.Reading.{AreNumbers, AreRowsWrong, IsNamed, IsLineWron
 use Rattle.jxl_text.specs.declared.reading.TextError.{TextError}
 use Rattle.jxl_text.specs.declared.reading.TextError.TheVariants.{Line, OutOfMemory}
 
--- the line is no row of so many numbers
+-- the line is no row of this number of numbers
 abbrev pub IsNoRow : Width → ℕ → List ℕ → Type 0
 IsNoRow w width line = (numbers : List ℤ) → length numbers ≡ width → All (FitsSigned w) numbers → line ≢ row_text numbers
 
@@ -36,7 +36,7 @@ module _ {S : Type 0} (to_int : S → ℤ) (w : Width) where
     pub numbers : AreNumbers w (meanings to_int g)
     pub begun : text ≡ channel_text number (meanings to_int g) ++ rest
 
--- where rows cannot be read, a line after so many is the first that is wrong, or it is out of memory
+-- where rows cannot be read, a line after this number of is the first that is wrong, or it is out of memory
 abbrev pub RowsFail : Width → ℕ → ℕ → List ℕ → ℕ → TextError → Type 0
 RowsFail w width height text taken (Line n) = (rows : Grid ℤ) × (n ≡ taken + rows.height + 1) × (rows.height < height) × AreRowsWrong w width text rows
 RowsFail w width height text taken OutOfMemory = Unit {0}

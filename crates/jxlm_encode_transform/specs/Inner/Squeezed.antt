@@ -17,7 +17,7 @@ module _ {S : Type 0} (f : S → ℤ) where
   abbrev pub number_of : Region → List (Grid S) → ℕ → ℕ → ℤ
   number_of r store x y = at (buffer_of (store_meanings f store) r) (r.x + x) (r.y + y)
 
-  -- the first rows of these lines, of so many columns, have these numbers
+  -- the first rows of these lines, of this number of columns, have these numbers
   abbrev pub AreLines : ℕ → List S → (ℕ → ℕ → ℤ) → ℕ → Type 0
   AreLines columns lines value rows = (x y : ℕ) → x < columns → y < rows → number_in f lines (y * columns + x) ≡ value x y
 

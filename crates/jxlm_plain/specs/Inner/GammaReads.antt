@@ -17,7 +17,7 @@ few_at bytes p n = do
   all ← number_at bytes p (n + 1)
   Ok (record { value = n; position = all.position })
 
--- 32 zeros are passed, and what comes then is told
+-- 32 zeros are passed, and what comes then decides
 unfoldable pub many_at : List ℕ → ℕ → Result (Found ℕ) DecoderError
 many_at bytes p = do
   zeros ← number_at bytes p 32

@@ -48,7 +48,7 @@ abbrev pub EndsAlike : Shape Leaf → ℕ → ℕ → ℕ → ℕ → Type 0
 EndsAlike t channel stream earlier last =
     (k : ℕ) → channel + k ≡ last → last + 1 < 2 ^ 31 → taken_alike (known_side (known_at (channel + k) stream (earlier + k))) (known_side (known_at (channel + k + 1) stream (earlier + k + 1))) t ≡ false
 
--- the tree is compiled for this channel of this stream, with so many earlier channels, and its table is that of the root
+-- the tree is compiled for this channel of this stream, with this number of earlier channels, and its table is that of the root
 pub record IsCompiledFor (t : Shape Leaf) (channel stream earlier : ℕ) (c : CompiledTree) : Type 0 where
   pub tree : IsCompiled t (known_at channel stream earlier) c.nodes.items c.root c.need_self_correcting c.prev_channels_named
   pub table : TableAt c.nodes.items c.root (option_map rc_value c.table)
