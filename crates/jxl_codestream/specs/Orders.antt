@@ -6,7 +6,7 @@ use Rattle.jxlm_bits.specs.ErrorKind.{BadEnum}
 use Rattle.jxlm_bits.specs.Grammar.{Grammar, give, fail, either}
 use Rattle.jxl_image_header.specs.Fields.{number_meant}
 use Rattle.jxlm_bits.specs.Tokens.{Tokens, token, coded_tokens}
-use Rattle.jxlm_bits.specs.Turns.{◌>>=◌, chained}
+use Rattle.jxlm_bits.specs.Turns.{◌>>=◌, chain}
 
 -- the numbers below n that were not taken, in their order
 abbrev pub left_of : ℕ → List ℕ → List ℕ
@@ -35,4 +35,4 @@ one_more d n code = token d (context_of (slice_index_or code (length code - 1) 0
 -- the Lehmer code of an order of n numbers: how many digits are coded, at most n, and these
 abbrev pub lehmer_code : {S : Type 0} → Meaning S → ℕ → Grammar (List ℕ)
 lehmer_code d n = coded_tokens d 8
-    (token d (context_of n) (λ v. number_meant (codes "permutation") (nat_le v n) v) >>= λ told. chained (one_more d n) told [])
+    (token d (context_of n) (λ v. number_meant (codes "permutation") (nat_le v n) v) >>= λ told. chain (one_more d n) told [])

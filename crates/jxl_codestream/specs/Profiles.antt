@@ -5,7 +5,7 @@ use Rattle.jxlm_bits.specs.ErrorKind.{BadProfile}
 use Rattle.jxlm_bits.specs.Grammar.{Grammar, give, fail, either, ◌>>=◌}
 use Rattle.jxl_image_header.specs.Fields.{long}
 use Rattle.jxlm_bits.specs.Tokens.{Tokens, token, coded_tokens}
-use Rattle.jxlm_bits.specs.Turns.{chained}
+use Rattle.jxlm_bits.specs.Turns.{chain}
 
 -- the kind of a byte: letters, what numbers are written with, and others by their size
 abbrev pub kind_of : ℕ → ℕ
@@ -27,5 +27,5 @@ one_byte d bytes = token d (context_of bytes) (λ v. give (v % 256 ∷ bytes))
 abbrev pub profile : {S : Type 0} → Meaning S → ℕ → Grammar ℕ
 profile d limit = do
   n ← long >>= λ n. either (nat_le n limit) (give n) (fail (BadProfile (codes "the profile is too long")))
-  bytes ← coded_tokens d 41 (chained (one_byte d) n [])
+  bytes ← coded_tokens d 41 (chain (one_byte d) n [])
   give n

@@ -3,8 +3,8 @@
 ghost use Rattle.std.specs.Prelude.{◌≡◌, ℕ, ◌+◌, ◌-◌, ◌*◌, ◌<◌, ◌≤◌, ◌^◌, List, [], ◌∷◌, ◌++◌, false, length, slice_index_or, IfOk, IfErr};
 ghost use Rattle.jxlm_bits.specs.Bits.{bytes_of, position_of};
 ghost use Rattle.jxlm_bits.specs.ErrorKind.{NoMemory, kind_of};
-ghost use Rattle.jxlm_bits.specs.Tokens.{told as the_told};
-ghost use Rattle.jxlm_bits.specs.Turns.{chained};
+ghost use Rattle.jxlm_bits.specs.Tokens.{token_value as the_told};
+ghost use Rattle.jxlm_bits.specs.Turns.{chain};
 ghost use Rattle.jxl_codestream.specs.Reading.{Decodes};
 ghost use Rattle.jxl_codestream.specs.Orders.{IsOrder, context_of as the_context_of, one_more, lehmer_code as the_lehmer_code};
 ghost use Rattle.jxl_codestream.specs.Inner.Free.{IsNext, free_below, is_taken};
@@ -107,7 +107,7 @@ fn digits<D: Decoder>(
 ) -> Result<Vec<u32>>
     requires { length (D.meaning.cluster_map decoder.old) ≡ 8 }
     ensures gives { TokensRead (λ v. v.items) result decoder.new (position_of bits.new)
-        ((chained (one_more D.meaning count) told [] decoder.old).read (bytes_of bits.old) (position_of bits.old)) }
+        ((chain (one_more D.meaning count) told [] decoder.old).read (bytes_of bits.old) (position_of bits.old)) }
     ensures digits { IfOk result (λ code. AreDigits code.items count) }
     ensures bytes { bytes_of bits.new ≡ bytes_of bits.old }
 {

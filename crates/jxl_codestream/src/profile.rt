@@ -4,7 +4,7 @@ ghost use Rattle.std.specs.Prelude.{◌≡◌, ◌<◌, List, [], ◌∷◌, IfO
 ghost use Rattle.jxlm_bits.specs.Bits.{bytes_of, position_of};
 ghost use Rattle.jxlm_bits.specs.Grammar.{Reads};
 ghost use Rattle.jxl_codestream.specs.Reading.{Decodes};
-ghost use Rattle.jxlm_bits.specs.Turns.{chained};
+ghost use Rattle.jxlm_bits.specs.Turns.{chain};
 ghost use Rattle.jxl_codestream.specs.Profiles.{kind_of as the_kind_of, one_byte, profile};
 ghost use Rattle.jxl_codestream.specs.Inner.Steps.{StateReads, context_after, length_in};
 
@@ -84,7 +84,7 @@ fn length_within(bits: &mut Bitstream<'_>, limit: u64) -> fields::Result<u64>
 fn bytes<D: Decoder>(decoder: &mut D, bits: &mut Bitstream<'_>, count: u64) -> Result<()>
     requires { length (D.meaning.cluster_map decoder.old) ≡ 41 }
     ensures gives { StateReads result decoder.new (position_of bits.new)
-        ((chained (one_byte D.meaning) count [] decoder.old).read (bytes_of bits.old) (position_of bits.old)) }
+        ((chain (one_byte D.meaning) count [] decoder.old).read (bytes_of bits.old) (position_of bits.old)) }
     ensures bytes { bytes_of bits.new ≡ bytes_of bits.old }
 {
     let mut last = 0;

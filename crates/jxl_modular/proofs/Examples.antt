@@ -12,12 +12,12 @@ use Rattle.jxlm_bits.specs.declared.decoder.DecoderError.TheVariants.{Unexpected
 use Rattle.jxlm_bits.specs.declared.error.Error.TheVariants.{Decoder}
 use Rattle.jxlm_transform.specs.Channels.{image_list}
 use Rattle.jxlm_transform.specs.ChannelSteps.{CodedList}
-use Rattle.jxlm_transform.specs.Params.{sized}
+use Rattle.jxlm_transform.specs.Params.{channel_params}
 use Rattle.jxlm_transform.specs.declared.param.ChannelShift.TheVariants.{Shifts}
 use Rattle.jxlm_transform.specs.declared.param.ModularChannelParams.{ModularChannelParams}
 use Rattle.jxlm_tree.specs.Tree.{Config, config_of, leaf, levels}
 use Rattle.jxlm_tree.specs.TreeReading.{listing_at, drafts_at, nodes_at, node_at, leaf_at, predictor_at, multiplier_at, IsTreeAt}
-use Rattle.jxlm_predictor.specs.WeightsHeader.{default_weights}
+use Rattle.jxlm_weighted.specs.WeightsHeader.{default_weights}
 use Rattle.jxlm_tree.specs.declared.flat.Leaf.{Leaf}
 use Rattle.jxlm_predictor.specs.declared.predictor.Predictor.TheVariants.{Zero, Gradient}
 use Rattle.jxlm_samples.specs.Coded.{IsCodedWhole}
@@ -29,7 +29,7 @@ use Rattle.jxl_modular.specs.Picture.{IsPicture}
 
 -- one channel of 2 by 2
 abbrev square : List ModularChannelParams
-square = sized 2 2 (Shifts 0) ∷ []
+square = channel_params 2 2 (Shifts 0) ∷ []
 
 abbrev plain_header : Header
 plain_header = record { use_global_tree = false; wp_params = default_weights; transform = [] }

@@ -33,7 +33,7 @@ use Rattle.jxlm_nested.specs.NestedParts.{CanFill, FillsIn, IsNested, WithSteps,
 use Rattle.jxlm_nested.specs.Opened.{steps_of_header}
 use Rattle.jxl_modular.specs.NestedTurns.{NestedGives}
 use Rattle.jxlm_nested.specs.Nested.{with_tables}
-use Rattle.jxlm_nested.specs.Starts.{IsTreeErrorAt, opened}
+use Rattle.jxlm_nested.specs.Starts.{IsTreeErrorAt, opening_at}
 use Rattle.jxlm_nested.specs.declared.nested.NestedPart.{NestedPart}
 use Rattle.jxl_modular.proofs.Laid.{coded_apart}
 use Rattle.jxl_modular.proofs.NestedLaws.{can_fill, stops_outside, turned_err, turned_ok}
@@ -76,7 +76,7 @@ module _ {S D : Type 0} (x : Image S D) (laid : IsLaidOut x) (passes : List Pass
 
     -- an error before the first sample
     pub not_begun : (e : Error) (q n : ℕ) →
-        UnlessMemory (kind_of e) (IsErrorAt (opened global bytes (nested_list its_channels) p) (kind_of e) q ⊎ IsTreeErrorAt d global bytes (nested_list its_channels) p (kind_of e) q) →
+        UnlessMemory (kind_of e) (IsErrorAt (opening_at global bytes (nested_list its_channels) p) (kind_of e) q ⊎ IsTreeErrorAt d global bytes (nested_list its_channels) p (kind_of e) q) →
         Gives (Err e) x.store q n n
     not_begun e q n fails = (
       record { position = q; partial = false; tried = 0; tree = x.config.tree },

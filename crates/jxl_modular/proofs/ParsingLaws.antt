@@ -16,7 +16,7 @@ use Rattle.jxl_modular.specs.Image.{Image}
 use Rattle.jxlm_nested.specs.Opened.{TreeOfGives, opened_of}
 use Rattle.jxlm_chain.specs.declared.placed.PlacedChannels.{PlacedChannels}
 use Rattle.jxl_modular.specs.Parsing.{IsImageAt, ParseGives}
-use Rattle.jxlm_nested.specs.Starts.{IsTreeErrorAt, opened}
+use Rattle.jxlm_nested.specs.Starts.{IsTreeErrorAt, opening_at}
 use Rattle.jxlm_header.specs.declared.header.ModularHeader.{ModularHeader}
 use Rattle.jxlm_nested.proofs.StartLaws.{no_tree, starts}
 
@@ -32,7 +32,7 @@ module _ {S D : Type 0} (d : Meaning D) (zero : S) (bytes : List ℕ) (p : ℕ) 
   abbrev global : Option (Config D)
   global = option_copied params.ma_config
 
-  module _ (o : ModularHeader × PlacedChannels) (m : ℕ) (opens : opened global bytes given p ≡ Ok (record { value = opened_of o; position = m })) where
+  module _ (o : ModularHeader × PlacedChannels) (m : ℕ) (opens : opening_at global bytes given p ≡ Ok (record { value = opened_of o; position = m })) where
     abbrev TreeGives : Result (Config D) Error → ℕ → Type 0
     TreeGives result q = TreeOfGives d global bytes o.0.use_global_tree (list_of o.1.channels).channels m result q
 
@@ -47,7 +47,7 @@ module _ {S D : Type 0} (d : Meaning D) (zero : S) (bytes : List ℕ) (p : ℕ) 
 
     -- where the tree gives an error, so does the image
     pub tree_fails : (e : Error) (q : ℕ) → TreeGives (Err e) q →
-        UnlessMemory (kind_of e) (IsErrorAt (opened global bytes given p) (kind_of e) q ⊎ IsTreeErrorAt d global bytes given p (kind_of e) q)
+        UnlessMemory (kind_of e) (IsErrorAt (opening_at global bytes given p) (kind_of e) q ⊎ IsTreeErrorAt d global bytes given p (kind_of e) q)
     tree_fails e q gives = no_tree d global bytes given p o m opens e q gives
 
   pub gives_image : (cs : List ModularChannelParams) (image : Image S D) (q : ℕ) → 0 < length cs → IsImageAt d zero bytes p params image q → ParseGives d zero bytes p params cs (Ok (record { inner = Some image })) q
@@ -55,6 +55,6 @@ module _ {S D : Type 0} (d : Meaning D) (zero : S) (bytes : List ℕ) (p : ℕ) 
   gives_image (c ∷ cs) image q some stands = (image, refl, stands)
 
   pub gives_error : (cs : List ModularChannelParams) (e : Error) (q : ℕ) → 0 < length cs →
-      UnlessMemory (kind_of e) (IsErrorAt (opened global bytes given p) (kind_of e) q ⊎ IsTreeErrorAt d global bytes given p (kind_of e) q) → ParseGives d zero bytes p params cs (Err e) q
+      UnlessMemory (kind_of e) (IsErrorAt (opening_at global bytes given p) (kind_of e) q ⊎ IsTreeErrorAt d global bytes given p (kind_of e) q) → ParseGives d zero bytes p params cs (Err e) q
   gives_error [] e q some refused = absurd (omega (arith, some))
   gives_error (c ∷ cs) e q some refused = refused

@@ -14,7 +14,7 @@ use Rattle.jxlm_tree.specs.Steps.{most_steps}
 use Rattle.jxlm_tree.specs.Tree.{Shape, depth}
 use Rattle.jxlm_tree.specs.declared.flat.Leaf.{Leaf}
 use Rattle.jxlm_tree.proofs.FewSteps.{no_more_steps}
-use Rattle.jxlm_predictor.specs.declared.predictor.WpHeader.{WpHeader}
+use Rattle.jxlm_weighted.specs.declared.weights.WpHeader.{WpHeader}
 use Rattle.jxlm_samples.specs.Decode.{DecodeGives, MovesWithin}
 use Rattle.jxlm_samples.specs.Part.{Part}
 use Rattle.jxlm_samples.specs.Placed.{PartLies, standing_in}

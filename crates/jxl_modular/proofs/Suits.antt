@@ -7,7 +7,7 @@ use Rattle.jxlm_transform.specs.Steps.{HasWeights}
 use Rattle.jxlm_chain.specs.Undo.{UndoSqueeze, undo_of, undo_of_all}
 use Rattle.jxlm_chain.specs.Undoings.{SuitsWeights}
 use Rattle.jxlm_transform.specs.ChannelSteps.{Step, RctStep, PaletteStep, SqueezeStep, range}
-use Rattle.jxlm_predictor.specs.declared.predictor.WpHeader.{WpHeader}
+use Rattle.jxlm_weighted.specs.declared.weights.WpHeader.{WpHeader}
 
 module _ (weights : WpHeader) where
   step_suits : (s : Step) (places : Layout) → HasWeights weights s → All (SuitsWeights (Some weights)) (undo_of s places)

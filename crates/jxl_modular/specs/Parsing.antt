@@ -12,7 +12,7 @@ use Rattle.jxl_modular.specs.Fresh.{fresh}
 use Rattle.jxl_modular.specs.Image.{Image}
 use Rattle.jxlm_header.specs.Opening.{Opening}
 use Rattle.jxl_modular.specs.declared.root.Modular.{Modular}
-pub use Rattle.jxlm_nested.specs.Starts.{IsStartAt, IsTreeErrorAt, opened}
+pub use Rattle.jxlm_nested.specs.Starts.{IsStartAt, IsTreeErrorAt, opening_at}
 
 -- the image that there is; with no channels there is none
 abbrev pub image_of : {S D : Type 0} → Modular S D → Option (Image S D)
@@ -33,4 +33,4 @@ module _ {S D : Type 0} (d : Meaning D) (zero : S) (bytes : List ℕ) (p : ℕ) 
   ParseGives [] (Err e) q = ⊥
   ParseGives (c ∷ cs) (Ok m) q = (image : Image S D) × (image_of m ≡ Some image) × IsImageAt image q
   ParseGives (c ∷ cs) (Err e) q =
-      UnlessMemory (kind_of e) (IsErrorAt (opened (option_copied params.ma_config) bytes (image_list params.channels.items) p) (kind_of e) q ⊎ IsTreeErrorAt d (option_copied params.ma_config) bytes (image_list params.channels.items) p (kind_of e) q)
+      UnlessMemory (kind_of e) (IsErrorAt (opening_at (option_copied params.ma_config) bytes (image_list params.channels.items) p) (kind_of e) q ⊎ IsTreeErrorAt d (option_copied params.ma_config) bytes (image_list params.channels.items) p (kind_of e) q)

@@ -12,7 +12,7 @@ use Rattle.jxlm_tree.specs.Tree.{Config, depth}
 use Rattle.jxlm_samples.specs.Coded.{DecodingFails, IsCodedWhole}
 use Rattle.jxlm_samples.specs.Decode.{MovesWithin}
 use Rattle.jxlm_header.specs.Opening.{Opening}
-use Rattle.jxlm_nested.specs.Starts.{IsStartAt, IsTreeErrorAt, coded_part, opened}
+use Rattle.jxlm_nested.specs.Starts.{IsStartAt, IsTreeErrorAt, coded_part, opening_at}
 
 module _ {D : Type 0} (d : Meaning D) (w : Width) (global : Option (Config D)) (bytes : List ℕ) (stream : ℕ) (given : ChannelList) (p : ℕ) where
   -- At bit p, up to q, stand header, MA tree and samples of a picture: its grids alone are transformed into these samples.
@@ -45,7 +45,7 @@ module _ {D : Type 0} (d : Meaning D) (w : Width) (global : Option (Config D)) (
   -- there is no picture, by the first error of header, tree or samples; it may be out of memory at any time
   abbrev pub PictureFails : ErrorKind → ℕ → ℕ → ℕ → Type 0
   PictureFails error q before after =
-      UnlessMemory error (((IsErrorAt (opened global bytes given p) error q ⊎ IsTreeErrorAt d global bytes given p error q) × (after ≡ before)) ⊎ SamplesFail error q before after)
+      UnlessMemory error (((IsErrorAt (opening_at global bytes given p) error q ⊎ IsTreeErrorAt d global bytes given p error q) × (after ≡ before)) ⊎ SamplesFail error q before after)
 
 -- whatever is returned, no step was taken, or the bits code a header and a tree, and steps are within those for all samples
 abbrev pub StepsWithin : {D : Type 0} → Meaning D → Option (Config D) → List ℕ → ChannelList → ℕ → ℕ → ℕ → Type 0

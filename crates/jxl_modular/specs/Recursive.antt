@@ -21,7 +21,7 @@ use Rattle.jxlm_tree.specs.Tree.{Config}
 use Rattle.jxl_modular.specs.Image.{Image}
 use Rattle.jxl_modular.specs.Layers.{IsOnlyPart, Layer, SameButTables, coded_channels, coded_grids, list_within, outer_tables, part_of, store_of, transforms_of}
 use Rattle.jxlm_nested.specs.Nested.{nested_regions, with_tables}
-use Rattle.jxlm_nested.specs.Starts.{IsStartAt, IsTreeErrorAt, opened}
+use Rattle.jxlm_nested.specs.Starts.{IsStartAt, IsTreeErrorAt, opening_at}
 use Rattle.jxl_modular.specs.SameButCells.{SameButIn}
 use Rattle.jxl_modular.specs.declared.recursive.HoldsHeader as holders
 use Rattle.jxl_modular.specs.declared.recursive.NestedSubimage.{NestedSubimage}
@@ -42,7 +42,7 @@ module _ {S D : Type 0} (d : Meaning D) (zero : S) (global : Option (Config D)) 
   -- hold, or of the tree; it may be out of memory at any time
   abbrev pub ReadFails : Error → ℕ → Type 0
   ReadFails e q =
-      UnlessMemory (kind_of e) (IsErrorAt (opened global bytes (list_within channels) p) (kind_of e) q ⊎ IsTreeErrorAt d global bytes (list_within channels) p (kind_of e) q)
+      UnlessMemory (kind_of e) (IsErrorAt (opening_at global bytes (list_within channels) p) (kind_of e) q ⊎ IsTreeErrorAt d global bytes (list_within channels) p (kind_of e) q)
 
 module _ {S D : Type 0} (d : Meaning D) (w : Width) (to_int : S → ℤ) where
   -- what decoding the samples of a part by its own header returns, with what is before and after

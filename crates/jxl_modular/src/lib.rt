@@ -68,7 +68,7 @@ pub mod predictor {
 
 /// Colour transforms, inverse-transformed.
 pub mod rct {
-    pub use jxlm_transform::rct::inverse_rct;
+    pub use jxlm_inverse::rct::inverse_rct;
 }
 
 /// The two types of a sample.
@@ -78,7 +78,7 @@ pub mod sample {
 
 /// Squeeze steps, inverse-transformed.
 pub mod squeeze {
-    pub use jxlm_transform::squeeze::{inverse_h, inverse_v};
+    pub use jxlm_inverse::squeeze::{inverse_h, inverse_v};
 }
 
 /// The headers of transforms.

@@ -9,7 +9,7 @@ use Rattle.jxlm_bits.specs.Decoding.{Meaning}
 use Rattle.jxlm_bits.specs.ErrorKind.{BadEnum, BadProfile, ErrorKind}
 use Rattle.jxl_image_header.specs.declared.size.Size.{Size}
 use Rattle.jxlm_bits.specs.Tokens.{After}
-use Rattle.jxlm_bits.specs.Turns.{chained}
+use Rattle.jxlm_bits.specs.Turns.{chain}
 use Rattle.jxl_patches.proofs.Fitting.{token_ok}
 use Rattle.jxl_patches.specs.Patches.{Patches, most_rectangles, one_mode, one_place, one_rectangle, dictionary}
 use Rattle.jxl_patches.specs.Dictionaries.{area}
@@ -35,8 +35,8 @@ module _ {S : Type 0} (d : Meaning S) where
   abbrev put : Patches → ℕ
   put a = sum_by area a.places
 
-  modes_add : (n : ℕ) (a : Patches) (s : S) (b : After S Patches) (bytes : List ℕ) (p q : ℕ) → (chained (one_mode d) n a s).Stands bytes p b q → put b.value ≡ put a
-  unfolding chained
+  modes_add : (n : ℕ) (a : Patches) (s : S) (b : After S Patches) (bytes : List ℕ) (p q : ℕ) → (chain (one_mode d) n a s).Stands bytes p b q → put b.value ≡ put a
+  unfolding chain
   modes_add zero a s b bytes p q st = rw st.0 refl
   modes_add (suc n) a s b bytes p q st =
       let first = st.2.3.0 in
@@ -54,8 +54,8 @@ module _ {S : Type 0} (d : Meaning S) where
         omega (arith, more, rest)
 
     -- this number of places of a rectangle put its cells so often
-    pub places_add : (n : ℕ) (a : Patches) (s : S) (b : After S Patches) (bytes : List ℕ) (p q : ℕ) → (chained (one_place d size kinds k r) n a s).Stands bytes p b q → put b.value ≡ put a + n * (r.width * r.height)
-    unfolding chained
+    pub places_add : (n : ℕ) (a : Patches) (s : S) (b : After S Patches) (bytes : List ℕ) (p q : ℕ) → (chain (one_place d size kinds k r) n a s).Stands bytes p b q → put b.value ≡ put a + n * (r.width * r.height)
+    unfolding chain
     places_add zero a s b bytes p q st = rw st.0 (omega arith)
     places_add (suc n) a s b bytes p q st =
         let first = place_adds a s st.0 bytes p st.1 st.2 in
@@ -75,8 +75,8 @@ module _ {S : Type 0} (d : Meaning S) where
         let turned = mul_comm n (r.width * r.height) in
         omega (arith, adds, turned, most)
 
-    rectangles_within : (n : ℕ) (a : Patches) (s : S) (b : After S Patches) (bytes : List ℕ) (p q : ℕ) → put a ≤ limit → (chained (one_rectangle d size kinds slots limit) n a s).Stands bytes p b q → put b.value ≤ limit
-    unfolding chained
+    rectangles_within : (n : ℕ) (a : Patches) (s : S) (b : After S Patches) (bytes : List ℕ) (p q : ℕ) → put a ≤ limit → (chain (one_rectangle d size kinds slots limit) n a s).Stands bytes p b q → put b.value ≤ limit
+    unfolding chain
     rectangles_within zero a s b bytes p q f st = rw st.0 f
     rectangles_within (suc n) a s b bytes p q f st = rectangles_within n (st.0).value (st.0).state b bytes st.1 q (rectangle_within a s st.0 bytes p st.1 st.2) st.3
 

@@ -1,4 +1,5 @@
 -- Patches that stand in a dictionary lie in their frames.
+use Rattle.jxlm_bits.specs.Grammar.{from_result}
 use Rattle.std.proofs.Common.{◌≡◌, ℕ, zero, suc, ◌+◌, ◌*◌, ◌<◌, ◌≤◌, Bool, true, false, List, [], ◌∷◌, ◌++◌, length, get_or, Option, Some, None, Result, Ok, Err, ◌⊎◌, inl, inr, refl, sym, ap, ◌∙◌, arith}
 use Rattle.std.specs.Prelude.{nat_lt, nat_le, ◌&&◌, codes, if◌then◌else◌}
 use Rattle.std.specs.Option.{ok_or, option_map_or}
@@ -10,8 +11,8 @@ use Rattle.jxlm_bits.specs.ErrorKind.{ErrorKind, BadEnum}
 use Rattle.jxl_image_header.specs.declared.size.Size.{Size}
 use Rattle.jxlm_bits.proofs.Cases.{less_or_same}
 use Rattle.jxlm_bits.specs.Tokens.{After, token}
-use Rattle.jxlm_bits.specs.Turns.{chained}
-use Rattle.jxl_patches.specs.Patches.{Patches, checked, source, coordinate_of, nowhere, coordinate, one_mode, one_place, one_rectangle, dictionary}
+use Rattle.jxlm_bits.specs.Turns.{chain}
+use Rattle.jxl_patches.specs.Patches.{Patches, source, coordinate_of, nowhere, coordinate, one_mode, one_place, one_rectangle, dictionary}
 use Rattle.jxl_patches.specs.Dictionaries.{IsWithin, AreWithin}
 use Rattle.jxl_patches.specs.Inner.Steps.{inside}
 use Rattle.jxl_patches.specs.declared.dictionary.Place.{Place}
@@ -25,7 +26,7 @@ record InFrame (slots : List (Option Size)) (r : Rectangle) : Type 0 where
   rows : r.y0 + r.height ≤ frame.height
 
 -- a value that stands was checked
-pub was_ok : {X : Type 0} (r : Result X ErrorKind) (bytes : List ℕ) (p : ℕ) (x : X) (q : ℕ) → (checked r).Stands bytes p x q → r ≡ Ok x
+pub was_ok : {X : Type 0} (r : Result X ErrorKind) (bytes : List ℕ) (p : ℕ) (x : X) (q : ℕ) → (from_result r).Stands bytes p x q → r ≡ Ok x
 was_ok (Ok y) bytes p x q s = ap Ok (sym s.0)
 was_ok (Err e) bytes p x q s = absurd s
 
@@ -36,7 +37,7 @@ within o slot x0 y0 w h = if option_map_or (λ f. nat_lt (x0 + w) f.width && nat
 
 -- so was what a token means
 pub token_ok : {S X : Type 0} (d : Meaning S) (context : ℕ) (check : ℕ → Result X ErrorKind) (s : S) (bytes : List ℕ) (p : ℕ) (y : After S X) (q : ℕ) →
-    (token d context (λ v. checked (check v)) s).Stands bytes p y q → (v : ℕ) × (check v ≡ Ok y.value)
+    (token d context (λ v. from_result (check v)) s).Stands bytes p y q → (v : ℕ) × (check v ≡ Ok y.value)
 token_ok d context check s bytes p y q st =
     let v = st.0.value in
     let rest = st.3 in
@@ -90,8 +91,8 @@ module _ {S : Type 0} (d : Meaning S) (size : Size) (kinds : ℕ) (slots : List 
       let m = (st.0).value in
       rw st.3.0 (record { modes = omega (arith, f.modes, length-append a.modes (m ∷ [])); each = f.each })
 
-  modes_more : (n : ℕ) (a : Patches) (s : S) (b : After S Patches) (bytes : List ℕ) (p q : ℕ) → Framed n a → (chained (one_mode d) n a s).Stands bytes p b q → Framed 0 b.value
-  unfolding chained
+  modes_more : (n : ℕ) (a : Patches) (s : S) (b : After S Patches) (bytes : List ℕ) (p q : ℕ) → Framed n a → (chain (one_mode d) n a s).Stands bytes p b q → Framed 0 b.value
+  unfolding chain
   modes_more zero a s b bytes p q f st = rw st.0 f
   modes_more (suc n) a s b bytes p q f st = modes_more n (st.0).value (st.0).state b bytes st.1 q (mode_more n a s st.0 bytes p st.1 f st.2) st.3
 
@@ -124,8 +125,8 @@ module _ {S : Type 0} (d : Meaning S) (size : Size) (kinds : ℕ) (slots : List 
       } in
       modes_more kinds c y.state b bytes rest.1 q framed rest.3
 
-  places_more : (k : ℕ) (r : Rectangle) → InFrame slots r → (n : ℕ) (a : Patches) (s : S) (b : After S Patches) (bytes : List ℕ) (p q : ℕ) → Framed 0 a → (chained (one_place d size kinds k r) n a s).Stands bytes p b q → Framed 0 b.value
-  unfolding chained
+  places_more : (k : ℕ) (r : Rectangle) → InFrame slots r → (n : ℕ) (a : Patches) (s : S) (b : After S Patches) (bytes : List ℕ) (p q : ℕ) → Framed 0 a → (chain (one_place d size kinds k r) n a s).Stands bytes p b q → Framed 0 b.value
+  unfolding chain
   places_more k r i zero a s b bytes p q f st = rw st.0 f
   places_more k r i (suc n) a s b bytes p q f st = places_more k r i n (st.0).value (st.0).state b bytes st.1 q (place_more k r i a s st.0 bytes p st.1 f st.2) st.3
 
@@ -137,8 +138,8 @@ module _ {S : Type 0} (d : Meaning S) (size : Size) (kinds : ℕ) (slots : List 
         let counted = st.3 in
         places_more (length a.places) r.value i (counted.0).value a (counted.0).state b bytes counted.1 q f counted.3
 
-    rectangles_more : (n : ℕ) (a : Patches) (s : S) (b : After S Patches) (bytes : List ℕ) (p q : ℕ) → Framed 0 a → (chained (one_rectangle d size kinds slots limit) n a s).Stands bytes p b q → Framed 0 b.value
-    unfolding chained
+    rectangles_more : (n : ℕ) (a : Patches) (s : S) (b : After S Patches) (bytes : List ℕ) (p q : ℕ) → Framed 0 a → (chain (one_rectangle d size kinds slots limit) n a s).Stands bytes p b q → Framed 0 b.value
+    unfolding chain
     rectangles_more zero a s b bytes p q f st = rw st.0 f
     rectangles_more (suc n) a s b bytes p q f st = rectangles_more n (st.0).value (st.0).state b bytes st.1 q (rectangle_more a s st.0 bytes p st.1 f st.2) st.3
 

@@ -3,15 +3,15 @@ use Rattle.std.proofs.Common.{ℕ, ◌+◌, Bool, List, length, get_or, Ok, Err,
 use Rattle.std.specs.Prelude.{nat_le, codes, is_some}
 use Rattle.jxlm_bits.specs.Decoding.{Meaning}
 use Rattle.jxlm_bits.specs.ErrorKind.{ErrorKind}
-use Rattle.jxlm_bits.specs.Grammar.{IsExact}
+use Rattle.jxlm_bits.specs.Grammar.{IsExact, from_result}
 use Rattle.jxlm_bits.proofs.GrammarLaws.{bind, exact-give, exact-fail}
 use Rattle.jxl_image_header.proofs.HeaderLaws.{exact-meant}
 use Rattle.jxl_image_header.specs.declared.size.Size.{Size}
 use Rattle.jxlm_bits.proofs.TokenLaws.{exact-token, exact-chained, exact-coded}
-use Rattle.jxl_patches.specs.Patches.{Patches, most_rectangles, source, checked, coordinate, mode_of, one_mode, one_place, one_rectangle, dictionary}
+use Rattle.jxl_patches.specs.Patches.{Patches, most_rectangles, source, coordinate, mode_of, one_mode, one_place, one_rectangle, dictionary}
 use Rattle.jxl_patches.specs.declared.dictionary.Rectangle.{Rectangle}
 
-exact-checked : {X : Type 0} (r : Result X ErrorKind) → IsExact (checked r)
+exact-checked : {X : Type 0} (r : Result X ErrorKind) → IsExact (from_result r)
 exact-checked (Ok x) = exact-give x
 exact-checked (Err error) = exact-fail error
 

@@ -4,11 +4,11 @@ use Rattle.std.specs.List.{sum_by}
 use Rattle.std.specs.Option.{ok_or, option_and_then, option_map_or}
 use Rattle.jxlm_bits.specs.Decoding.{Meaning}
 use Rattle.jxlm_bits.specs.ErrorKind.{ErrorKind, BadEnum, BadProfile}
-use Rattle.jxlm_bits.specs.Grammar.{Grammar, give, fail}
+use Rattle.jxlm_bits.specs.Grammar.{Grammar, give, fail, from_result}
 use Rattle.jxl_image_header.specs.Fields.{number_meant}
 use Rattle.jxl_image_header.specs.declared.size.Size.{Size}
 use Rattle.jxlm_bits.specs.Tokens.{Tokens, token, coded_tokens}
-use Rattle.jxlm_bits.specs.Turns.{◌>>=◌, chained}
+use Rattle.jxlm_bits.specs.Turns.{◌>>=◌, chain}
 use Rattle.jxl_patches.specs.declared.dictionary.Rectangle.{Rectangle}
 use Rattle.jxl_patches.specs.declared.dictionary.Place.{Place}
 use Rattle.jxl_patches.specs.declared.dictionary.PatchMode.{PatchMode}
@@ -18,11 +18,6 @@ use Rattle.jxl_patches.specs.declared.dictionary.PatchMode.TheVariants.{Keep, Re
 abbrev pub most_rectangles : Size → ℕ
 most_rectangles size = 1024 + size.width * size.height / 4
 
--- a value that takes no bits, or an error
-abbrev pub checked : {X : Type 0} → Result X ErrorKind → Grammar X
-checked (Ok x) = give x
-checked (Err error) = fail error
-
 -- a rectangle of the frame that a slot holds: the slot, the corner, and the sides less one; it lies in that frame
 abbrev pub source : {S : Type 0} → Meaning S → List (Option Size) → Tokens S Rectangle
 source d slots = do
@@ -30,7 +25,7 @@ source d slots = do
   x0 ← token d 3 give
   y0 ← token d 3 give
   w ← token d 2 give
-  token d 2 (λ h. checked (if option_map_or (λ f. nat_lt (x0 + w) f.width && nat_lt (y0 + h) f.height) (get_or slots slot None) false
+  token d 2 (λ h. from_result (if option_map_or (λ f. nat_lt (x0 + w) f.width && nat_lt (y0 + h) f.height) (get_or slots slot None) false
       then Ok (record { slot = slot; x0 = x0; y0 = y0; width = w + 1; height = h + 1 }) else Err (BadEnum (codes "rectangle of a patch") slot)))
 
 -- a coordinate is coded as it is; a later one as how far it lies from the one before: 2k for k, 2k + 1 for -k - 1, if at 0 or
@@ -42,7 +37,7 @@ coordinate_of later before v =
 -- such a coordinate, from which so much lies within a side
 abbrev pub coordinate : {S : Type 0} → Meaning S → Bool → ℕ → ℕ → ℕ → Tokens S ℕ
 coordinate d later before extent side = token d (if later then 6 else 4) (λ v.
-    checked (ok_or (option_and_then (λ c. if nat_le (c + extent) side then Some c else None) (coordinate_of later before v)) (BadEnum (codes "place of a patch") v)))
+    from_result (ok_or (option_and_then (λ c. if nat_le (c + extent) side then Some c else None) (coordinate_of later before v)) (BadEnum (codes "place of a patch") v)))
 
 -- patches, in the order in which they are put; of each place one mode for the colours, and one for each extra channel
 pub record Patches : Type 0 where
@@ -60,26 +55,26 @@ mode_of v = if v == 0 then Ok Keep else if v == 1 then Ok Replace else if v == 2
 
 -- one mode more
 abbrev pub one_mode : {S : Type 0} → Meaning S → Patches → Tokens S Patches
-one_mode d a = token d 5 (λ v. checked (mode_of v)) >>= λ m s. give (record { value = record { places = a.places; modes = a.modes ++ m ∷ [] }; state = s })
+one_mode d a = token d 5 (λ v. from_result (mode_of v)) >>= λ m s. give (record { value = record { places = a.places; modes = a.modes ++ m ∷ [] }; state = s })
 
 -- a place of a rectangle whose first is place n, told from the last one if it is a later one; and its modes
 abbrev pub one_place : {S : Type 0} → Meaning S → Size → ℕ → ℕ → Rectangle → Patches → Tokens S Patches
 one_place d size kinds n r a = do
   x ← coordinate d (nat_lt n (length a.places)) (get_or a.places (length a.places - 1) nowhere).x r.width size.width
   y ← coordinate d (nat_lt n (length a.places)) (get_or a.places (length a.places - 1) nowhere).y r.height size.height
-  chained (one_mode d) kinds (record { places = a.places ++ (record { source = r; x = x; y = y }) ∷ []; modes = a.modes })
+  chain (one_mode d) kinds (record { places = a.places ++ (record { source = r; x = x; y = y }) ∷ []; modes = a.modes })
 
 -- a rectangle, and its places, one more than is coded: with those before not too many, and of not too many cells
 abbrev pub one_rectangle : {S : Type 0} → Meaning S → Size → ℕ → List (Option Size) → ℕ → Patches → Tokens S Patches
 one_rectangle d size kinds slots limit a = do
   r ← source d slots
-  n ← token d 7 (λ v. checked (if nat_le (length a.places + (v + 1)) (4 * most_rectangles size) then (
+  n ← token d 7 (λ v. from_result (if nat_le (length a.places + (v + 1)) (4 * most_rectangles size) then (
       if nat_le (sum_by (λ (p : Place). p.source.width * p.source.height) a.places + r.width * r.height * (v + 1)) limit then Ok (v + 1)
       else Err (BadProfile (codes "patches of too many cells"))) else Err (BadEnum (codes "places of a patch") v)))
-  chained (one_place d size kinds (length a.places) r) n a
+  chain (one_place d size kinds (length a.places) r) n a
 
 -- the dictionary of a frame of this size with this number of extra channels, of slots with these sizes, that puts at most this
 -- number of cells
 abbrev pub dictionary : {S : Type 0} → Meaning S → Size → ℕ → List (Option Size) → ℕ → Grammar Patches
 dictionary d size extra slots limit = coded_tokens d 10 (token d 0 (λ v. number_meant (codes "count of patches") (nat_le v (most_rectangles size)) v) >>= λ n.
-    chained (one_rectangle d size (1 + extra) slots limit) n (record { places = []; modes = [] }))
+    chain (one_rectangle d size (1 + extra) slots limit) n (record { places = []; modes = [] }))

@@ -3,7 +3,7 @@
 ghost use Rattle.std.specs.Prelude.{◌≡◌, ◌+◌, ◌<◌, ◌≤◌, ◌^◌, length, IfOk};
 ghost use Rattle.std.specs.List.{sum_by};
 ghost use Rattle.jxlm_bits.specs.Bits.{bytes_of, position_of};
-ghost use Rattle.jxlm_bits.specs.Turns.{chained};
+ghost use Rattle.jxlm_bits.specs.Turns.{chain};
 ghost use Rattle.jxl_patches.specs.Reading.{PatchesRead};
 ghost use Rattle.jxl_patches.specs.Patches.{one_rectangle as the_one_rectangle, dictionary as the_dictionary};
 ghost use Rattle.jxl_patches.specs.Inner.Steps.{StepRead};
@@ -109,7 +109,7 @@ fn rectangles<D: Decoder>(
     requires clusters { length (D.meaning.cluster_map decoder.old) ≡ 10 }
     requires none { sum_by area growing.old.places.items ≡ 0 }
     ensures gives { StepRead result decoder.new growing.new (position_of bits.new)
-        ((chained (the_one_rectangle D.meaning size kinds slots.now limit) count (patches_of growing.old) decoder.old).read
+        ((chain (the_one_rectangle D.meaning size kinds slots.now limit) count (patches_of growing.old) decoder.old).read
         (bytes_of bits.old) (position_of bits.old)) }
     ensures bytes { bytes_of bits.new ≡ bytes_of bits.old }
 {

@@ -2,7 +2,7 @@
 
 ghost use Rattle.std.specs.Prelude.{◌≡◌, ◌<◌, ◌^◌, ◌-◌, length, get_or, IfOk, IfSome};
 ghost use Rattle.jxlm_bits.specs.Bits.{bytes_of, position_of};
-ghost use Rattle.jxlm_bits.specs.Turns.{chained};
+ghost use Rattle.jxlm_bits.specs.Turns.{chain};
 ghost use Rattle.jxl_patches.specs.Patches.{coordinate_of as the_moved, nowhere, coordinate as the_coordinate, mode_of as the_mode_of, one_mode, one_place};
 ghost use Rattle.jxl_patches.specs.Dictionaries.{patches_of};
 ghost use Rattle.jxl_patches.specs.Inner.Steps.{TokenRead, Checks, StepRead, inside as the_inside};
@@ -111,7 +111,7 @@ fn modes<D: Decoder>(
 ) -> Result<()>
     requires { length (D.meaning.cluster_map decoder.old) ≡ 10 }
     ensures gives { StepRead result decoder.new growing.new (position_of bits.new)
-        ((chained (one_mode D.meaning) kinds (patches_of growing.old) decoder.old).read (bytes_of bits.old)
+        ((chain (one_mode D.meaning) kinds (patches_of growing.old) decoder.old).read (bytes_of bits.old)
         (position_of bits.old)) }
     ensures clusters { IfOk result (λ _. length (D.meaning.cluster_map decoder.new) ≡ 10) }
     ensures bytes { bytes_of bits.new ≡ bytes_of bits.old }
@@ -178,7 +178,7 @@ pub fn places<D: Decoder>(
 ) -> Result<()>
     requires { length (D.meaning.cluster_map decoder.old) ≡ 10 }
     ensures gives { StepRead result decoder.new growing.new (position_of bits.new)
-        ((chained (one_place D.meaning size kinds first source) count (patches_of growing.old) decoder.old).read
+        ((chain (one_place D.meaning size kinds first source) count (patches_of growing.old) decoder.old).read
         (bytes_of bits.old) (position_of bits.old)) }
     ensures clusters { IfOk result (λ _. length (D.meaning.cluster_map decoder.new) ≡ 10) }
     ensures bytes { bytes_of bits.new ≡ bytes_of bits.old }

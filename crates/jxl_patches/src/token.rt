@@ -2,7 +2,7 @@
 
 ghost use Rattle.std.specs.Prelude.{◌≡◌, ◌<◌, length, IfOk};
 ghost use Rattle.jxlm_bits.specs.Bits.{bytes_of, position_of};
-ghost use Rattle.jxlm_bits.specs.Tokens.{told};
+ghost use Rattle.jxlm_bits.specs.Tokens.{token_value};
 ghost use Rattle.jxl_patches.specs.Reading.{PatchesRead};
 ghost use Rattle.jxl_patches.specs.Inner.Steps.{TokenRead, decoder as the_decoder};
 
@@ -27,7 +27,7 @@ pub fn decoder<D: Decoder>(alloc: Global, bits: &mut Bitstream<'_>, contexts: u3
 pub fn token<D: Decoder>(decoder: &mut D, bits: &mut Bitstream<'_>, context: u32) -> Result<u32>
     requires { context < length (D.meaning.cluster_map decoder.old) }
     ensures gives { TokenRead (λ v. v) result decoder.new (position_of bits.new)
-        ((told D.meaning context decoder.old).read (bytes_of bits.old) (position_of bits.old)) }
+        ((token_value D.meaning context decoder.old).read (bytes_of bits.old) (position_of bits.old)) }
     ensures clusters { IfOk result (λ _. D.meaning.cluster_map decoder.new ≡ D.meaning.cluster_map decoder.old) }
     ensures bytes { bytes_of bits.new ≡ bytes_of bits.old }
 {

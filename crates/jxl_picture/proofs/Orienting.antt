@@ -6,8 +6,7 @@ use Rattle.std.proofs.lemmas.Bool.{cases_lt}
 use Rattle.std.proofs.lemmas.List.{append-nil}
 use Rattle.jxlm_base.specs.Grid.{Grid, IsFull, cell, with_row}
 use Rattle.jxl_picture.specs.Orientations.{IsOriented}
-use Rattle.jxlm_lanes.proofs.NumberAt.{slice_get-set_other}
-use Rattle.jxlm_base.proofs.Cells.{slice_get-set_same}
+use Rattle.jxlm_lanes.proofs.NumberAt.{slice_get-set_other, slice_get-set_same}
 use Rattle.jxlm_base.proofs.RegionRows.{cell-with_row_same, cell-with_row_other}
 
 -- one more cell of a row is what it should be

@@ -1,16 +1,11 @@
 -- The cells of a grid: after a write, and by coordinates.
-use Rattle.std.proofs.Common.{◌≡◌, ℕ, zero, suc, ◌+◌, ◌*◌, ◌/◌, ◌%◌, ◌<◌, List, [], ◌∷◌, length, set, Some, sym, refl, ap, ◌∙◌, subst, arith}
+use Rattle.std.proofs.Common.{◌≡◌, ℕ, zero, suc, ◌+◌, ◌*◌, ◌/◌, ◌%◌, ◌<◌, List, [], ◌∷◌, length, Some, sym, refl, ap, ◌∙◌, subst, arith}
 use Rattle.std.specs.List.{slice_get}
 use Rattle.std.proofs.lemmas.Nat.{same_from_place, mul-add-lt, mod_below, div_below, div-add-mod'}
 use Rattle.std.proofs.Math.Nat.{mul_comm}
 use Rattle.std.proofs.Math.ListN.{length-set}
-use Rattle.jxlm_lanes.proofs.NumberAt.{slice_get-set_other}
+use Rattle.jxlm_lanes.proofs.NumberAt.{slice_get-set_same, slice_get-set_other}
 use Rattle.jxlm_base.specs.Grid.{Grid, grid, cell, with_cell, place, IsFull}
-
-pub slice_get-set_same : {X : Type 0} (xs : List X) (i : ℕ) (v : X) → i < length xs → slice_get (set xs i v) i ≡ Some v
-slice_get-set_same [] i v h = absurd (omega arith)
-slice_get-set_same (x ∷ xs) zero v h = refl
-slice_get-set_same (x ∷ xs) (suc i) v h = slice_get-set_same xs i v (omega arith)
 
 module _ {S : Type 0} where
   pub place_within : (g : Grid S) (x y : ℕ) → IsFull g → x < g.width → y < g.height → place g x y < length g.cells

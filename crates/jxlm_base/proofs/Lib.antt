@@ -7,8 +7,6 @@ pub mod Regions
 pub mod Wraps
 mod Resized
 mod Parts
-mod RowLoop
 mod RowWrites
-mod Strips
-mod Turned
+mod GridLines
 mod Undo

@@ -9,7 +9,8 @@ use Rattle.jxlm_base.specs.Subgrid.{IsOutside, IsSameOutside}
 use Rattle.jxlm_lanes.specs.Pairs.{number_at}
 use Rattle.jxlm_base.proofs.Cells.{place_within}
 use Rattle.jxlm_lanes.proofs.NumberAt.{number_same}
-use Rattle.jxlm_base.proofs.Parts.{get-slice_range, get-written_in, get-written_before, get-written_after, length-written}
+use Rattle.jxlm_base.proofs.Parts.{get-written_in, get-written_before, get-written_after, length-written}
+use Rattle.jxlm_kernels.proofs.Slices.{get-slice_range}
 
 -- the line after line i ends inside
 pub line_within : (i h n room : ℕ) → i < h → (h + 1) * n ≤ room → i * n + n + n ≤ room

@@ -1,7 +1,6 @@
-//! Samples, grids and their regions, with the kernels of squeeze and colour.
+//! Samples, grids and their regions, with squeeze and colour undone in them.
 #![tactic(auto)]
 
-mod colour;
 pub mod grid;
 pub mod laws;
 pub mod region;

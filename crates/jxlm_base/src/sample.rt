@@ -8,10 +8,10 @@ ghost use Rattle.jxlm_base.specs.SqueezedGrids.{AreGridSamples, squeezed_rows, s
 ghost use Rattle.jxlm_base.specs.Subgrid.{whole, KeepsOutside, numbers_in};
 ghost use Rattle.jxlm_base.specs.Inner.SampleLaws.{fits_wider, int_wrap-narrow, int_wrap_again};
 
-use crate::colour::{finish_narrow_rows, finish_rows};
 use crate::grid::{AlignedGrid, OutOfMemory};
 use crate::squeeze;
 use crate::subgrid::MutableSubgrid;
+use jxlm_kernels::colour::{finish_narrow_rows, finish_rows};
 use std::alloc::Global;
 
 /// What a sample's type computes. Contracts see a sample as the whole number that it stands for.

@@ -6,7 +6,7 @@ use Rattle.jxlm_bits.specs.ErrorKind.{ErrorKind, ErrorAt, OfDecoder, UnlessMemor
 use Rattle.jxlm_bits.specs.Grammar.{Grammar, IsErrorAt, give, ◌>>=◌}
 use Rattle.jxlm_bits.specs.declared.decoder.DecoderError.{DecoderError}
 use Rattle.jxlm_bits.proofs.ReadSteps.{always_so, first_refuses}
-use Rattle.jxlm_bits.specs.Tokens.{After, told, token}
+use Rattle.jxlm_bits.specs.Tokens.{After, token_value, token}
 
 -- what such a call is as a field
 abbrev pub of_decoder : {X : Type 0} → Result X DecoderError → Result X ErrorAt
@@ -29,6 +29,6 @@ module _ {X : Type 0} (r : Result (Found X) DecoderError) where
 
 -- A token that fails, whatever it means.
 module _ {S : Type 0} (d : Meaning S) (bytes : List ℕ) (p q : ℕ) (s : S) where
-  pub token_refuses : {X : Type 0} (context : ℕ) (means : ℕ → Grammar X) (error : ErrorKind) → UnlessMemory error (IsErrorAt ((told d context s).read bytes p) error q) →
+  pub token_refuses : {X : Type 0} (context : ℕ) (means : ℕ → Grammar X) (error : ErrorKind) → UnlessMemory error (IsErrorAt ((token_value d context s).read bytes p) error q) →
       UnlessMemory error (IsErrorAt ((token d context means s).read bytes p) error q)
-  token_refuses context means error h = first_refuses (told d context s) (λ t. means t.value >>= λ x. give (record { value = x; state = t.state })) bytes p error q h
+  token_refuses context means error h = first_refuses (token_value d context s) (λ t. means t.value >>= λ x. give (record { value = x; state = t.state })) bytes p error q h

@@ -3,8 +3,8 @@ use Rattle.std.proofs.Common.{◌≡◌, ℕ, zero, suc, List, Ok, Err, None, Re
 use Rattle.jxlm_bits.specs.Decoding.{Found, Meaning}
 use Rattle.jxlm_bits.specs.ErrorKind.{OfDecoder}
 use Rattle.jxlm_bits.specs.Grammar.{Grammar, IsExact}
-use Rattle.jxlm_bits.specs.Tokens.{Tokens, called, token, coded_tokens}
-use Rattle.jxlm_bits.specs.Turns.{chained}
+use Rattle.jxlm_bits.specs.Tokens.{Tokens, decoder_call, token, coded_tokens}
+use Rattle.jxlm_bits.specs.Turns.{chain}
 use Rattle.jxlm_bits.specs.declared.decoder.DecoderError.{DecoderError}
 use Rattle.jxlm_bits.proofs.GrammarLaws.{bind, exact-give, found_same, none_found}
 use Rattle.jxlm_bits.proofs.TokenFields.{of_decoder}
@@ -13,14 +13,14 @@ called_found : {X : Type 0} (r : Result (Found X) DecoderError) (found : Found X
 called_found (Ok x) found e = ap Ok (found_same x found e)
 called_found (Err e) found h = absurd (none_found (record { error = OfDecoder e; position = None }) found h)
 
-exact-called : {X : Type 0} (call : List ℕ → ℕ → Result (Found X) DecoderError) → IsExact (called call)
+exact-called : {X : Type 0} (call : List ℕ → ℕ → Result (Found X) DecoderError) → IsExact (decoder_call call)
 exact-called call = record {
   read_stands = λ bytes p found e. called_found (call bytes p) found e;
   stands_read = λ bytes p x q s. rw s refl;
 }
 
-pub exact-chained : {S X : Type 0} (step : X → Tokens S X) → ((x : X) (s : S) → IsExact (step x s)) → (n : ℕ) (x : X) (s : S) → IsExact (chained step n x s)
-unfolding chained
+pub exact-chained : {S X : Type 0} (step : X → Tokens S X) → ((x : X) (s : S) → IsExact (step x s)) → (n : ℕ) (x : X) (s : S) → IsExact (chain step n x s)
+unfolding chain
 exact-chained step each zero x s = exact-give (record { value = x; state = s })
 exact-chained step each (suc n) x s = bind (each x s) λ t. exact-chained step each n t.value t.state
 

@@ -40,6 +40,11 @@ give x = record { read = λ bytes p. Ok (record { value = x; position = p }); St
 abbrev pub fail : {X : Type 0} → ErrorKind → Grammar X
 fail error = record { read = λ bytes p. Err (record { error = error; position = Some p }); Stands = λ bytes p y q. ⊥ }
 
+-- a value that takes no bits, or an error
+abbrev pub from_result : {X : Type 0} → Result X ErrorKind → Grammar X
+from_result (Ok x) = give x
+from_result (Err error) = fail error
+
 -- one field, and after it one that may depend on its value
 infixl 10 ◌>>=◌
 abbrev pub ◌>>=◌ : {X Y : Type 0} → Grammar X → (X → Grammar Y) → Grammar Y

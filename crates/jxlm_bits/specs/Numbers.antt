@@ -11,8 +11,8 @@ abbrev pub absolute : ℤ → ℤ
 absolute z = pos (unsigned_abs z)
 
 -- z, clamped between low and high
-abbrev pub clamped : ℤ → ℤ → ℤ → ℤ
-clamped low high z = int_max low (int_min z high)
+abbrev pub clamp : ℤ → ℤ → ℤ → ℤ
+clamp low high z = int_max low (int_min z high)
 
 -- the maximum k for which 2 ^ k is at most n, and 0 where n is 0; for n below 2 ^ 64
 abbrev pub floor_log2 : ℕ → ℕ
@@ -20,4 +20,4 @@ floor_log2 n = 63 - leading_zeros w64 n
 
 -- n + w - nw, clamped between the minimum and the maximum of n and w
 abbrev pub clamped_gradient : ℤ → ℤ → ℤ → ℤ
-clamped_gradient n w nw = clamped (int_min n w) (int_max n w) (n +ℤ w -ℤ nw)
+clamped_gradient n w nw = clamp (int_min n w) (int_max n w) (n +ℤ w -ℤ nw)

@@ -7,8 +7,8 @@ use Rattle.jxlm_bits.specs.Grammar.{Grammar, give, ◌>>=◌}
 use Rattle.jxlm_bits.specs.declared.decoder.DecoderError.{DecoderError}
 
 -- what a call of a decoder reads; where its error leaves the reader is its own matter
-abbrev pub called : {X : Type 0} → (List ℕ → ℕ → Result (Found X) DecoderError) → Grammar X
-called call = record {
+abbrev pub decoder_call : {X : Type 0} → (List ℕ → ℕ → Result (Found X) DecoderError) → Grammar X
+decoder_call call = record {
   read = λ bytes p. result_map_both (λ x. x) (λ e. record { error = OfDecoder e; position = None }) (call bytes p);
   Stands = λ bytes p x q. call bytes p ≡ Ok (record { value = x; position = q });
 }
@@ -23,17 +23,17 @@ abbrev pub Tokens : Type 0 → Type 0 → Type 1
 Tokens S X = S → Grammar (After S X)
 
 -- the token of a context, and what it means
-abbrev pub told : {S : Type 0} → Meaning S → ℕ → Tokens S ℕ
-told d context s = called (λ bytes p. result_map_both (λ t. record { value = record { value = t.value; state = t.state }; position = t.position }) (λ e. e)
+abbrev pub token_value : {S : Type 0} → Meaning S → ℕ → Tokens S ℕ
+token_value d context s = decoder_call (λ bytes p. result_map_both (λ t. record { value = record { value = t.value; state = t.state }; position = t.position }) (λ e. e)
     (d.read s bytes p (slice_index (d.cluster_map s) context) 0))
 
 abbrev pub token : {S X : Type 0} → Meaning S → ℕ → (ℕ → Grammar X) → Tokens S X
-token d context means s = told d context s >>= λ t. means t.value >>= λ x. give (record { value = x; state = t.state })
+token d context means s = token_value d context s >>= λ t. means t.value >>= λ x. give (record { value = x; state = t.state })
 
 -- what the tokens of a decoder of this number of contexts tell: it comes before them, and their end is checked
 abbrev pub coded_tokens : {S X : Type 0} → Meaning S → ℕ → Tokens S X → Grammar X
 coded_tokens d contexts tokens = do
-  s ← called (λ bytes p. d.parse bytes p contexts) >>= λ s. called (λ bytes p. d.begin s bytes p)
+  s ← decoder_call (λ bytes p. d.parse bytes p contexts) >>= λ s. decoder_call (λ bytes p. d.begin s bytes p)
   all ← tokens s
-  u ← called (λ bytes p. result_map_both (λ u. record { value = u; position = p }) (λ e. e) (d.finalize all.state))
+  u ← decoder_call (λ bytes p. result_map_both (λ u. record { value = u; position = p }) (λ e. e) (d.finalize all.state))
   give all.value

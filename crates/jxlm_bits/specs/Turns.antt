@@ -9,6 +9,6 @@ abbrev pub ◌>>=◌ : {S X Y : Type 0} → Tokens S X → (X → Tokens S Y) �
 ◌>>=◌ first next s = fields.◌>>=◌ (first s) (λ t. next t.value t.state)
 
 -- n steps, each from what the one before gave
-unfoldable pub chained : {S X : Type 0} → (X → Tokens S X) → ℕ → X → Tokens S X
-chained step zero x s = give (record { value = x; state = s })
-chained step (suc n) x s = fields.◌>>=◌ (step x s) (λ t. chained step n t.value t.state)
+unfoldable pub chain : {S X : Type 0} → (X → Tokens S X) → ℕ → X → Tokens S X
+chain step zero x s = give (record { value = x; state = s })
+chain step (suc n) x s = fields.◌>>=◌ (step x s) (λ t. chain step n t.value t.state)

@@ -11,8 +11,8 @@ use Rattle.jxlm_base.specs.declared.subgrid.Region.{Region}
 use Rattle.jxlm_base.proofs.Regions.{apart_by_buffer}
 use Rattle.jxlm_transform.specs.Channels.{Channel, ChannelList, HasSides}
 use Rattle.jxlm_transform.specs.ChannelSteps.{Step, RctStep, PaletteStep, SqueezeStep, has_size_of, list_after, list_after_all, one_size, range}
-use Rattle.jxlm_transform.specs.Palette.{PaletteLies}
-use Rattle.jxlm_transform.specs.Recoloured.{HaveOneSize}
+use Rattle.jxlm_inverse.specs.Palette.{PaletteLies}
+use Rattle.jxlm_inverse.specs.Recoloured.{HaveOneSize}
 use Rattle.jxlm_transform.specs.declared.transform.Palette.{Palette}
 use Rattle.jxlm_transform.specs.declared.transform.Rct.{Rct}
 use Rattle.jxlm_transform.specs.Layout.{Layout, layout_after, no_region}

@@ -9,12 +9,12 @@ use Rattle.jxlm_base.specs.Grid.{Grid, grid_by, at}
 use Rattle.jxlm_lanes.proofs.ColourLaws.{colour_is_one_to_one, triple_same}
 use Rattle.jxlm_transform.specs.Channels.{Channel}
 use Rattle.jxlm_transform.specs.ChannelSteps.{one_size, has_size_of}
-use Rattle.jxlm_transform.specs.Recoloured.{recoloured, triple_in}
+use Rattle.jxlm_inverse.specs.Recoloured.{recolour, triple_in}
 use Rattle.jxlm_chain.proofs.ListLaws.{heads, tails}
 use Rattle.jxlm_chain.proofs.SampleGrids.{IsGridOf}
 use Rattle.jxlm_chain.proofs.SqueezedGrids.{fits_at, grids_same, made_at}
 
-pub length-recoloured : (w : Width) (kind : ℕ) (gs : List (Grid ℤ)) → length (recoloured w kind gs) ≡ length gs
+pub length-recoloured : (w : Width) (kind : ℕ) (gs : List (Grid ℤ)) → length (recolour w kind gs) ≡ length gs
 length-recoloured w kind [] = refl
 length-recoloured w kind (a ∷ []) = refl
 length-recoloured w kind (a ∷ b ∷ []) = refl
@@ -38,7 +38,7 @@ module _ (w : Width) where
     are_triples : (f g h : Grid ℤ) → Is f → Is g → Is h → (x y : ℕ) → x < c.width → y < c.height → IsTripleOf w (triple_in f g h x y)
     are_triples f g h a b d x y p q = record { first = fits_at w c f a x y p q; second = fits_at w c g b x y p q; third = fits_at w c h d x y p q }
 
-    triples_same : (f g h f' g' h' : Grid ℤ) → Is f → Is g → Is h → Is f' → Is g' → Is h' → recoloured w kind (f ∷ g ∷ h ∷ []) ≡ recoloured w kind (f' ∷ g' ∷ h' ∷ []) →
+    triples_same : (f g h f' g' h' : Grid ℤ) → Is f → Is g → Is h → Is f' → Is g' → Is h' → recolour w kind (f ∷ g ∷ h ∷ []) ≡ recolour w kind (f' ∷ g' ∷ h' ∷ []) →
         (x y : ℕ) → x < c.width → y < c.height → triple_in f g h x y ≡ triple_in f' g' h' x y
     triples_same f g h f' g' h' if ig ih if' ig' ih' e x y p q =
         let t : Triple = coded_triple w kind (triple_in f g h x y) in
@@ -50,7 +50,7 @@ module _ (w : Width) where
         (part (λ k. k.first) (heads _ _ _ _ e)) (part (λ k. k.second) (heads _ _ _ _ rest)) (part (λ k. k.third) (heads _ _ _ _ (tails _ _ _ _ rest))) in
         colour_is_one_to_one w kind (triple_in f g h x y) (triple_in f' g' h' x y) (are_triples f g h if ig ih x y p q) (are_triples f' g' h' if' ig' ih' x y p q) codes
 
-    recoloured_same : (f g h f' g' h' : Grid ℤ) → Is f → Is g → Is h → Is f' → Is g' → Is h' → recoloured w kind (f ∷ g ∷ h ∷ []) ≡ recoloured w kind (f' ∷ g' ∷ h' ∷ []) →
+    recoloured_same : (f g h f' g' h' : Grid ℤ) → Is f → Is g → Is h → Is f' → Is g' → Is h' → recolour w kind (f ∷ g ∷ h ∷ []) ≡ recolour w kind (f' ∷ g' ∷ h' ∷ []) →
         ◌≡◌ {A = List (Grid ℤ)} (f ∷ g ∷ h ∷ []) (f' ∷ g' ∷ h' ∷ [])
     recoloured_same f g h f' g' h' if ig ih if' ig' ih' e =
         let t = triples_same f g h f' g' h' if ig ih if' ig' ih' e in
@@ -62,7 +62,7 @@ module _ (w : Width) where
   abbrev Are : List Channel → List (Grid ℤ) → Type 0
   Are cs gs = AllZip (IsGridOf w) cs gs
 
-  pub colours_same : (kind : ℕ) (cs : List Channel) (gs hs : List (Grid ℤ)) → one_size cs ≡ true → length cs ≡ 3 → Are cs gs → Are cs hs → recoloured w kind gs ≡ recoloured w kind hs → gs ≡ hs
+  pub colours_same : (kind : ℕ) (cs : List Channel) (gs hs : List (Grid ℤ)) → one_size cs ≡ true → length cs ≡ 3 → Are cs gs → Are cs hs → recolour w kind gs ≡ recolour w kind hs → gs ≡ hs
   colours_same kind [] gs hs o l a b e = absurd (omega arith)
   colours_same kind (c ∷ []) gs hs o l a b e = absurd (omega arith)
   colours_same kind (c ∷ d ∷ []) gs hs o l a b e = absurd (omega arith)

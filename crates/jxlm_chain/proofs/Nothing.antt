@@ -11,8 +11,8 @@ use Rattle.jxlm_base.specs.declared.subgrid.Region.{Region}
 use Rattle.jxlm_base.proofs.Outside.{keeps_all}
 use Rattle.jxlm_base.proofs.Regions.{IsFull-grid_of}
 use Rattle.jxlm_transform.specs.Channels.{HasSides}
-use Rattle.jxlm_transform.specs.Recoloured.{HaveOneSize, UndoesColour}
-use Rattle.jxlm_transform.specs.SqueezedRegions.{squeezed_grid}
+use Rattle.jxlm_inverse.specs.Recoloured.{HaveOneSize, UndoesColour}
+use Rattle.jxlm_inverse.specs.UndoneSqueeze.{squeezed_grid}
 use Rattle.jxlm_transform.specs.Layout.{no_region}
 use Rattle.jxlm_chain.specs.Scratch.{have_cells}
 use Rattle.jxlm_chain.specs.Steps.{CanUndo}

@@ -9,13 +9,13 @@ use Rattle.jxlm_bits.specs.ErrorKind.{ErrorKind}
 use Rattle.jxlm_base.specs.Grid.{Grid}
 use Rattle.jxlm_transform.specs.Channels.{Channel, ChannelList, HasSides}
 use Rattle.jxlm_transform.specs.ChannelSteps.{Step, RctStep, PaletteStep, SqueezeStep, range, with_range, has_range, one_size, list_after}
-use Rattle.jxlm_transform.specs.Palette.{finished_channels}
-use Rattle.jxlm_transform.specs.Recoloured.{recoloured}
+use Rattle.jxlm_inverse.specs.Palette.{finished_channels}
+use Rattle.jxlm_inverse.specs.Recoloured.{recolour}
 use Rattle.jxlm_transform.specs.declared.transform.Rct.{Rct}
 use Rattle.jxlm_transform.specs.declared.transform.Palette.{Palette}
 use Rattle.jxlm_transform.specs.declared.transform.SqueezeParams.{SqueezeParams}
-use Rattle.jxlm_transform.proofs.PaletteLaws.{palette_has_one_image}
-use Rattle.jxlm_transform.specs.SqueezedRegions.{average_grid, residual_grid}
+use Rattle.jxlm_inverse.proofs.PaletteLaws.{palette_has_one_image}
+use Rattle.jxlm_inverse.specs.UndoneSqueeze.{average_grid, residual_grid}
 use Rattle.jxlm_chain.specs.Chain.{Codes, Chain, NoTwoImages}
 use Rattle.jxlm_chain.proofs.ListLaws.{heads, tails, split_same, length-range, with_range_same, range_decides, zip_length, zip_range}
 use Rattle.jxlm_chain.proofs.SampleGrids.{sampled}
@@ -61,7 +61,7 @@ module _ (w : Width) (depth : ℕ) (l m : ChannelList) (gs hs next : Grids) (a :
       let there : t.begin_c + 3 ≤ length l.channels = leb-true (t.begin_c + 3) (length l.channels) tests.0 in
       let gl = zip_length HasSidesOf l.channels gs a in
       let hl = zip_length HasSidesOf l.channels hs b in
-      let many : length (recoloured w t.rct_type (range t.begin_c 3 gs)) ≡ length (recoloured w t.rct_type (range t.begin_c 3 hs)) =
+      let many : length (recolour w t.rct_type (range t.begin_c 3 gs)) ≡ length (recolour w t.rct_type (range t.begin_c 3 hs)) =
       length-recoloured w t.rct_type (range t.begin_c 3 gs) ∙ length-range t.begin_c 3 gs (omega arith) ∙ sym (length-range t.begin_c 3 hs (omega arith)) ∙ sym (length-recoloured w t.rct_type (range t.begin_c 3 hs)) in
       let parts = with_range_same t.begin_c 3 _ _ gs hs many same_length (sym e.1 ∙ f.1) in
       let ranges = colours_same w t.rct_type (range t.begin_c 3 l.channels) (range t.begin_c 3 gs) (range t.begin_c 3 hs) tests.1 (length-range t.begin_c 3 l.channels there)

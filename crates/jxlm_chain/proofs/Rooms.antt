@@ -7,7 +7,7 @@ use Rattle.jxlm_base.specs.Grid.{Grid, grid}
 use Rattle.jxlm_base.specs.Regions.{Lies}
 use Rattle.jxlm_base.specs.declared.subgrid.Region.{Region}
 use Rattle.jxlm_predictor.specs.Standing.{HasSameRoom}
-use Rattle.jxlm_predictor.specs.declared.predictor.WpHeader.{WpHeader}
+use Rattle.jxlm_weighted.specs.declared.weights.WpHeader.{WpHeader}
 use Rattle.jxlm_chain.specs.Scratch.{HasRoomFor, HasRoomForCells, IsNarrow, IsNarrowUndo, KeepsScratch, state_for}
 use Rattle.jxlm_chain.specs.Inner.Needs.{AreNarrow, Covers, CoversCells, columns_for, larger_needs}
 use Rattle.jxlm_chain.specs.Steps.{CanUndo, CanUndoAll, IsNarrowStore}

@@ -9,7 +9,7 @@ use Rattle.jxlm_base.proofs.Cells.{grid_same}
 use Rattle.jxlm_base.proofs.GridLaws.{at-grid_by, cell_from_at}
 use Rattle.jxlm_lanes.proofs.SqueezeLaws.{squeeze_loses_nothing}
 use Rattle.jxlm_transform.specs.Channels.{Channel}
-use Rattle.jxlm_transform.specs.SqueezedRegions.{average_grid, residual_grid}
+use Rattle.jxlm_inverse.specs.UndoneSqueeze.{average_grid, residual_grid}
 use Rattle.jxlm_chain.proofs.SampleGrids.{IsGridOf}
 use Rattle.jxlm_chain.proofs.ListLaws.{heads, tails}
 

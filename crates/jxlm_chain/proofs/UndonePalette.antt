@@ -8,7 +8,7 @@ use Rattle.jxlm_base.specs.Regions.{region, grid_of, store_meanings, grids_in}
 use Rattle.jxlm_base.specs.declared.subgrid.Region.{Region}
 use Rattle.jxlm_transform.specs.Channels.{Channel}
 use Rattle.jxlm_transform.specs.ChannelSteps.{PaletteStep, range}
-use Rattle.jxlm_transform.specs.Palette.{IsPaletteOf}
+use Rattle.jxlm_inverse.specs.Palette.{IsPaletteOf}
 use Rattle.jxlm_transform.specs.declared.transform.Palette.{Palette}
 use Rattle.jxlm_chain.specs.Chain.{Codes}
 use Rattle.jxlm_transform.specs.Layout.{Layout, layout_after, no_region}

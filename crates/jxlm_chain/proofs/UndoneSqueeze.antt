@@ -14,8 +14,9 @@ use Rattle.jxlm_base.proofs.Regions.{AreApart_sym}
 use Rattle.jxlm_transform.specs.Channels.{Channel}
 use Rattle.jxlm_transform.specs.ChannelSteps.{SqueezeStep, range, with_halves}
 use Rattle.jxlm_transform.specs.declared.transform.SqueezeParams.{SqueezeParams}
-use Rattle.jxlm_transform.specs.SqueezedRegions.{average_region, residual_region, average_grid, residual_grid, squeezed_grid, UndoesSqueeze}
-use Rattle.jxlm_transform.proofs.SqueezedRegions.{averages_stood, residuals_stood}
+use Rattle.jxlm_transform.specs.SqueezedRegions.{average_region, residual_region}
+use Rattle.jxlm_inverse.specs.UndoneSqueeze.{average_grid, residual_grid, squeezed_grid, UndoesSqueeze}
+use Rattle.jxlm_inverse.proofs.SqueezedRegions.{averages_stood, residuals_stood}
 use Rattle.jxlm_chain.specs.Chain.{Codes}
 use Rattle.jxlm_chain.proofs.SampleGrids.{AreSampleGrids}
 use Rattle.jxlm_transform.specs.Layout.{Layout, layout_after}

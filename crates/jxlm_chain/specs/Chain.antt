@@ -6,9 +6,9 @@ use Rattle.jxlm_base.specs.Grid.{Grid}
 use Rattle.jxlm_base.specs.SqueezedGrids.{AreGridSamples}
 use Rattle.jxlm_transform.specs.Channels.{AreGridsOf, ChannelList}
 use Rattle.jxlm_transform.specs.ChannelSteps.{Step, RctStep, PaletteStep, SqueezeStep, range, with_range, with_each_halved, list_after}
-use Rattle.jxlm_transform.specs.Palette.{IsPaletteOf}
-use Rattle.jxlm_transform.specs.Recoloured.{recoloured}
-use Rattle.jxlm_transform.specs.SqueezedRegions.{average_grid, residual_grid}
+use Rattle.jxlm_inverse.specs.Palette.{IsPaletteOf}
+use Rattle.jxlm_inverse.specs.Recoloured.{recolour}
+use Rattle.jxlm_inverse.specs.UndoneSqueeze.{average_grid, residual_grid}
 
 -- w bits a sample in memory, depth bits in the picture
 module _ (w : Width) (depth : ℕ) where
@@ -16,7 +16,7 @@ module _ (w : Width) (depth : ℕ) where
   -- a palette stands for is made of them. Grids out of its range stay.
   abbrev pub Codes : Step → List (Grid ℤ) → List (Grid ℤ) → Type 0
   Codes (RctStep t) before after =
-      All (AreGridSamples w) (range t.begin_c 3 before) × (after ≡ with_range t.begin_c 3 (recoloured w t.rct_type (range t.begin_c 3 before)) before)
+      All (AreGridSamples w) (range t.begin_c 3 before) × (after ≡ with_range t.begin_c 3 (recolour w t.rct_type (range t.begin_c 3 before)) before)
   Codes (PaletteStep t) before after =
       (table : Grid ℤ) × (index : Grid ℤ) × IsPaletteOf w depth t table index (range t.begin_c t.num_c before) × (after ≡ table ∷ with_range t.begin_c t.num_c (index ∷ []) before)
   Codes (SqueezeStep t) before after =

@@ -3,10 +3,10 @@ use Rattle.std.specs.Prelude.{◌≡◌, ◌+◌, ◌≤◌, ◌&&◌, nat_lt, B
 use Rattle.std.specs.List.{All}
 use Rattle.jxlm_base.specs.declared.subgrid.Region.{Region}
 use Rattle.jxlm_predictor.specs.Standing.{HasSameRoom, room_of, weights_of}
-use Rattle.jxlm_predictor.specs.declared.predictor.WpHeader.{WpHeader}
+use Rattle.jxlm_weighted.specs.declared.weights.WpHeader.{WpHeader}
 use Rattle.jxlm_predictor.specs.declared.state.PredictorState.{PredictorState}
 use Rattle.jxlm_transform.specs.Params.{IsSide}
-use Rattle.jxlm_transform.specs.ColourRows.{HasRoom, KeepsRoom}
+use Rattle.jxlm_inverse.specs.ColourRows.{HasRoom, KeepsRoom}
 use Rattle.jxlm_transform.specs.Layout.{no_region}
 use Rattle.jxlm_chain.specs.Undo.{Undo, UndoRct, UndoPalette, UndoSqueeze}
 use Rattle.jxlm_chain.specs.declared.scratch.Scratch.{Scratch}

@@ -4,8 +4,8 @@ use Rattle.std.specs.List.{All}
 use Rattle.jxlm_base.specs.Grid.{Grid}
 use Rattle.jxlm_base.specs.Regions.{Lies, AllLie, LieApart}
 use Rattle.jxlm_transform.specs.Params.{IsSide}
-use Rattle.jxlm_transform.specs.Palette.{PaletteLies}
-use Rattle.jxlm_transform.specs.Recoloured.{HaveOneSize}
+use Rattle.jxlm_inverse.specs.Palette.{PaletteLies}
+use Rattle.jxlm_inverse.specs.Recoloured.{HaveOneSize}
 use Rattle.jxlm_chain.specs.Undo.{Undo, UndoRct, UndoPalette, UndoSqueeze}
 
 module _ {S : Type 0} where

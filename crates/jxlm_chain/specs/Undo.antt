@@ -7,9 +7,9 @@ use Rattle.jxlm_base.specs.Outside.{KeepsOutside}
 use Rattle.jxlm_base.specs.Regions.{region, grid_of, store_meanings}
 use Rattle.jxlm_base.specs.declared.subgrid.Region.{Region}
 use Rattle.jxlm_transform.specs.ChannelSteps.{Step, RctStep, PaletteStep, SqueezeStep, range}
-use Rattle.jxlm_transform.specs.Palette.{IsPaletteOf}
-use Rattle.jxlm_transform.specs.Recoloured.{UndoesColour}
-use Rattle.jxlm_transform.specs.SqueezedRegions.{UndoesSqueeze}
+use Rattle.jxlm_inverse.specs.Palette.{IsPaletteOf}
+use Rattle.jxlm_inverse.specs.Recoloured.{UndoesColour}
+use Rattle.jxlm_inverse.specs.UndoneSqueeze.{UndoesSqueeze}
 use Rattle.jxlm_transform.specs.declared.transform.Palette.{Palette}
 use Rattle.jxlm_transform.specs.Layout.{Layout, layout_after, no_region}
 

@@ -1,6 +1,6 @@
 -- Undoings as a program keeps them.
 use Rattle.std.specs.Prelude.{◌≡◌, ◌⊎◌, List, map, Option, None}
-use Rattle.jxlm_predictor.specs.declared.predictor.WpHeader.{WpHeader}
+use Rattle.jxlm_weighted.specs.declared.weights.WpHeader.{WpHeader}
 use Rattle.jxlm_chain.specs.Grids.{leader_of, members_of}
 use Rattle.jxlm_chain.specs.Undo.{Undo, UndoRct, UndoPalette, UndoSqueeze}
 use Rattle.jxlm_chain.specs.declared.undo.Undoing.{Undoing}

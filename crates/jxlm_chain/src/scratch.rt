@@ -6,14 +6,15 @@ ghost use Rattle.jxlm_bits.specs.ErrorKind.{NoMemory, kind_of};
 ghost use Rattle.jxlm_chain.specs.Scratch.{HasRoomFor, IsNarrow, IsNarrowUndo};
 ghost use Rattle.jxlm_chain.specs.Inner.Needs.{AreNarrow, Covers, CoversCells, larger_needs};
 ghost use Rattle.jxlm_chain.specs.Undoings.{SuitsWeights, undo_of_code, undos_of};
-ghost use Rattle.jxlm_predictor.specs.SelfCorrecting.{IsHeader};
+ghost use Rattle.jxlm_weighted.specs.SelfCorrecting.{IsHeader};
 
 use crate::undo::Undoing;
 use jxlm_base::grid::{OutOfMemory, Region};
 use jxlm_base::sample::Sample;
 use jxlm_bits::error::Result;
-use jxlm_predictor::predictor::{PredictorState, WpHeader};
-use jxlm_transform::rct::RctScratch;
+use jxlm_inverse::rct::RctScratch;
+use jxlm_predictor::predictor::PredictorState;
+use jxlm_weighted::weights::WpHeader;
 use std::alloc::Global;
 
 /// Room for what the undoing of one transform after another needs beside the samples.

@@ -16,9 +16,10 @@ use crate::grid::TransformedGrid;
 use crate::scratch::Scratch;
 use jxlm_base::grid::{AlignedGrid, OutOfMemory, Region};
 use jxlm_base::sample::Sample;
+use jxlm_inverse::palette::inverse_palette;
+use jxlm_inverse::rct::inverse_rct_within;
+use jxlm_inverse::squeeze::unsqueeze;
 use jxlm_transform::channels::{ModularChannels, PlacedChannel};
-use jxlm_transform::rct::inverse_rct_within;
-use jxlm_transform::squeeze::unsqueeze;
 use jxlm_transform::transform::{Palette, Rct, SqueezeParams};
 use std::alloc::Global;
 
@@ -183,10 +184,10 @@ fn run_palette<S: Sample>(
     let members = &scratch.members[..index.count()];
     if palette.wp_header.is_none() {
         let state = &mut scratch.plain;
-        palette.inverse(store, table, leader, members, bit_depth, state);
+        inverse_palette(palette, store, table, leader, members, bit_depth, state);
     } else {
         let state = &mut scratch.weighted;
-        palette.inverse(store, table, leader, members, bit_depth, state);
+        inverse_palette(palette, store, table, leader, members, bit_depth, state);
     }
 }
 

@@ -10,7 +10,7 @@ use Rattle.jxlm_base.specs.declared.subgrid.Region.{Region}
 use Rattle.jxlm_base.proofs.Regions.{grid_of_whole, IsFull-meanings}
 use Rattle.jxlm_transform.specs.Layout.{HasBuffers, sides_of, whole_regions, first_layout}
 use Rattle.jxlm_transform.specs.Channels.{Channel, IsNarrow, image_channel}
-use Rattle.jxlm_transform.specs.Params.{IsValidChannel, sized}
+use Rattle.jxlm_transform.specs.Params.{IsValidChannel, channel_params}
 use Rattle.jxlm_transform.specs.declared.param.ChannelShift.TheVariants.{Shifts}
 use Rattle.jxlm_transform.specs.declared.param.ModularChannelParams.{ModularChannelParams}
 use Rattle.jxlm_transform.proofs.SideBounds.{narrow_image}
@@ -18,7 +18,7 @@ use Rattle.jxlm_encode.specs.Encoded.{IsSmall, given_list}
 
 -- the parameters of a grid, and its channel
 abbrev pub params_of_grid : {S : Type 0} → Grid S → ModularChannelParams
-params_of_grid g = sized g.width g.height (Shifts 0)
+params_of_grid g = channel_params g.width g.height (Shifts 0)
 
 abbrev pub own_channel : {S : Type 0} → Grid S → Channel
 own_channel g = image_channel (params_of_grid g)
@@ -87,9 +87,9 @@ own_narrow f grids small = narrow_image (map params_of_grid (store_meanings f gr
 
 -- the next
 pub next_channel : {S : Type 0} (grids : List (Grid S)) (i : ℕ) (g : Grid S) (infos new : List Channel) (w h : ℕ) (p : ModularChannelParams) (c : Channel) → i < length grids → g ≡ get_or grids i g → w ≡ g.width → h ≡ g.height →
-    p ≡ sized w h (Shifts 0) → c ≡ image_channel p → infos ≡ map own_channel (take i grids) → new ≡ infos ++ c ∷ [] → new ≡ map own_channel (take (i + 1) grids)
+    p ≡ channel_params w h (Shifts 0) → c ≡ image_channel p → infos ≡ map own_channel (take i grids) → new ≡ infos ++ c ∷ [] → new ≡ map own_channel (take (i + 1) grids)
 next_channel {S} grids i g infos new w h p c lt g_is w_is h_is p_is c_is before more =
-    let one : c ≡ own_channel g = c_is ∙ ap image_channel (p_is ∙ ap (λ n. sized n h (Shifts 0)) w_is ∙ ap (λ n. sized g.width n (Shifts 0)) h_is) in
+    let one : c ≡ own_channel g = c_is ∙ ap image_channel (p_is ∙ ap (λ n. channel_params n h (Shifts 0)) w_is ∙ ap (λ n. channel_params g.width n (Shifts 0)) h_is) in
     let all : map own_channel (take (i + 1) grids) ≡ map own_channel (take i grids) ++ own_channel g ∷ [] =
     ap (map own_channel) (take_more grids i g lt ∙ ap (λ (y : Grid S). take i grids ++ y ∷ []) (sym g_is)) ∙ map_push own_channel (take i grids) g in
     more ∙ ap (λ (cs : List Channel). cs ++ c ∷ []) before ∙ ap (λ (x : Channel). map own_channel (take i grids) ++ x ∷ []) one ∙ sym all

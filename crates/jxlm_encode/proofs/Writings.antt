@@ -11,8 +11,8 @@ use Rattle.jxlm_samples.specs.declared.part.PlacedPart.{PlacedPart}
 use Rattle.jxlm_transform.specs.Channels.{AreRegionsOf, IsNarrow, infos, regions}
 use Rattle.jxlm_transform.specs.declared.channels.PlacedChannel.{PlacedChannel}
 use Rattle.jxlm_transform.specs.Transforms.{Transform}
-use Rattle.jxlm_predictor.specs.SelfCorrecting.{IsHeader}
-use Rattle.jxlm_predictor.specs.WeightsHeader.{default_weights}
+use Rattle.jxlm_weighted.specs.SelfCorrecting.{IsHeader}
+use Rattle.jxlm_weighted.specs.WeightsHeader.{default_weights}
 use Rattle.jxlm_encode_write.specs.Headers.{header_bits}
 use Rattle.jxlm_encode_write.specs.Nodes.{tree_tokens}
 use Rattle.jxlm_encode_write.specs.Tokens.{gamma_token_bits, token_bits}

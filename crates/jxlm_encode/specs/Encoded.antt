@@ -16,10 +16,10 @@ use Rattle.jxlm_samples.specs.Part.{Part}
 use Rattle.jxlm_plain.specs.Plain.{plain, plain2}
 use Rattle.jxlm_transform.specs.Channels.{Channel, ChannelList, image_list}
 use Rattle.jxlm_transform.specs.ChannelSteps.{CodedList, coded_list}
-use Rattle.jxlm_transform.specs.Params.{sized, IsSide}
+use Rattle.jxlm_transform.specs.Params.{channel_params, IsSide}
 use Rattle.jxlm_transform.specs.Transforms.{Transform}
 use Rattle.jxlm_transform.specs.declared.param.ChannelShift.TheVariants.{Shifts}
-use Rattle.jxlm_predictor.specs.WeightsHeader.{default_weights}
+use Rattle.jxlm_weighted.specs.WeightsHeader.{default_weights}
 use Rattle.jxlm_encode_write.specs.Laws.{IsWritten}
 use Rattle.jxlm_encode_write.specs.Nodes.{node_of, has_token}
 use Rattle.jxlm_encode_write.specs.declared.tree.EncodeNode.{EncodeNode}
@@ -32,7 +32,7 @@ IsSmall g = IsSide g.width × IsSide g.height
 
 -- the channels of an image: one for each grid, of its size, with shift 0
 abbrev pub given_list : List (Grid ℤ) → ChannelList
-given_list image = image_list (map (λ g. sized g.width g.height (Shifts 0)) image)
+given_list image = image_list (map (λ g. channel_params g.width g.height (Shifts 0)) image)
 
 -- the part of all coded channels, at stream index 0
 abbrev pub coded_part : CodedList → Shape Leaf → Part

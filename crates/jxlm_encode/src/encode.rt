@@ -37,9 +37,9 @@ use jxlm_encode_write::plain::{width_of, write_gamma_tokens, write_tokens};
 pub use jxlm_encode_write::tree::EncodeNode;
 use jxlm_encode_write::writer::BitWriter;
 use jxlm_plain::plain::PlainDecoder;
-use jxlm_predictor::predictor::WpHeader;
 use jxlm_samples::part::PlacedPart;
 use jxlm_tree::ma::MaConfig;
+use jxlm_weighted::weights::WpHeader;
 use std::alloc::{AllocError, Global};
 
 /// The same grids, in their order.

@@ -7,7 +7,7 @@ use Rattle.jxlm_bits.specs.Decoding.{Meaning}
 use Rattle.jxlm_base.specs.Grid.{Grid}
 use Rattle.jxlm_chain.proofs.OneImage.{no_two_images}
 use Rattle.jxlm_header.specs.Header.{Header, header_by}
-use Rattle.jxlm_header.specs.Opening.{Opening, opening, opening_of, resolved}
+use Rattle.jxlm_header.specs.Opening.{Opening, opening, opening_of, resolve}
 use Rattle.jxlm_header.proofs.HeaderLaws.{exact-opening}
 use Rattle.jxlm_tree.specs.Tree.{config_of}
 use Rattle.jxlm_tree.specs.TreeStands.{TreesAreReadExactly}
@@ -17,7 +17,7 @@ use Rattle.jxlm_transform.specs.Params.{has_deltas}
 use Rattle.jxlm_transform.specs.Transforms.{Transform}
 use Rattle.jxlm_transform.specs.declared.param.PaletteTables.{PaletteTables}
 use Rattle.jxlm_transform.specs.declared.param.PaletteTables.TheVariants.{OfColours}
-use Rattle.jxlm_predictor.specs.WeightsHeader.{default_weights}
+use Rattle.jxlm_weighted.specs.WeightsHeader.{default_weights}
 use Rattle.jxlm_encode_write.specs.declared.tree.EncodeNode.{EncodeNode}
 use Rattle.jxlm_encode.specs.Encoded.{IsEncoded, IsEncodedFor, given_list}
 use Rattle.jxl_modular.specs.Picture.{IsPicture}
@@ -37,7 +37,7 @@ abbrev pub encoded_is_picture : {V : Type 0} (d : Meaning V) → TreesAreReadExa
 encoded_is_picture d exact w ts nodes image bytes bit_depth e =
     let h : Header = record { use_global_tree = false; wp_params = default_weights; transform = ts } in
     let head : Opening = opening_of h e.coded in
-    let comes : resolved false (given_list image) h ≡ Ok head = rw (e.accepted.come, le-ltb 65536 (length e.coded.list.channels) e.count) refl in
+    let comes : resolve false (given_list image) h ≡ Ok head = rw (e.accepted.come, le-ltb 65536 (length e.coded.list.channels) e.count) refl in
     let there : (header_by (tables_for (given_list image).channels)).Stands bytes 0 h e.tree_at =
     subst (λ (tables : PaletteTables). (header_by tables).Stands bytes 0 h e.tree_at) (sym (tables_given image)) e.header_stands in
     let stands : (opening false (given_list image)).Stands bytes 0 head e.tree_at =

@@ -13,7 +13,7 @@ use Rattle.jxlm_tree.specs.declared.flat.Leaf.{Leaf}
 use Rattle.jxlm_tree.specs.TreeStands.{TreesAreReadExactly}
 use Rattle.jxlm_tree.proofs.Listing.{levels-injective}
 use Rattle.jxlm_tree.specs.TreeReading.{IsOutOfMemory, listing_at}
-use Rattle.jxlm_nested.specs.Starts.{IsTreeErrorAt, coded_part, opened}
+use Rattle.jxlm_nested.specs.Starts.{IsTreeErrorAt, coded_part, opening_at}
 use Rattle.jxlm_samples.specs.Coded.{DecodingFails, IsCodedWhole, part_rule}
 use Rattle.jxlm_samples.specs.Rule.{CodedPrefix}
 use Rattle.jxlm_samples.specs.Part.{Part, cell_count, cells_of}
@@ -46,12 +46,12 @@ module _ {V : Type 0} (d : Meaning V) (exact : TreesAreReadExactly d) (w : Width
 
   -- ---- and it is not refused
 
-  no_error : (error : ErrorKind) (q : ℕ) → IsErrorAt (opened {D = V} None bytes (given_list image) 0) error q → ⊥
-  no_error error q h = refused _ _ (opened {D = V} None bytes (given_list image) 0) here.start.header h.refuses
+  no_error : (error : ErrorKind) (q : ℕ) → IsErrorAt (opening_at {D = V} None bytes (given_list image) 0) error q → ⊥
+  no_error error q h = refused _ _ (opening_at {D = V} None bytes (given_list image) 0) here.start.header h.refuses
 
   no_tree_error : (error : ErrorKind) (q : ℕ) → IsTreeErrorAt d None bytes (given_list image) 0 error q → ⊥
   no_tree_error error q h =
-      let same = same_opening _ _ (opened {D = V} None bytes (given_list image) 0) here.start.header h.header in
+      let same = same_opening _ _ (opening_at {D = V} None bytes (given_list image) 0) here.start.header h.header in
       let tree = h.tree.1 in
       of (subst (λ (f : Found Opening). IsErrorAt (listing_at d bytes (node_limit f.value.coded.list.channels) f.position) error q ⊎ IsTooDeep d bytes (node_limit f.value.coded.list.channels) depth_limit f.position error q) (sym same) tree) where
         of : IsErrorAt (listing_at d bytes (node_limit e.coded.list.channels) e.tree_at) error q ⊎ IsTooDeep d bytes (node_limit e.coded.list.channels) depth_limit e.tree_at error q → ⊥
@@ -108,7 +108,7 @@ module _ {V : Type 0} (d : Meaning V) (exact : TreesAreReadExactly d) (w : Width
   -- decoding it fails for want of memory alone
   pub only_memory : (error : ErrorKind) (q before after : ℕ) → PictureFails d w None bytes 0 (given_list image) 0 error q before after → IsOutOfMemory error
   only_memory error q before after h = weaker error _ refuted h where
-    refuted : ((IsErrorAt (opened {D = V} None bytes (given_list image) 0) error q ⊎ IsTreeErrorAt d None bytes (given_list image) 0 error q) × (after ≡ before)) ⊎ SamplesFail d w None bytes 0 (given_list image) 0 error q before after → ⊥
+    refuted : ((IsErrorAt (opening_at {D = V} None bytes (given_list image) 0) error q ⊎ IsTreeErrorAt d None bytes (given_list image) 0 error q) × (after ≡ before)) ⊎ SamplesFail d w None bytes 0 (given_list image) 0 error q before after → ⊥
     refuted (inl (inl opening, same)) = no_error error q opening
     refuted (inl (inr tree, same)) = no_tree_error error q tree
     refuted (inr samples) = no_samples_error error q before after samples

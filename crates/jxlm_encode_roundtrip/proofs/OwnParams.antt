@@ -6,7 +6,7 @@ use Rattle.std.proofs.lemmas.List.Elements.{All-map}
 use Rattle.jxlm_base.specs.Grid.{Grid}
 use Rattle.jxlm_base.specs.Regions.{store_meanings}
 use Rattle.jxlm_transform.specs.Channels.{image_list}
-use Rattle.jxlm_transform.specs.Params.{IsValidChannel, sized}
+use Rattle.jxlm_transform.specs.Params.{IsValidChannel, channel_params}
 use Rattle.jxlm_transform.specs.declared.param.ChannelShift.TheVariants.{Shifts}
 use Rattle.jxlm_transform.specs.declared.param.ModularChannelParams.{ModularChannelParams}
 use Rattle.jxlm_encode.specs.Encoded.{IsSmall, given_list}
@@ -18,9 +18,9 @@ own_params f (g ∷ gs) = ap (λ (ps : List ModularChannelParams). params_of_gri
 
 -- the next
 pub next_params : {S : Type 0} (grids : List (Grid S)) (i : ℕ) (g : Grid S) (params new : List ModularChannelParams) (w h : ℕ) (p : ModularChannelParams) → i < length grids → g ≡ get_or grids i g → w ≡ g.width → h ≡ g.height →
-    p ≡ sized w h (Shifts 0) → params ≡ map params_of_grid (take i grids) → new ≡ params ++ p ∷ [] → new ≡ map params_of_grid (take (i + 1) grids)
+    p ≡ channel_params w h (Shifts 0) → params ≡ map params_of_grid (take i grids) → new ≡ params ++ p ∷ [] → new ≡ map params_of_grid (take (i + 1) grids)
 next_params {S} grids i g params new w h p lt g_is w_is h_is p_is before more =
-    let one : p ≡ params_of_grid g = p_is ∙ ap (λ n. sized n h (Shifts 0)) w_is ∙ ap (λ n. sized g.width n (Shifts 0)) h_is in
+    let one : p ≡ params_of_grid g = p_is ∙ ap (λ n. channel_params n h (Shifts 0)) w_is ∙ ap (λ n. channel_params g.width n (Shifts 0)) h_is in
     let all : map params_of_grid (take (i + 1) grids) ≡ map params_of_grid (take i grids) ++ params_of_grid g ∷ [] =
     ap (map params_of_grid) (take_more grids i g lt ∙ ap (λ (y : Grid S). take i grids ++ y ∷ []) (sym g_is)) ∙ map_push params_of_grid (take i grids) g in
     more ∙ ap (λ (ps : List ModularChannelParams). ps ++ p ∷ []) before ∙ ap (λ (x : ModularChannelParams). map params_of_grid (take i grids) ++ x ∷ []) one ∙ sym all

@@ -1,4 +1,5 @@
 -- Two pictures at one bit are one.
+use Rattle.jxlm_bits.specs.Grammar.{from_result}
 use Rattle.std.proofs.Common.{◌≡◌, inl, inr, ℕ, ◌*◌, ℤ, List, [], ◌∷◌, length, Bool, true, false, Option, Some, Result, Ok, Err, refl, sym, ap, ◌∙◌, subst, arith}
 use Rattle.std.specs.Prelude.{MatchBool, is_some}
 use Rattle.std.specs.Int.{Width}
@@ -9,20 +10,19 @@ use Rattle.jxlm_base.specs.Grid.{Grid}
 use Rattle.jxlm_bits.specs.declared.decoder.DecoderError.{DecoderError}
 use Rattle.jxlm_chain.specs.Chain.{Chain}
 use Rattle.jxlm_header.specs.Header.{Header}
-use Rattle.jxlm_header.specs.Opening.{Opening, conditions, depth_limit, node_limit, resolved}
+use Rattle.jxlm_header.specs.Opening.{Opening, conditions, depth_limit, node_limit, resolve}
 use Rattle.jxlm_header.proofs.HeaderLaws.{exact-opening}
 use Rattle.jxlm_tree.specs.Tree.{Config, Node}
 use Rattle.jxlm_tree.specs.declared.flat.Leaf.{Leaf}
 use Rattle.jxlm_tree.proofs.Listing.{levels-injective}
 use Rattle.jxlm_tree.specs.TreeReading.{IsTreeAt, listing_at}
-use Rattle.jxlm_nested.specs.Starts.{IsStartAt, coded_part, opened}
+use Rattle.jxlm_nested.specs.Starts.{IsStartAt, coded_part, opening_at}
 use Rattle.jxlm_samples.specs.Coded.{IsCodedWhole, part_rule}
 use Rattle.jxlm_samples.specs.Part.{Part, cell_count, cells_of}
 use Rattle.jxlm_samples.proofs.Loops.{all_cells}
 use Rattle.jxlm_samples.proofs.Prefixes.{prefix_one}
 use Rattle.jxlm_transform.specs.Channels.{AreGridsOf, Channel, ChannelList}
 use Rattle.jxlm_transform.specs.ChannelSteps.{Step, coded_list, list_after_all}
-use Rattle.jxlm_transform.specs.Transforms.{checked}
 use Rattle.jxlm_transform.proofs.SideBounds.{came}
 use Rattle.jxlm_transform.proofs.StepLaws.{steps_list}
 use Rattle.jxl_modular.specs.Picture.{IsPicture}
@@ -107,13 +107,13 @@ module _ {D : Type 0} (d : Meaning D) (global : Option (Config D)) (bytes : List
 
   pub one_start : (given : ChannelList) (p : ℕ) (head other : Opening) (x y : Config D) (q r : ℕ) → IsStartAt d global bytes given p head x q → IsStartAt d global bytes given p other y r → (head ≡ other) × (x ≡ y) × (q ≡ r)
   one_start given p head other x y q r h k =
-      let same = same_opening _ _ (opened global bytes given p) h.header k.header in
+      let same = same_opening _ _ (opening_at global bytes given p) h.header k.header in
       let tree = one_tree head.uses_global (node_limit head.coded.list.channels) h.tree_at x y q r h.tree (subst (λ (f : Found Opening). TreeAfter f y r) (sym same) k.tree) in
       (ap (λ (f : Found Opening). f.value) same, tree.0, tree.1)
 
 -- ---- two pictures
 
-given_by : (r : Result Opening ErrorKind) (head : Opening) (bytes : List ℕ) (p q : ℕ) → (checked r).Stands bytes p head q → r ≡ Ok head
+given_by : (r : Result Opening ErrorKind) (head : Opening) (bytes : List ℕ) (p q : ℕ) → (from_result r).Stands bytes p head q → r ≡ Ok head
 given_by (Ok x) head bytes p q s = let made : Opening → Result Opening ErrorKind = Ok in ap made (sym s.0)
 given_by (Err e) head bytes p q s = absurd s
 
@@ -122,11 +122,11 @@ same_head x y e = cc
 
 module _ {D : Type 0} (d : Meaning D) (w : Width) (global : Option (Config D)) (bytes : List ℕ) (stream : ℕ) (given : ChannelList) (p bit_depth : ℕ) where
   -- the steps of a header lead to its channels
-  leads : (head : Opening) (tree_at : ℕ) → opened global bytes given p ≡ Ok (record { value = head; position = tree_at }) → list_after_all head.coded.steps given ≡ Ok head.coded.list
+  leads : (head : Opening) (tree_at : ℕ) → opening_at global bytes given p ≡ Ok (record { value = head; position = tree_at }) → list_after_all head.coded.steps given ≡ Ok head.coded.list
   leads head tree_at e =
       let stands = (exact-opening (is_some global) given).read_stands bytes p (record { value = head; position = tree_at }) e in
       let h : Header = stands.0 in
-      let comes : resolved (is_some global) given h ≡ Ok head = given_by (resolved (is_some global) given h) head bytes stands.1 tree_at stands.3 in
+      let comes : resolve (is_some global) given h ≡ Ok head = given_by (resolve (is_some global) given h) head bytes stands.1 tree_at stands.3 in
       let (coded, found, rest) = came (coded_list h.transform given) _ head comes in
       let (u, fine, last) = came (conditions (is_some global) h coded.list) _ head rest in
       subst (λ (o : Opening). list_after_all o.coded.steps given ≡ Ok o.coded.list) (same_head _ head last) (steps_list h.transform given coded found)

@@ -17,7 +17,7 @@ use Rattle.jxlm_tree.specs.declared.flat.Leaf.{Leaf}
 use Rattle.jxlm_transform.specs.Channels.{AreGridsOf, area}
 use Rattle.jxlm_predictor.specs.EarlierRows.{AreRowsOf, HoldRows}
 use Rattle.jxlm_predictor.specs.Holding.{surroundings}
-use Rattle.jxlm_predictor.specs.Neighbours.{row as line}
+use Rattle.jxlm_weighted.specs.Neighbours.{row as line}
 use Rattle.jxlm_predictor.specs.Predictions.{prediction}
 use Rattle.jxlm_predictor.specs.Standing.{HasSameRoom, HoldsRow, IsInner, IsReady, Setting, StandsAt, row_of, setting}
 use Rattle.jxlm_predictor.specs.declared.earlier.EarlierRow.{EarlierRow}
@@ -25,7 +25,7 @@ use Rattle.jxlm_predictor.specs.declared.state.PredictorState.{PredictorState}
 use Rattle.jxlm_predictor.proofs.EarlierLaws.{in_state, of_setting}
 use Rattle.jxlm_predictor.proofs.StandingLaws.{stands_row}
 use Rattle.jxlm_samples.specs.Coded.{next_prediction}
-use Rattle.jxlm_samples.specs.ChannelSettings.{StandsAfter, asked_at, handed, region_at, setting_of, weighted_at}
+use Rattle.jxlm_samples.specs.ChannelSettings.{StandsAfter, asked_at, earlier_for, region_at, setting_of, weighted_at}
 use Rattle.jxlm_samples.specs.Part.{clamps, place_by, SeesBefore, cells_before, cells_of, channel, earlier_alike, grid as grid_at}
 use Rattle.jxlm_samples.specs.Reading.{IsCodingOf, part_of, regions_of, tree_of}
 use Rattle.jxlm_samples.specs.declared.coding.ChannelTree.{ChannelTree}
@@ -39,7 +39,7 @@ use Rattle.jxlm_encode_tokens.specs.Inner.Walks.{AreRowTokens, HasRow, IsNextTok
 use Rattle.jxlm_encode_tokens.specs.Tokens.{IsSampleToken, IsTokenOfCell}
 
 -- what holds of all earlier channels holds of those that are given to the state
-all_handed : {X : Type 0} (n : ℕ) (P : X → Type 0) (xs : List X) → All P xs → All P (handed n xs)
+all_handed : {X : Type 0} (n : ℕ) (P : X → Type 0) (xs : List X) → All P xs → All P (earlier_for n xs)
 all_handed zero P xs h = All-nil P
 all_handed (suc n) P xs h = h
 
@@ -106,7 +106,7 @@ module _ {D : Type 0} (c : PartCoding D) (coding : IsCodingOf c) (i : ℕ) (li :
       -- the leaf and the prediction of the cell are those to which its channel's flat tree leads
       next_by : (n : ℕ) → ReadsEarlierBelow (tree_of c i) n → (used : Bool) → (used ≡ false → GoesWithoutWeights (tree_of c i)) →
           IsNext (part_of c) (regions_of c) ints i (take (first + j) all) (take j own) sees
-          (setting reg.width (if used then Some c.weights else None) (handed n (map (region_at (regions_of c)) (earlier_alike (part_of c).channels i))))
+          (setting reg.width (if used then Some c.weights else None) (earlier_for n (map (region_at (regions_of c)) (earlier_alike (part_of c).channels i))))
       next_by zero below used without = is_next (part_of c) (regions_of c) ints i (take (first + j) all) (take j own) sees zero below used without
       next_by (suc n) below used without = is_next (part_of c) (regions_of c) ints i (take (first + j) all) (take j own) sees (suc n) below used without
 

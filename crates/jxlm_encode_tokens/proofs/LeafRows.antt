@@ -16,7 +16,7 @@ use Rattle.jxlm_tree.specs.Tree.{AllLeaves}
 use Rattle.jxlm_tree.specs.declared.flat.Leaf.{Leaf}
 use Rattle.jxlm_tree.proofs.FlatTrees.{standing_leaf}
 use Rattle.jxlm_predictor.specs.Holding.{surroundings}
-use Rattle.jxlm_predictor.specs.Neighbours.{at}
+use Rattle.jxlm_weighted.specs.Neighbours.{at}
 use Rattle.jxlm_predictor.specs.Predictions.{prediction}
 use Rattle.jxlm_predictor.specs.declared.predictor.Predictor.{Predictor}
 use Rattle.jxlm_predictor.specs.declared.predictor.Predictor.TheVariants.{Zero, Gradient}

@@ -8,7 +8,7 @@ ghost use Rattle.jxlm_transform.specs.Channels.{infos, regions};
 ghost use Rattle.jxlm_samples.specs.ChannelSettings.{IsAfterChannel, StandsAfter, region_at};
 ghost use Rattle.jxlm_samples.specs.Part.{cells_before, cells_of};
 ghost use Rattle.jxlm_samples.specs.Placed.{PartLies, part_placed};
-ghost use Rattle.jxlm_predictor.specs.SelfCorrecting.{IsHeader};
+ghost use Rattle.jxlm_weighted.specs.SelfCorrecting.{IsHeader};
 ghost use Rattle.jxlm_samples.specs.Reading.{sampled_width as the_sampled_width};
 ghost use Rattle.jxlm_samples.specs.Reading.{HasFlats, HasRoom, IsRoomyFor, LeadsAlone, part_of, regions_of, row_width, tree_of};
 ghost use Rattle.jxlm_encode_tokens.specs.Tokens.{AreTokensOf, MultipliesByOne};

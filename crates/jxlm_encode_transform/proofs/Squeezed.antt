@@ -18,7 +18,7 @@ use Rattle.jxlm_encode_transform.specs.Inner.Lines.{number_in}
 use Rattle.jxlm_encode_transform.proofs.Numbers.{below_next, residual_same}
 use Rattle.jxlm_encode_transform.specs.Inner.Squeezed.{AreLines, SqueezedColumns, SqueezedRows, SqueezesRow, number_of, strip_of}
 use Rattle.jxlm_encode_transform.proofs.LineSteps.{number_part}
-use Rattle.jxlm_transform.specs.SqueezedRegions.{UndoesSqueeze}
+use Rattle.jxlm_inverse.specs.UndoneSqueeze.{UndoesSqueeze}
 
 -- ---- lines of the same samples are squeezed to the same
 

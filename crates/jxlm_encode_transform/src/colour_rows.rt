@@ -1,7 +1,7 @@
 //! Colours of cells coded (ISO/IEC 18181-1, Modular: reversible colour transforms).
 
 ghost use Rattle.std.specs.Prelude.{◌≡◌, length};
-ghost use Rattle.jxlm_lanes.specs.Colour.{triple, plus as the_sum, minus as the_difference, halved, coded_triple};
+ghost use Rattle.jxlm_lanes.specs.Colour.{triple, plus as the_sum, minus as the_difference, floor_half, coded_triple};
 ghost use Rattle.jxlm_lanes.specs.Colour.{to_luma as luma_of, to_differences as differences_of, coded_by as the_code};
 ghost use Rattle.jxlm_encode_transform.specs.Inner.ColourRows.{AreCoded, AreSampleRows, HaveOneLength};
 
@@ -24,7 +24,7 @@ fn minus<S: Sample>(a: S, b: S) -> S
 
 /// Half of a sample, rounded down.
 fn half<S: Sample>(a: S) -> S
-    ensures { S.to_int result ≡ halved (S.to_int a) }
+    ensures { S.to_int result ≡ floor_half (S.to_int a) }
 {
     S::from_i32(a.to_i32() >> 1)
 }

@@ -12,7 +12,7 @@ use Rattle.jxlm_bits.specs.ErrorKind.{◌>>=◌}
 use Rattle.jxlm_bits.specs.declared.decoder.DecoderError.{DecoderError}
 use Rattle.jxlm_bits.proofs.BitsLemmas.{bits_at-join}
 use Rattle.jxlm_bits.specs.Numbers.{floor_log2}
-use Rattle.jxlm_predictor.proofs.Ranges.{floor_log2_is}
+use Rattle.jxlm_weighted.proofs.Ranges.{floor_log2_is}
 use Rattle.jxlm_plain.specs.Plain.{PlainState, code2_at, fields_at, gamma_at, plain2, plain2_parse, plain_begin, plain_read, token_at}
 use Rattle.jxlm_plain.specs.declared.plain.Code.TheVariants.{Gamma}
 use Rattle.jxlm_plain.specs.declared.plain.Mode.{Mode}

@@ -8,8 +8,8 @@ use Rattle.jxlm_header.specs.Header.{Header, header}
 use Rattle.jxlm_transform.specs.Transforms.{Transform, OfRct, OfPalette, OfSqueeze, IsSqueezeParams, IsRct, begin_channel, rct, squeeze_params, squeeze, transform}
 use Rattle.jxlm_transform.specs.declared.transform.Rct.{Rct}
 use Rattle.jxlm_transform.specs.declared.transform.SqueezeParams.{SqueezeParams}
-use Rattle.jxlm_predictor.specs.declared.predictor.WpHeader.{WpHeader}
-use Rattle.jxlm_predictor.specs.WeightsHeader.{wp_header, default_weights}
+use Rattle.jxlm_weighted.specs.declared.weights.WpHeader.{WpHeader}
+use Rattle.jxlm_weighted.specs.WeightsHeader.{wp_header, default_weights}
 use Rattle.jxlm_encode_write.specs.Written.{digits}
 use Rattle.jxlm_encode_write.specs.Laws.{IsWritten, HeadersStand}
 use Rattle.jxlm_encode_write.specs.Headers.{flag_bits, begin_bits, kind_bits, count_bits, steps_count_bits, transforms_count_bits, rct_bits, params_bits, squeeze_bits, transform_bits, header_bits}

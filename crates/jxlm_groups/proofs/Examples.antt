@@ -3,7 +3,7 @@ use Rattle.std.proofs.Common.{◌≡◌, ℕ, List, [], ◌∷◌, map, true, fa
 use Rattle.jxlm_bits.specs.ErrorKind.{ErrorKind, ◌>>=◌}
 use Rattle.jxlm_transform.specs.Channels.{Channel, ChannelList, image_list}
 use Rattle.jxlm_transform.specs.ChannelSteps.{CodedList, coded_list}
-use Rattle.jxlm_transform.specs.Params.{sized}
+use Rattle.jxlm_transform.specs.Params.{channel_params}
 use Rattle.jxlm_transform.specs.Transforms.{OfSqueeze}
 use Rattle.jxlm_transform.specs.declared.param.ChannelShift.TheVariants.{Shifts}
 use Rattle.jxlm_transform.specs.declared.param.ModularChannelParams.{ModularChannelParams}
@@ -15,7 +15,7 @@ use Rattle.jxlm_groups.specs.declared.part.Kind.TheVariants as kinds
 use Rattle.jxlm_groups.specs.declared.part.SectionPart.TheVariants as parts
 
 abbrev given : ℕ → ℕ → ℕ → ModularChannelParams
-given w h s = sized w h (Shifts s)
+given w h s = channel_params w h (Shifts s)
 
 abbrev all : List Pass
 all = record { number = 0; first_shift = pos 0; end_shift = pos 3 } ∷ []

@@ -9,7 +9,7 @@ use Rattle.std.proofs.lemmas.Nat.{pow_pos, pow-add}
 use Rattle.std.proofs.Math.Nat.{lt_of_mul-lt-mul_right, mul_assoc, mul_comm, pow-suc, mul-div_cancel, div-eq_of_lt}
 use Rattle.std.proofs.Math.Pow.{pow-lt}
 use Rattle.jxlm_transform.specs.Channels.{Channel, image_channel}
-use Rattle.jxlm_transform.specs.ChannelSteps.{average_channel, residual_channel, grown}
+use Rattle.jxlm_transform.specs.ChannelSteps.{average_channel, residual_channel, shift_of_half}
 use Rattle.jxlm_transform.specs.Params.{IsValidChannel, IsGroupDim}
 use Rattle.jxlm_transform.specs.Shifts.{upsampled_side, shift_size, hshift, vshift, IsShift, IsValidShift}
 use Rattle.jxlm_transform.proofs.ShiftBounds.{hshift-shifts}
@@ -39,10 +39,10 @@ IsOwn c = IsOfPicture c.original_width c.original_height c
 
 -- ---- a squeeze
 
-half_more : (original n m : ℕ) (s : ℤ) → m ≤ (n + 1) / 2 → IsHalved original n s → IsHalved original m (grown s)
+half_more : (original n m : ℕ) (s : ℤ) → m ≤ (n + 1) / 2 → IsHalved original n s → IsHalved original m (shift_of_half s)
 half_more original n m s le h = record {
   shift = suc h.shift;
-  is = ap grown h.is ∙ ap pos (omega arith);
+  is = ap shift_of_half h.is ∙ ap pos (omega arith);
   covers = λ q r a b.
       let e : q * 2 ^ suc h.shift ≡ q * 2 * 2 ^ h.shift = ap (λ z. q * z) (pow-suc 2 h.shift ∙ mul_comm (2 ^ h.shift) 2) ∙ sym (mul_assoc q 2 (2 ^ h.shift)) in
       let k = h.covers (q * 2) r a (b ∙ e) in

@@ -9,12 +9,12 @@ use Rattle.jxlm_transform.specs.Channels.{ChannelList, tables_for}
 use Rattle.jxlm_transform.specs.Transforms.{transform_by}
 use Rattle.jxlm_transform.specs.declared.param.PaletteTables.{PaletteTables}
 use Rattle.jxlm_transform.proofs.TransformLaws.{exact-checked, exact-transform}
-use Rattle.jxlm_predictor.proofs.WeightsLaws.{exact-wp_header}
+use Rattle.jxlm_weighted.proofs.WeightsLaws.{exact-wp_header}
 use Rattle.jxlm_transform.proofs.Failures.{unless_so}
-use Rattle.jxlm_predictor.specs.WeightsHeader.{wp_header}
-use Rattle.jxlm_predictor.specs.declared.predictor.WpHeader.{WpHeader}
+use Rattle.jxlm_weighted.specs.WeightsHeader.{wp_header}
+use Rattle.jxlm_weighted.specs.declared.weights.WpHeader.{WpHeader}
 use Rattle.jxlm_header.specs.Header.{header_by}
-use Rattle.jxlm_header.specs.Opening.{resolved, opening}
+use Rattle.jxlm_header.specs.Opening.{resolve, opening}
 
 bind : {X Y : Type 0} {field : Grammar X} {next : X → Grammar Y} → IsExact field → ((x : X) → IsExact (next x)) → IsExact (field >>= next)
 bind {field} {next} first rest = exact-bind field next first rest
@@ -29,7 +29,7 @@ exact-header tables =
 
 -- and so is all that comes before the tree
 pub exact-opening : (has_global : Bool) (list : ChannelList) → IsExact (opening has_global list)
-exact-opening has_global list = bind (exact-header (tables_for list.channels)) λ h. exact-checked (resolved has_global list h)
+exact-opening has_global list = bind (exact-header (tables_for list.channels)) λ h. exact-checked (resolve has_global list h)
 
 -- where one of the transforms gives an error, so does the header
 pub listed_fails : (tables : PaletteTables) (bytes : List ℕ) (p : ℕ) (global : Bool) (a : ℕ) (weights : WpHeader) (b n m : ℕ) (error : ErrorKind) (q : ℕ) → flag.read bytes p ≡ Ok (record { value = global; position = a }) →

@@ -2,15 +2,15 @@
 use Rattle.std.specs.Prelude.{◌≡◌, ℕ, List, [], ◌∷◌, replicate, Some, Err, Ok, refl, false, true, codes}
 use Rattle.jxlm_bits.specs.ErrorKind.{BadEnum, BadRct, BadSqueeze, NoGlobalTree, Eof}
 use Rattle.jxlm_transform.specs.Channels.{image_list}
-use Rattle.jxlm_transform.specs.Params.{sized}
+use Rattle.jxlm_transform.specs.Params.{channel_params}
 use Rattle.jxlm_transform.specs.declared.param.ChannelShift.TheVariants.{Shifts}
 use Rattle.jxlm_transform.specs.declared.param.ModularChannelParams.{ModularChannelParams}
-use Rattle.jxlm_predictor.specs.WeightsHeader.{default_weights}
+use Rattle.jxlm_weighted.specs.WeightsHeader.{default_weights}
 use Rattle.jxlm_header.specs.Opening.{opening}
 
 -- channels of 2 by 2
 abbrev squares : ℕ → List ModularChannelParams
-squares n = replicate n (sized 2 2 (Shifts 0))
+squares n = replicate n (channel_params 2 2 (Shifts 0))
 
 abbrev square : List ModularChannelParams
 square = squares 1

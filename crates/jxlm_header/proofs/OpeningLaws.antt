@@ -3,15 +3,15 @@ use Rattle.std.proofs.Common.{◌≡◌, ℕ, ◌≤◌, Bool, true, false, List
 use Rattle.std.specs.Prelude.{codes, nat_lt, not, ◌&&◌, if◌then◌else◌}
 use Rattle.std.proofs.lemmas.Bool.{ltb-false}
 use Rattle.jxlm_bits.specs.ErrorKind.{ErrorKind, BadProfile, NoGlobalTree, UnlessNoMemory}
-use Rattle.jxlm_bits.specs.Grammar.{IsErrorAt}
+use Rattle.jxlm_bits.specs.Grammar.{IsErrorAt, from_result}
 use Rattle.jxlm_transform.specs.Channels.{ChannelList, tables_for}
 use Rattle.jxlm_transform.specs.ChannelSteps.{CodedList, coded_list}
-use Rattle.jxlm_transform.specs.Transforms.{Transform, OfRct, OfPalette, OfSqueeze, HasChannels, IsTransform, checked}
+use Rattle.jxlm_transform.specs.Transforms.{Transform, OfRct, OfPalette, OfSqueeze, HasChannels, IsTransform}
 use Rattle.std.specs.List.{All}
 use Rattle.std.proofs.lemmas.List.Elements.{All-weaker}
 use Rattle.jxlm_transform.proofs.Failures.{unless_so}
 use Rattle.jxlm_header.specs.Header.{Header, header_by}
-use Rattle.jxlm_header.specs.Opening.{Opening, conditions, resolved, opening, opening_of}
+use Rattle.jxlm_header.specs.Opening.{Opening, conditions, resolve, opening, opening_of}
 
 -- palettes that were read have channels
 has_channels : (t : Transform) → IsTransform t → HasChannels t
@@ -63,11 +63,11 @@ module _ (has_global : Bool) (list : ChannelList) (bytes : List ℕ) (p : ℕ) w
       (λ r. record { place = r.place; refuses = rw r.refuses refl; stands = r.stands }) refused
 
   module _ (h : Header) (m : ℕ) (reads : (header_by (tables_for list.channels)).read bytes p ≡ Ok (record { value = h; position = m })) where
-    reads_on : (opening has_global list).read bytes p ≡ (checked (resolved has_global list h)).read bytes m
+    reads_on : (opening has_global list).read bytes p ≡ (from_result (resolve has_global list h)).read bytes m
     reads_on = rw reads refl
 
-    fails_after : (error : ErrorKind) → resolved has_global list h ≡ Err error → IsErrorAt ((opening has_global list).read bytes p) error m
-    fails_after error e = record { place = Some m; refuses = reads_on ∙ ap (λ (r : Result Opening ErrorKind). (checked r).read bytes m) e; stands = refl }
+    fails_after : (error : ErrorKind) → resolve has_global list h ≡ Err error → IsErrorAt ((opening has_global list).read bytes p) error m
+    fails_after error e = record { place = Some m; refuses = reads_on ∙ ap (λ (r : Result Opening ErrorKind). (from_result r).read bytes m) e; stands = refl }
 
     -- so it is where a transform does
     pub transforms_fail : (error : ErrorKind) → UnlessNoMemory error (coded_list h.transform list ≡ Err error) → UnlessNoMemory error (IsErrorAt ((opening has_global list).read bytes p) error m)
@@ -88,5 +88,5 @@ module _ (has_global : Bool) (list : ChannelList) (bytes : List ℕ) (p : ℕ) w
           (opening has_global list).read bytes p ≡ Ok (record { value = opening_of h coded; position = m })
       is_opened k flags holds =
           let here : conditions has_global h coded.list ≡ Ok tt = sym (conditions_alike has_global coded.list k h flags) ∙ holds in
-          let all : resolved has_global list h ≡ Ok (opening_of h coded) = rw (found, here) refl in
-          reads_on ∙ ap (λ (r : Result Opening ErrorKind). (checked r).read bytes m) all
+          let all : resolve has_global list h ≡ Ok (opening_of h coded) = rw (found, here) refl in
+          reads_on ∙ ap (λ (r : Result Opening ErrorKind). (from_result r).read bytes m) all

@@ -6,9 +6,9 @@ use Rattle.jxlm_bits.specs.declared.bits.U32Spec.TheVariants.{Const, Offset}
 use Rattle.jxlm_transform.specs.Transforms.{Transform, IsTransform, KeepsWeights, transform_by, transform_of}
 use Rattle.jxlm_transform.specs.declared.param.PaletteTables.{PaletteTables}
 use Rattle.jxlm_transform.specs.declared.param.PaletteTables.TheVariants.{OfColours}
-use Rattle.jxlm_predictor.specs.SelfCorrecting.{IsHeader}
-use Rattle.jxlm_predictor.specs.WeightsHeader.{wp_header}
-use Rattle.jxlm_predictor.specs.declared.predictor.WpHeader.{WpHeader}
+use Rattle.jxlm_weighted.specs.SelfCorrecting.{IsHeader}
+use Rattle.jxlm_weighted.specs.WeightsHeader.{wp_header}
+use Rattle.jxlm_weighted.specs.declared.weights.WpHeader.{WpHeader}
 use Rattle.jxlm_header.specs.declared.header.ModularHeader.{ModularHeader}
 
 -- whether the global tree is used, the weights of the weighted (self-correcting) predictor, and the transforms

@@ -2,14 +2,13 @@
 use Rattle.std.specs.Prelude.{◌≡◌, ◌+◌, ◌^◌, nat_lt, min, sum_by, List, length, codes, Bool, ℕ, not, ◌&&◌, if◌then◌else◌, Result, Ok, Err}
 use Rattle.std.specs.List.{list_any}
 use Rattle.jxlm_bits.specs.ErrorKind.{ErrorKind, BadProfile, NoGlobalTree, kind_of, ◌>>=◌}
-use Rattle.jxlm_bits.specs.Grammar.{Grammar, IsExact}
+use Rattle.jxlm_bits.specs.Grammar.{Grammar, IsExact, from_result}
 use Rattle.jxlm_bits.specs.Grammar as fields
 use Rattle.jxlm_bits.specs.declared.error.Error.{Error}
-use Rattle.jxlm_predictor.specs.declared.predictor.WpHeader.{WpHeader}
+use Rattle.jxlm_weighted.specs.declared.weights.WpHeader.{WpHeader}
 use Rattle.jxlm_transform.specs.Channels.{Channel, ChannelList, area, tables_for}
 use Rattle.jxlm_transform.specs.ChannelSteps.{CodedList, coded_list}
 use Rattle.jxlm_transform.specs.Kinds.{is_palette, is_squeeze}
-use Rattle.jxlm_transform.specs.Transforms.{checked}
 use Rattle.jxlm_header.specs.Header.{Header, header_by}
 
 -- what a header says (global tree, a palette, a squeeze, weights), and the steps and channels that its transforms give
@@ -37,15 +36,15 @@ conditions has_global header list =
     if header.use_global_tree && not has_global then Err NoGlobalTree else Ok tt
 
 -- each transform in turn against the channels that the ones before it leave, and then the conditions
-abbrev pub resolved : Bool → ChannelList → Header → Result Opening ErrorKind
-resolved has_global list header =
+abbrev pub resolve : Bool → ChannelList → Header → Result Opening ErrorKind
+resolve has_global list header =
     coded_list header.transform list >>= λ coded.
     conditions has_global header coded.list >>= λ _.
     Ok (opening_of header coded)
 
 -- the whole header, by the tables of palettes that the channels ask for, and then what it comes to
 abbrev pub opening : Bool → ChannelList → Grammar Opening
-opening has_global list = fields.◌>>=◌ (header_by (tables_for list.channels)) λ header. checked (resolved has_global list header)
+opening has_global list = fields.◌>>=◌ (header_by (tables_for list.channels)) λ header. from_result (resolve has_global list header)
 
 -- what a call that checks the conditions returned
 abbrev pub CheckGives : Result (Unit {0}) ErrorKind → Result (Unit {0}) Error → Type 0

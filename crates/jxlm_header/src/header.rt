@@ -10,9 +10,9 @@ ghost use Rattle.jxlm_transform.specs.Transforms.{IsTransform, KeepsWeights, Par
 use jxlm_base::grid::OutOfMemory;
 use jxlm_bits::bits::{Bitstream, U32Spec};
 use jxlm_bits::error::Result;
-use jxlm_predictor::predictor::WpHeader;
 use jxlm_transform::param::PaletteTables;
 use jxlm_transform::transform::{Squeeze, TransformInfo};
+use jxlm_weighted::weights::WpHeader;
 use std::alloc::Global;
 
 /// What comes before an image's tree.

@@ -4,7 +4,7 @@ use Rattle.std.specs.Prelude.{◌==◌, if◌then◌else◌, FitsSigned}
 use Rattle.std.specs.Int.{Width, int_wrap}
 use Rattle.std.proofs.lemmas.Int.{int_wrap_fits, int_wrap-add_left, SFits-int_wrap}
 use lib.IntN.{+ℤ-neg_ℤ_cancel, -ℤ-+ℤ_cancel, +ℤ_comm}
-use Rattle.jxlm_lanes.specs.Colour.{Triple, triple, IsTripleOf, permuted, unpermuted, plus, minus, halved, to_luma, from_luma, to_differences, from_differences, coded_by, finished_by, finished_triple, ColourIsLossless, ColourIsOneToOne}
+use Rattle.jxlm_lanes.specs.Colour.{Triple, triple, IsTripleOf, permute, unpermute, plus, minus, floor_half, to_luma, from_luma, to_differences, from_differences, coded_by, finished_by, finished_triple, ColourIsLossless, ColourIsOneToOne}
 
 pub triple_same : (a b c d e f : ℤ) → a ≡ d → b ≡ e → c ≡ f → triple a b c ≡ triple d e f
 triple_same a b c d e f p q r = ap (λ x. triple x b c) p ∙ ap (λ x. triple d x c) q ∙ ap (λ x. triple d e x) r
@@ -23,50 +23,50 @@ module _ (w : Width) where
   luma_there : (t : Triple) → IsTripleOf w t → from_luma w (to_luma w t) ≡ t
   luma_there t fits =
       let b : ℤ = minus w t.first t.third in
-      let m : ℤ = plus w t.third (halved b) in
+      let m : ℤ = plus w t.third (floor_half b) in
       let c : ℤ = minus w t.second m in
-      let m' : minus w (plus w m (halved c)) (halved c) ≡ m = plus-minus m (halved c) (SFits-int_wrap w (t.third +ℤ halved b)) in
-      let e : plus w c (minus w (plus w m (halved c)) (halved c)) ≡ t.second = ap (plus w c) m' ∙ minus-plus t.second m fits.second in
-      let f : minus w (minus w (plus w m (halved c)) (halved c)) (halved b) ≡ t.third = ap (λ n. minus w n (halved b)) m' ∙ plus-minus t.third (halved b) fits.third in
-      let d : plus w (minus w (minus w (plus w m (halved c)) (halved c)) (halved b)) b ≡ t.first =
+      let m' : minus w (plus w m (floor_half c)) (floor_half c) ≡ m = plus-minus m (floor_half c) (SFits-int_wrap w (t.third +ℤ floor_half b)) in
+      let e : plus w c (minus w (plus w m (floor_half c)) (floor_half c)) ≡ t.second = ap (plus w c) m' ∙ minus-plus t.second m fits.second in
+      let f : minus w (minus w (plus w m (floor_half c)) (floor_half c)) (floor_half b) ≡ t.third = ap (λ n. minus w n (floor_half b)) m' ∙ plus-minus t.third (floor_half b) fits.third in
+      let d : plus w (minus w (minus w (plus w m (floor_half c)) (floor_half c)) (floor_half b)) b ≡ t.first =
       ap (λ n. plus w n b) f ∙ plus_comm t.third b ∙ minus-plus t.first t.third fits.first in
       triple_same _ _ _ t.first t.second t.third d e f
 
   luma_back : (t : Triple) → IsTripleOf w t → to_luma w (from_luma w t) ≡ t
   luma_back t fits =
-      let m : ℤ = minus w t.first (halved t.third) in
+      let m : ℤ = minus w t.first (floor_half t.third) in
       let e : ℤ = plus w t.third m in
-      let f : ℤ = minus w m (halved t.second) in
+      let f : ℤ = minus w m (floor_half t.second) in
       let d : ℤ = plus w f t.second in
       let b' : minus w d f ≡ t.second = ap (λ n. minus w n f) (plus_comm f t.second) ∙ plus-minus t.second f fits.second in
-      let m' : plus w f (halved (minus w d f)) ≡ m = ap (λ n. plus w f (halved n)) b' ∙ minus-plus m (halved t.second) (SFits-int_wrap w (t.first -ℤ halved t.third)) in
-      let c' : minus w e (plus w f (halved (minus w d f))) ≡ t.third = ap (minus w e) m' ∙ plus-minus t.third m fits.third in
-      let a' : plus w (plus w f (halved (minus w d f))) (halved (minus w e (plus w f (halved (minus w d f))))) ≡ t.first =
-      ap (λ n. plus w n (halved (minus w e (plus w f (halved (minus w d f)))))) m' ∙ ap (λ n. plus w m (halved n)) c' ∙ minus-plus t.first (halved t.third) fits.first in
+      let m' : plus w f (floor_half (minus w d f)) ≡ m = ap (λ n. plus w f (floor_half n)) b' ∙ minus-plus m (floor_half t.second) (SFits-int_wrap w (t.first -ℤ floor_half t.third)) in
+      let c' : minus w e (plus w f (floor_half (minus w d f))) ≡ t.third = ap (minus w e) m' ∙ plus-minus t.third m fits.third in
+      let a' : plus w (plus w f (floor_half (minus w d f))) (floor_half (minus w e (plus w f (floor_half (minus w d f))))) ≡ t.first =
+      ap (λ n. plus w n (floor_half (minus w e (plus w f (floor_half (minus w d f)))))) m' ∙ ap (λ n. plus w m (floor_half n)) c' ∙ minus-plus t.first (floor_half t.third) fits.first in
       triple_same _ _ _ t.first t.second t.third a' b' c'
 
   -- the differences, by the tests that choose them
   there_by : (odd one two : Bool) (x y z : ℤ) → FitsSigned w y → FitsSigned w z →
       let c : ℤ = if odd then minus w z x else z in
-      let b : ℤ = if one then minus w y x else if two then minus w y (halved (plus w x z)) else y in
+      let b : ℤ = if one then minus w y x else if two then minus w y (floor_half (plus w x z)) else y in
       let f : ℤ = if odd then plus w c x else c in
-      triple x (if one then plus w b x else if two then plus w b (halved (plus w x f)) else b) f ≡ triple x y z
+      triple x (if one then plus w b x else if two then plus w b (floor_half (plus w x f)) else b) f ≡ triple x y z
   there_by true true two x y z fy fz = triple_same _ _ _ x y z refl (minus-plus y x fy) (minus-plus z x fz)
   there_by false true two x y z fy fz = triple_same _ _ _ x y z refl (minus-plus y x fy) refl
   there_by true false true x y z fy fz =
-      triple_same _ _ _ x y z refl (ap (λ n. plus w (minus w y (halved (plus w x z))) (halved (plus w x n))) (minus-plus z x fz) ∙ minus-plus y (halved (plus w x z)) fy) (minus-plus z x fz)
-  there_by false false true x y z fy fz = triple_same _ _ _ x y z refl (minus-plus y (halved (plus w x z)) fy) refl
+      triple_same _ _ _ x y z refl (ap (λ n. plus w (minus w y (floor_half (plus w x z))) (floor_half (plus w x n))) (minus-plus z x fz) ∙ minus-plus y (floor_half (plus w x z)) fy) (minus-plus z x fz)
+  there_by false false true x y z fy fz = triple_same _ _ _ x y z refl (minus-plus y (floor_half (plus w x z)) fy) refl
   there_by true false false x y z fy fz = triple_same _ _ _ x y z refl refl (minus-plus z x fz)
   there_by false false false x y z fy fz = refl
 
   back_by : (odd one two : Bool) (x y z : ℤ) → FitsSigned w y → FitsSigned w z →
       let f : ℤ = if odd then plus w z x else z in
-      let e : ℤ = if one then plus w y x else if two then plus w y (halved (plus w x f)) else y in
-      triple x (if one then minus w e x else if two then minus w e (halved (plus w x f)) else e) (if odd then minus w f x else f) ≡ triple x y z
+      let e : ℤ = if one then plus w y x else if two then plus w y (floor_half (plus w x f)) else y in
+      triple x (if one then minus w e x else if two then minus w e (floor_half (plus w x f)) else e) (if odd then minus w f x else f) ≡ triple x y z
   back_by true true two x y z fy fz = triple_same _ _ _ x y z refl (plus-minus y x fy) (plus-minus z x fz)
   back_by false true two x y z fy fz = triple_same _ _ _ x y z refl (plus-minus y x fy) refl
-  back_by true false true x y z fy fz = triple_same _ _ _ x y z refl (plus-minus y (halved (plus w x (plus w z x))) fy) (plus-minus z x fz)
-  back_by false false true x y z fy fz = triple_same _ _ _ x y z refl (plus-minus y (halved (plus w x z)) fy) refl
+  back_by true false true x y z fy fz = triple_same _ _ _ x y z refl (plus-minus y (floor_half (plus w x (plus w z x))) fy) (plus-minus z x fz)
+  back_by false false true x y z fy fz = triple_same _ _ _ x y z refl (plus-minus y (floor_half (plus w x z)) fy) refl
   back_by true false false x y z fy fz = triple_same _ _ _ x y z refl refl (plus-minus z x fz)
   back_by false false false x y z fy fz = refl
 
@@ -109,10 +109,10 @@ unpick_fits w false false false true e t f = record { first = f.second; second =
 unpick_fits w false false false false true t f = record { first = f.third; second = f.second; third = f.first }
 unpick_fits w false false false false false t f = f
 
-permuted-unpermuted : (n : ℕ) (t : Triple) → permuted n (unpermuted n t) ≡ t
+permuted-unpermuted : (n : ℕ) (t : Triple) → permute n (unpermute n t) ≡ t
 permuted-unpermuted n t = pick-unpick (n == 1) (n == 2) (n == 3) (n == 4) (n == 5) t
 
-unpermuted-permuted : (n : ℕ) (t : Triple) → unpermuted n (permuted n t) ≡ t
+unpermuted-permuted : (n : ℕ) (t : Triple) → unpermute n (permute n t) ≡ t
 unpermuted-permuted n t = unpick-pick (n == 1) (n == 2) (n == 3) (n == 4) (n == 5) t
 
 pick_fits : (w : Width) (a b c d e : Bool) (t : Triple) → IsTripleOf w t → IsTripleOf w (pick a b c d e t)
@@ -123,10 +123,10 @@ pick_fits w false false false true e t f = record { first = f.second; second = f
 pick_fits w false false false false true t f = record { first = f.third; second = f.second; third = f.first }
 pick_fits w false false false false false t f = f
 
-pub unpermuted_fits : (w : Width) (n : ℕ) (t : Triple) → IsTripleOf w t → IsTripleOf w (unpermuted n t)
+pub unpermuted_fits : (w : Width) (n : ℕ) (t : Triple) → IsTripleOf w t → IsTripleOf w (unpermute n t)
 unpermuted_fits w n t f = unpick_fits w (n == 1) (n == 2) (n == 3) (n == 4) (n == 5) t f
 
-pub permuted_fits : (w : Width) (n : ℕ) (t : Triple) → IsTripleOf w t → IsTripleOf w (permuted n t)
+pub permuted_fits : (w : Width) (n : ℕ) (t : Triple) → IsTripleOf w t → IsTripleOf w (permute n t)
 permuted_fits w n t f = pick_fits w (n == 1) (n == 2) (n == 3) (n == 4) (n == 5) t f
 
 module _ (w : Width) where
@@ -145,12 +145,12 @@ module _ (w : Width) where
 
   coded_of_fits : (luma : Bool) (t : ℕ) (x : Triple) → IsTripleOf w x → IsTripleOf w (if luma then to_luma w x else to_differences w t x)
   coded_of_fits true t x f = record { first = SFits-int_wrap w _; second = SFits-int_wrap w _; third = SFits-int_wrap w _ }
-  coded_of_fits false t x f = chosen_fit (t % 2 == 1) (t / 2 == 1) (t / 2 == 2) x.first x.second x.third (x.second -ℤ x.first) (x.second -ℤ halved (plus w x.first x.third)) (x.third -ℤ x.first) f
+  coded_of_fits false t x f = chosen_fit (t % 2 == 1) (t / 2 == 1) (t / 2 == 2) x.first x.second x.third (x.second -ℤ x.first) (x.second -ℤ floor_half (plus w x.first x.third)) (x.third -ℤ x.first) f
 
   finished_of_fits : (luma : Bool) (t : ℕ) (x : Triple) → IsTripleOf w x → IsTripleOf w (if luma then from_luma w x else from_differences w t x)
   finished_of_fits true t x f = record { first = SFits-int_wrap w _; second = SFits-int_wrap w _; third = SFits-int_wrap w _ }
   finished_of_fits false t x f =
-      chosen_fit (t % 2 == 1) (t / 2 == 1) (t / 2 == 2) x.first x.second x.third (x.second +ℤ x.first) (x.second +ℤ halved (plus w x.first (if t % 2 == 1 then plus w x.third x.first else x.third))) (x.third +ℤ x.first) f
+      chosen_fit (t % 2 == 1) (t / 2 == 1) (t / 2 == 2) x.first x.second x.third (x.second +ℤ x.first) (x.second +ℤ floor_half (plus w x.first (if t % 2 == 1 then plus w x.third x.first else x.third))) (x.third +ℤ x.first) f
 
   pub coded_fits : (t : ℕ) (x : Triple) → IsTripleOf w x → IsTripleOf w (coded_by w t x)
   coded_fits t x f = coded_of_fits (t == 6) t x f
@@ -171,10 +171,10 @@ back_of w false t x fits = differences_back w t x fits
 pub colour_is_lossless : (w : Width) → ColourIsLossless w
 colour_is_lossless w = record {
   there = λ kind x fits.
-      ap (permuted (kind / 7)) (there_of w (kind % 7 == 6) (kind % 7) (unpermuted (kind / 7) x) (unpermuted_fits w (kind / 7) x fits)) ∙ permuted-unpermuted (kind / 7) x;
+      ap (permute (kind / 7)) (there_of w (kind % 7 == 6) (kind % 7) (unpermute (kind / 7) x) (unpermuted_fits w (kind / 7) x fits)) ∙ permuted-unpermuted (kind / 7) x;
   back = λ kind x fits.
       ap (coded_by w (kind % 7)) (unpermuted-permuted (kind / 7) (finished_by w (kind % 7) x)) ∙ back_of w (kind % 7 == 6) (kind % 7) x fits;
-  coded = λ kind x fits. coded_fits w (kind % 7) (unpermuted (kind / 7) x) (unpermuted_fits w (kind / 7) x fits);
+  coded = λ kind x fits. coded_fits w (kind % 7) (unpermute (kind / 7) x) (unpermuted_fits w (kind / 7) x fits);
   finished = λ kind x fits. permuted_fits w (kind / 7) (finished_by w (kind % 7) x) (finished_fits w (kind % 7) x fits);
 }
 

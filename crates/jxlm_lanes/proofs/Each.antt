@@ -7,7 +7,7 @@ use Rattle.std.proofs.lemmas.Simd.{Each1-get_or, get_or-zip2, length-zip2, tops_
 use Rattle.std.proofs.Math.Facts.{sfits_to_z}
 use Rattle.std.proofs.lemmas.Bool.{cases_lt, lt-ltb, le-ltb, eq-eqb, ne_eqb}
 use lib.Lanes.{Each1, zip2, sel_l, top}
-use Rattle.jxlm_lanes.specs.Colour.{halved}
+use Rattle.jxlm_lanes.specs.Colour.{floor_half}
 use Rattle.jxlm_lanes.specs.Inner.Lanes.{lane, AreEight}
 
 pub Each1-map : {A B : Type 0} (Q : A → Type 0) (P : B → Type 0) (f : A → B) → ((a : A) → Q a → P (f a)) → (xs : List A) → Each1 Q xs → Each1 P (map f xs)
@@ -168,7 +168,7 @@ lanes_of_two f h xs ys p q =
       fit = Each1-signed (zip2 f (map (of_z w16) xs) (map (of_z w16) ys)) (Each1-zip2_all (λ x. x < 65536) f h (map (of_z w16) xs) (map (of_z w16) ys));
     }
 
-pub halved_fits : (x : ℤ) → FitsSigned w16 x → FitsSigned w16 (halved x)
+pub halved_fits : (x : ℤ) → FitsSigned w16 x → FitsSigned w16 (floor_half x)
 halved_fits (pos a) h = omega (arith, ints, h)
 halved_fits (negsuc a) h = omega (arith, ints, h)
 

@@ -17,20 +17,20 @@ pub record IsTripleOf (w : Width) (t : Triple) : Type 0 where
   pub third : FitsSigned w t.third
 
 -- The finished channels are in an order that the kind's multiple of seven names; 6 and above name the first again.
-abbrev pub permuted : ℕ → Triple → Triple
-permuted order t =
+abbrev pub permute : ℕ → Triple → Triple
+permute order t =
     if order == 1 then triple t.third t.first t.second else if order == 2 then triple t.second t.third t.first else if order == 3 then triple t.first t.third t.second
     else if order == 4 then triple t.second t.first t.third else if order == 5 then triple t.third t.second t.first else t
 
 -- the order of a finished triple undone
-abbrev pub unpermuted : ℕ → Triple → Triple
-unpermuted order t =
+abbrev pub unpermute : ℕ → Triple → Triple
+unpermute order t =
     if order == 1 then triple t.second t.third t.first else if order == 2 then triple t.third t.first t.second else if order == 3 then triple t.first t.third t.second
     else if order == 4 then triple t.second t.first t.third else if order == 5 then triple t.third t.second t.first else t
 
 -- half of a sample, rounded down
-abbrev pub halved : ℤ → ℤ
-halved x = int_shr x 1
+abbrev pub floor_half : ℤ → ℤ
+floor_half x = int_shr x 1
 
 module _ (w : Width) where
   -- sums and differences of w-bit samples
@@ -44,29 +44,29 @@ module _ (w : Width) where
   abbrev pub to_luma : Triple → Triple
   to_luma t =
       let b : ℤ = minus t.first t.third in
-      let middle : ℤ = plus t.third (halved b) in
+      let middle : ℤ = plus t.third (floor_half b) in
       let c : ℤ = minus t.second middle in
-      triple (plus middle (halved c)) b c
+      triple (plus middle (floor_half c)) b c
 
   abbrev pub from_luma : Triple → Triple
   from_luma t =
-      let middle : ℤ = minus t.first (halved t.third) in
+      let middle : ℤ = minus t.first (floor_half t.third) in
       let e : ℤ = plus t.third middle in
-      let f : ℤ = minus middle (halved t.second) in
+      let f : ℤ = minus middle (floor_half t.second) in
       triple (plus f t.second) e f
 
   -- The third loses the first where the kind is odd; the second loses nothing, the first, or the mean of the others.
   abbrev pub to_differences : ℕ → Triple → Triple
   to_differences t x =
       triple x.first
-      (if t / 2 == 1 then minus x.second x.first else if t / 2 == 2 then minus x.second (halved (plus x.first x.third)) else x.second)
+      (if t / 2 == 1 then minus x.second x.first else if t / 2 == 2 then minus x.second (floor_half (plus x.first x.third)) else x.second)
       (if t % 2 == 1 then minus x.third x.first else x.third)
 
   abbrev pub from_differences : ℕ → Triple → Triple
   from_differences t x =
       let f : ℤ = if t % 2 == 1 then plus x.third x.first else x.third in
       triple x.first
-      (if t / 2 == 1 then plus x.second x.first else if t / 2 == 2 then plus x.second (halved (plus x.first f)) else x.second)
+      (if t / 2 == 1 then plus x.second x.first else if t / 2 == 2 then plus x.second (floor_half (plus x.first f)) else x.second)
       f
 
   -- one of the seven ways to code a triple, and what it coded
@@ -78,11 +78,11 @@ module _ (w : Width) where
 
   -- the coded triple of a finished one
   abbrev pub coded_triple : ℕ → Triple → Triple
-  coded_triple kind x = coded_by (kind % 7) (unpermuted (kind / 7) x)
+  coded_triple kind x = coded_by (kind % 7) (unpermute (kind / 7) x)
 
   -- the finished triple of a coded one
   abbrev pub finished_triple : ℕ → Triple → Triple
-  finished_triple kind x = permuted (kind / 7) (finished_by (kind % 7) x)
+  finished_triple kind x = permute (kind / 7) (finished_by (kind % 7) x)
 
   -- Each kind, also one that no header can name, loses nothing on any triple of the width, and leads to triples of it.
   pub record ColourIsLossless : Type 0 where

@@ -1,7 +1,7 @@
 //! Colour of rows of samples of 16 bits, finished eight cells at a time.
 ghost use Rattle.std.specs.Prelude.{◌≡◌, ◌==◌, ◌<◌, ◌*◌, ◌/◌, ◌%◌, ℕ, length, if◌then◌else◌};
 ghost use Rattle.std.specs.Int.{w16};
-ghost use Rattle.jxlm_lanes.specs.Colour.{triple, plus, minus, halved, finished_by, from_luma as the_luma_undone, from_differences as the_differences_undone};
+ghost use Rattle.jxlm_lanes.specs.Colour.{triple, plus, minus, floor_half, finished_by, from_luma as the_luma_undone, from_differences as the_differences_undone};
 ghost use Rattle.jxlm_lanes.specs.FinishedCells.{FinishesCells};
 ghost use Rattle.jxlm_lanes.specs.Inner.Lanes.{lane, AreEight};
 
@@ -34,7 +34,7 @@ pub(crate) fn differences(a: i16x8, b: i16x8) -> i16x8
 #[inline(always)]
 fn halves(a: i16x8) -> i16x8
     requires { AreEight a }
-    ensures value { (j : ℕ) → j < 8 → lane result j ≡ halved (lane a j) }
+    ensures value { (j : ℕ) → j < 8 → lane result j ≡ floor_half (lane a j) }
     ensures eight { AreEight result }
 {
     a >> 1
@@ -77,7 +77,7 @@ fn second_samples(ty: u32, a: i16x8, b: i16x8, f: i16x8) -> i16x8
     requires b { AreEight b }
     requires f { AreEight f }
     ensures value { (j : ℕ) → j < 8 → lane result j ≡ (if ty / 2 == 1 then plus w16 (lane b j) (lane a j)
-        else if ty / 2 == 2 then plus w16 (lane b j) (halved (plus w16 (lane a j) (lane f j))) else lane b j) }
+        else if ty / 2 == 2 then plus w16 (lane b j) (floor_half (plus w16 (lane a j) (lane f j))) else lane b j) }
     ensures eight { AreEight result }
 {
     let kind = ty / 2;

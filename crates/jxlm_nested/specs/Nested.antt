@@ -21,7 +21,7 @@ use Rattle.jxlm_transform.specs.Steps.{tables_of}
 use Rattle.jxlm_tree.specs.Tree.{Config, Shape, depth}
 use Rattle.jxlm_tree.specs.declared.flat.Leaf.{Leaf}
 use Rattle.jxlm_nested.specs.Zeros.{zeros}
-use Rattle.jxlm_nested.specs.Starts.{IsTreeErrorAt, Start, coded_part, opened}
+use Rattle.jxlm_nested.specs.Starts.{IsTreeErrorAt, Start, coded_part, opening_at}
 
 -- what the decoding of a part shows beside samples: where its reader is afterwards, whether samples are missing, for how
 -- many samples a read was tried, and by which tree
@@ -89,5 +89,5 @@ module _ {S D : Type 0} (d : Meaning D) (w : Width) (to_int : S → ℤ) (zero :
   abbrev pub NestedTurn : Bool → Result (Unit {0}) Error → Turn → List (Grid S) → List (Grid S) → Type 0
   NestedTurn partly (Ok u) t old new = NestedDone partly t old new
   NestedTurn partly (Err e) t old new =
-      NotBegun (UnlessMemory (kind_of e) (IsErrorAt (opened global bytes list p) (kind_of e) t.position ⊎ IsTreeErrorAt d global bytes list p (kind_of e) t.position)) t old new
+      NotBegun (UnlessMemory (kind_of e) (IsErrorAt (opening_at global bytes list p) (kind_of e) t.position ⊎ IsTreeErrorAt d global bytes list p (kind_of e) t.position)) t old new
       ⊎ NestedStops partly e t old new

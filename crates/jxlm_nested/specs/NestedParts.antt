@@ -17,7 +17,7 @@ use Rattle.jxlm_header.specs.Opening.{Opening}
 use Rattle.jxlm_samples.specs.Decode.{MovesWithin}
 use Rattle.jxlm_transform.specs.Channels.{AreRegionsOf, Channel, ChannelList, IsNarrow}
 use Rattle.jxlm_transform.specs.Lists.{layout_of, list_of}
-use Rattle.jxlm_predictor.specs.SelfCorrecting.{IsHeader}
+use Rattle.jxlm_weighted.specs.SelfCorrecting.{IsHeader}
 use Rattle.jxlm_tree.specs.Steps.{most_steps}
 use Rattle.jxlm_tree.specs.Tree.{Config}
 use Rattle.jxlm_nested.specs.Zeros.{zeros}

@@ -15,7 +15,7 @@ use Rattle.jxlm_transform.specs.ChannelSteps.{Step, list_after_all}
 use Rattle.jxlm_transform.specs.Steps.{HasChannels, HasNarrowTables, HasWeights, steps_in}
 use Rattle.jxlm_tree.specs.Tree.{Config}
 use Rattle.jxlm_tree.specs.TreeReading.{IsTreeAt, IsTooDeep, listing_at}
-use Rattle.jxlm_predictor.specs.SelfCorrecting.{IsHeader}
+use Rattle.jxlm_weighted.specs.SelfCorrecting.{IsHeader}
 
 -- the steps of a header's transforms
 abbrev pub steps_of_header : ModularHeader → List Step

@@ -11,14 +11,14 @@ use Rattle.jxlm_header.specs.Opening.{Opening, opening, node_limit, depth_limit}
 use Rattle.jxlm_samples.specs.Part.{Part}
 
 -- the header at bit position p, and what it comes to for the given channels, with a global tree or without
-abbrev pub opened : {D : Type 0} → Option (Config D) → List ℕ → ChannelList → ℕ → Result (Found Opening) ErrorAt
-opened global bytes given p = (opening (is_some global) given).read bytes p
+abbrev pub opening_at : {D : Type 0} → Option (Config D) → List ℕ → ChannelList → ℕ → Result (Found Opening) ErrorAt
+opening_at global bytes given p = (opening (is_some global) given).read bytes p
 
 module _ {D : Type 0} (d : Meaning D) (global : Option (Config D)) (bytes : List ℕ) (given : ChannelList) (p : ℕ) where
   -- at p, up to q, stand a header, which comes to this head, and after it this MA tree, unless it uses the global one
   pub record IsStartAt (head : Opening) (config : Config D) (q : ℕ) : Type 0 where
     pub tree_at : ℕ
-    pub header : opened global bytes given p ≡ Ok (record { value = head; position = tree_at })
+    pub header : opening_at global bytes given p ≡ Ok (record { value = head; position = tree_at })
     pub tree : MatchBool head.uses_global ((global ≡ Some config) × (q ≡ tree_at)) (IsTreeAt d bytes (node_limit head.coded.list.channels) depth_limit tree_at config q)
 
   -- there are such a header and tree, and this is where they end
@@ -32,7 +32,7 @@ module _ {D : Type 0} (d : Meaning D) (global : Option (Config D)) (bytes : List
   pub record IsTreeErrorAt (error : ErrorKind) (q : ℕ) : Type 0 where
     pub head : Opening
     pub tree_at : ℕ
-    pub header : opened global bytes given p ≡ Ok (record { value = head; position = tree_at })
+    pub header : opening_at global bytes given p ≡ Ok (record { value = head; position = tree_at })
     pub tree : (head.uses_global ≡ false) × (IsErrorAt (listing_at d bytes (node_limit head.coded.list.channels) tree_at) error q ⊎ IsTooDeep d bytes (node_limit head.coded.list.channels) depth_limit tree_at error q)
 
 -- the part of all channels that the header's transforms leave (Modular: decoding of samples)

@@ -13,7 +13,7 @@ ghost use Rattle.jxlm_chain.specs.Undoings.{undos_of};
 ghost use Rattle.jxlm_transform.specs.Channels.{IsNarrow, infos, regions};
 ghost use Rattle.jxlm_nested.specs.Zeros.{zeros};
 ghost use Rattle.jxlm_nested.specs.NestedParts.{CanFill, DecodesTo, Fills, FillsIn, IsNested, WithSteps, nested_list, nested_places, with_own_tables};
-ghost use Rattle.jxlm_nested.specs.Starts.{IsTreeErrorAt, opened};
+ghost use Rattle.jxlm_nested.specs.Starts.{IsTreeErrorAt, opening_at};
 
 use crate::opening::{open, tree_of};
 use jxlm_base::grid::{AlignedGrid, Region};
@@ -82,7 +82,7 @@ impl<D: Decoder> NestedPart<D> {
         ensures ok { IfOk result (λ n. IsNested D.meaning (option_copied global.entry) (bytes_of bits.old)
             (nested_list (infos pieces.items)) (nested_places (regions pieces.items) buffers) (position_of bits.old)
             n (position_of bits.new)) }
-        ensures err { IfErr result (λ e. UnlessMemory (kind_of e) (IsErrorAt (opened (option_copied global.entry)
+        ensures err { IfErr result (λ e. UnlessMemory (kind_of e) (IsErrorAt (opening_at (option_copied global.entry)
             (bytes_of bits.old) (nested_list (infos pieces.items)) (position_of bits.old)) (kind_of e)
             (position_of bits.new) ⊎ IsTreeErrorAt D.meaning (option_copied global.entry) (bytes_of bits.old)
             (nested_list (infos pieces.items)) (position_of bits.old) (kind_of e) (position_of bits.new))) }

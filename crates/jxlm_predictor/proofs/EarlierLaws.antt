@@ -6,7 +6,7 @@ use Rattle.jxlm_base.specs.Grid.{Grid}
 use Rattle.jxlm_base.specs.Regions.{Lies, region}
 use Rattle.jxlm_base.specs.declared.subgrid.Region.{Region}
 use Rattle.jxlm_predictor.specs.EarlierRows.{AreRowsOf, HoldRows, IsRowOf}
-use Rattle.jxlm_predictor.specs.Neighbours.{row}
+use Rattle.jxlm_weighted.specs.Neighbours.{row}
 use Rattle.jxlm_predictor.specs.Standing.{HoldsRow, IsReady, Setting, StandsAt, column_of, earlier_held, row_of}
 use Rattle.jxlm_predictor.specs.declared.earlier.EarlierRow.{EarlierRow}
 use Rattle.jxlm_predictor.specs.declared.state.PredictorState.{PredictorState}

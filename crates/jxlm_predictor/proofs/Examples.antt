@@ -2,26 +2,13 @@
 use Rattle.std.specs.Prelude.{◌≡◌, ℕ, ℤ, pos, negsuc, List, [], ◌∷◌, Some, map, refl, take}
 use Rattle.std.specs.Int.{int_wrap}
 use Rattle.std.specs.Int.Count.{count_leading_zeros}
-use Rattle.jxlm_predictor.specs.Neighbours.{Neighbours}
-use Rattle.jxlm_predictor.specs.SelfCorrecting.{self_unclamped, self_corrected, maximum_error}
+use Rattle.jxlm_weighted.specs.Neighbours.{Neighbours}
 use Rattle.jxlm_predictor.specs.Predictions.{prediction, prediction_from, predictors}
 use Rattle.jxlm_predictor.specs.Properties.{place_property}
 use Rattle.jxlm_predictor.specs.declared.predictor.Predictor.TheVariants.{AvgAll, AvgWestAndNorth, SelfCorrecting}
-use Rattle.jxlm_predictor.specs.WeightsHeader.{default_weights}
+use Rattle.jxlm_weighted.specs.WeightsHeader.{default_weights}
 
--- width 3, after one sample of 1: property 15 is -8, p is 10 before and 8 after the clamp, and the prediction is 1
-self_correcting_property : maximum_error default_weights (pos 1 ∷ []) 3 ≡ negsuc 7
-unfolding int_wrap count_leading_zeros
-self_correcting_property = refl
-
-self_correcting_unclamped : self_unclamped default_weights (pos 1 ∷ []) 3 ≡ pos 10
-unfolding int_wrap count_leading_zeros
-self_correcting_unclamped = refl
-
-self_correcting_clamped : self_corrected default_weights (pos 1 ∷ []) 3 ≡ pos 8
-unfolding int_wrap count_leading_zeros
-self_correcting_clamped = refl
-
+-- width 3, after one sample of 1: predictor 6 is 1
 self_correcting_prediction : prediction (Some default_weights) (pos 1 ∷ []) 3 SelfCorrecting ≡ pos 1
 unfolding int_wrap count_leading_zeros
 self_correcting_prediction = refl

@@ -1,5 +1,5 @@
 -- Properties by what the state keeps.
-use Rattle.std.proofs.Common.{◌≡◌, ℕ, zero, suc, ◌+◌, ◌-◌, ◌/◌, ◌%◌, ◌<◌, ◌≤◌, ℤ, pos, ◌-ℤ◌, List, [], ◌∷◌, length, get_or, Some, None, Option, FitsSigned, sym, ap, ◌∙◌, refl, arith, to_z, of_z}
+use Rattle.std.proofs.Common.{◌≡◌, ℕ, zero, suc, ◌+◌, ◌-◌, ◌/◌, ◌%◌, ◌<◌, ◌≤◌, ℤ, pos, ◌-ℤ◌, List, [], ◌∷◌, length, get_or, Some, FitsSigned, sym, ap, ◌∙◌, refl, arith, to_z, of_z}
 use Rattle.std.specs.Prelude.{map}
 use Rattle.std.specs.List.{slice_get}
 use Rattle.std.specs.Int.{w32, int_wrap}
@@ -8,17 +8,13 @@ use Rattle.std.proofs.lemmas.List.{get_or-map}
 use Rattle.std.proofs.lemmas.Option.{slice_get_past}
 use Rattle.std.proofs.lemmas.Bool.{lt-ltb, le-ltb}
 use Rattle.jxlm_base.specs.Grid.{Grid}
-use Rattle.jxlm_predictor.specs.Neighbours.{Neighbours, neighbours, column, row, west}
-use Rattle.jxlm_predictor.specs.Properties.{Surroundings, own_properties, earlier_property, earlier_properties, place_property, west_change, error_property}
+use Rattle.jxlm_weighted.specs.Neighbours.{Neighbours, neighbours, column, row, west}
+use Rattle.jxlm_predictor.specs.Properties.{Surroundings, own_properties, earlier_property, earlier_properties, place_property, west_change}
+use Rattle.jxlm_weighted.specs.SelfCorrecting.{error_property}
 use Rattle.jxlm_predictor.specs.Holding.{surroundings}
 use Rattle.jxlm_predictor.specs.Inner.OwnProperties.{own_list, own_of}
-use Rattle.jxlm_predictor.specs.Correcting.{IsMade, near_of}
-use Rattle.jxlm_predictor.specs.Predictions.{corrected}
-use Rattle.jxlm_predictor.specs.SelfCorrecting.{greatest}
 use Rattle.jxlm_predictor.specs.Rolling.{Rolls}
 use Rattle.jxlm_predictor.specs.Standing.{Setting}
-use Rattle.jxlm_predictor.specs.declared.predictor.WpHeader.{WpHeader}
-use Rattle.jxlm_predictor.specs.declared.self_correcting.PredictionResult.{PredictionResult}
 use Rattle.jxlm_predictor.proofs.Rolling.{column_is, row_is}
 
 -- no such earlier channel
@@ -73,24 +69,6 @@ pub own_property_kept : (s : Setting) (x y : ℕ) (w n nw g e : ℤ) (previous c
     → e ≡ error_property s.weights samples s.width → k < 16 → int_wrap w32 (get_or (own_list x y a g e) k (pos 0)) ≡ get_or (own_of (surroundings s [] samples)) k (pos 0)
 own_property_kept s x y w n nw g e previous current samples a k r is error h =
     sym (own-wraps (own_list x y a g e) k h) ∙ ap (λ xs. get_or xs k (pos 0)) (own_kept s x y w n nw g e previous current samples a r is error)
-
--- without weights there is no maximum error
-pub error-some : (o : Option WpHeader) (r : PredictionResult) (width : ℕ) (samples : List ℤ) → IsMade (Some r) o width samples → greatest (near_of r.errors) ≡ error_property o samples width
-error-some None r width samples h = absurd h
-error-some (Some w) r width samples h = h.errors_are
-
-pub error-none : (o : Option WpHeader) (width : ℕ) (samples : List ℤ) → IsMade None o width samples → pos 0 ≡ error_property o samples width
-error-none None width samples h = refl
-error-none (Some w) width samples h = absurd h
-
--- nor a prediction
-pub corrected-some : (o : Option WpHeader) (r : PredictionResult) (width : ℕ) (samples : List ℤ) → IsMade (Some r) o width samples → r.prediction ≡ corrected o samples width
-corrected-some None r width samples h = absurd h
-corrected-some (Some w) r width samples h = h.prediction_is
-
-pub corrected-none : (o : Option WpHeader) (width : ℕ) (samples : List ℤ) → IsMade None o width samples → pos 0 ≡ corrected o samples width
-corrected-none None width samples h = refl
-corrected-none (Some w) width samples h = absurd h
 
 -- the numbers of a list are those of f, from n on
 pub record AreFrom (f : ℕ → ℤ) (n : ℕ) (vs : List ℤ) : Type 0 where

@@ -4,7 +4,7 @@ use Rattle.std.specs.Int.{w32, int_wrap}
 use Rattle.std.proofs.lemmas.List.{get_or-set_same, get_or-set_other, get_or_append_left, get_or_push}
 use Rattle.std.proofs.lemmas.Bool.{cases_lt, lt-ltb, le-ltb}
 use Rattle.std.proofs.lemmas.Nat.{mod-mul-add, div-mul-add}
-use Rattle.jxlm_predictor.specs.Neighbours.{at, west, north, north_west, north_east, north_east_east, north_north, west_west, column, row}
+use Rattle.jxlm_weighted.specs.Neighbours.{at, west, north, north_west, north_east, north_east_east, north_north, west_west, column, row}
 use Rattle.jxlm_predictor.specs.Properties.{gradient_at}
 use Rattle.jxlm_predictor.specs.Rolling.{Rolls}
 

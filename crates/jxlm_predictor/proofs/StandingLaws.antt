@@ -4,13 +4,12 @@ use Rattle.std.specs.Prelude.{slice_get}
 use Rattle.std.proofs.lemmas.Bool.{cases_lt}
 use Rattle.std.proofs.lemmas.List.{get_or-reverse, length-reverse, reverse-reverse}
 use Rattle.std.proofs.lemmas.Option.{slice_get-get_or}
-use Rattle.jxlm_predictor.specs.Correcting.{Corrects, CorrectsBy, IsMade, IsMadeBy}
-use Rattle.jxlm_predictor.specs.Inner.CorrectingSteps.{AtPlace, CorrectsAfter, CorrectsNext, HoldsColumn}
-use Rattle.jxlm_predictor.specs.Neighbours.{Neighbours, neighbours, column, row}
+use Rattle.jxlm_weighted.specs.Correcting.{Corrects, IsMade, IsMadeBy, AtPlace, CorrectsAfter, HoldsColumn}
+use Rattle.jxlm_weighted.specs.Neighbours.{Neighbours, neighbours, column, row}
 use Rattle.jxlm_predictor.specs.Standing.{Setting, StandsAt, column_of, row_of, width_of, earlier_count, earlier_held}
-use Rattle.jxlm_predictor.specs.declared.predictor.WpHeader.{WpHeader}
-use Rattle.jxlm_predictor.specs.declared.self_correcting.Corrector.{Corrector}
-use Rattle.jxlm_predictor.specs.declared.self_correcting.PredictionResult.{PredictionResult}
+use Rattle.jxlm_weighted.specs.declared.weights.WpHeader.{WpHeader}
+use Rattle.jxlm_weighted.specs.declared.self_correcting.Corrector.{Corrector}
+use Rattle.jxlm_weighted.specs.declared.self_correcting.PredictionResult.{PredictionResult}
 use Rattle.jxlm_predictor.specs.declared.state.PredictorState.{PredictorState}
 use Rattle.jxlm_predictor.proofs.Rolling.{column_is, row_is}
 
@@ -25,12 +24,6 @@ pub holds_column : (o : Option Corrector) (weights : Option WpHeader) (width x y
 holds_column None weights width x y samples h lt = tt
 holds_column (Some c) None width x y samples h lt = absurd h
 holds_column (Some c) (Some w) width x y samples h lt = rw h.same_width lt
-
--- what a record of the errors gives, where there are weights
-pub recorded : (c d : Corrector) (r : PredictionResult) (weights : Option WpHeader) (width x y : ℕ) (samples more : List ℤ) → Corrects (Some c) weights width x y samples → IsMade (Some r) weights width samples →
-    ((header : WpHeader) → CorrectsBy c header width x y samples → IsMadeBy r header width samples → CorrectsNext d header width x y more) → CorrectsAfter (Some d) weights width x y more
-recorded c d r None width x y samples more h made step = absurd h
-recorded c d r (Some w) width x y samples more h made step = step w h made
 
 -- what is made of a cell by a corrector that keeps errors there, where there are weights
 pub made_there : (o : Option Corrector) (c : Corrector) (r : PredictionResult) (weights : Option WpHeader) (width x y : ℕ) (a : Neighbours) (samples : List ℤ) → o ≡ Some c → Corrects o weights width x y samples →

@@ -2,14 +2,14 @@
 use Rattle.std.specs.Prelude.{◌≡◌, ◌<◌, ℕ, ℤ, pos, List, map, Option, slice_index_or}
 use Rattle.jxlm_base.specs.Grid.{Grid}
 use Rattle.jxlm_base.specs.Regions.{grid_of, store_meanings}
-use Rattle.jxlm_predictor.specs.Around.{neighbours_of}
-use Rattle.jxlm_predictor.specs.Correcting.{IsMade}
+use Rattle.jxlm_weighted.specs.Around.{neighbours_of}
+use Rattle.jxlm_weighted.specs.Correcting.{IsMade}
 use Rattle.jxlm_predictor.specs.EarlierRows.{HoldRows}
-use Rattle.jxlm_predictor.specs.Neighbours.{neighbours}
+use Rattle.jxlm_weighted.specs.Neighbours.{neighbours}
 use Rattle.jxlm_predictor.specs.Properties.{Surroundings, place_property}
 use Rattle.jxlm_predictor.specs.Standing.{Setting, StandsAt, IsReady}
 use Rattle.jxlm_predictor.specs.declared.earlier.EarlierRow.{EarlierRow}
-use Rattle.jxlm_predictor.specs.declared.predictor.WpHeader.{WpHeader}
+use Rattle.jxlm_weighted.specs.declared.weights.WpHeader.{WpHeader}
 use Rattle.jxlm_predictor.specs.declared.properties.Properties.{Properties}
 use Rattle.jxlm_predictor.specs.declared.state.PredictorState.{PredictorState}
 

@@ -1,4 +1,2 @@
-pub mod CorrectingSteps
-pub mod ListedWeights
 pub mod OwnProperties
 pub mod StateSteps

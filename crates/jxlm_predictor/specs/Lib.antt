@@ -1,14 +1,8 @@
-pub mod Around
-pub mod Correcting
 pub mod EarlierRows
 pub mod Holding
-pub mod Neighbours
 pub mod Predictions
 pub mod Properties
 pub mod Rolling
-pub mod SelfCorrecting
-pub mod SelfCorrectingRanges
 pub mod Standing
 pub mod Sums
-pub mod WeightsHeader
 pub mod Inner

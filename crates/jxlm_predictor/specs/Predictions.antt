@@ -1,15 +1,14 @@
 -- The fourteen predictions (ISO/IEC 18181-1, Modular: predictors).
 use Rattle.std.specs.Prelude.{ℕ, nat_lt, if◌then◌else◌, ℤ, pos, ◌+ℤ◌, ◌-ℤ◌, ◌*ℤ◌, unsigned_abs, int_div, List, [], ◌∷◌, slice_get, Option, Some, None, Result, Ok, Err, codes, ◌≡◌}
 use Rattle.std.specs.Int.{w32, int_wrap, int_shr}
-use Rattle.std.specs.Option.{option_map_or}
 use Rattle.jxlm_bits.specs.ErrorKind.{BadEnum, bitstream_kind}
 use Rattle.jxlm_bits.specs.Numbers.{clamped_gradient}
 use Rattle.jxlm_bits.specs.declared.bits.BitstreamError.{BitstreamError}
-use Rattle.jxlm_predictor.specs.Neighbours.{Neighbours, neighbours}
-use Rattle.jxlm_predictor.specs.SelfCorrecting.{self_corrected, self_unclamped}
+use Rattle.jxlm_weighted.specs.Neighbours.{Neighbours, neighbours}
+use Rattle.jxlm_weighted.specs.SelfCorrecting.{corrected}
 use Rattle.jxlm_predictor.specs.declared.predictor.Predictor.{Predictor}
 use Rattle.jxlm_predictor.specs.declared.predictor.Predictor.TheVariants.{Zero, West, North, AvgWestAndNorth, Select, Gradient, SelfCorrecting, NorthEast, NorthWest, WestWest, AvgWestAndNorthWest, AvgNorthAndNorthWest, AvgNorthAndNorthEast, AvgAll}
-use Rattle.jxlm_predictor.specs.declared.predictor.WpHeader.{WpHeader}
+use Rattle.jxlm_weighted.specs.declared.weights.WpHeader.{WpHeader}
 
 -- the predictors by number
 abbrev pub predictors : List Predictor
@@ -36,14 +35,6 @@ prediction_from a p AvgWestAndNorthWest = int_div (a.w +ℤ a.nw) (pos 2)
 prediction_from a p AvgNorthAndNorthWest = int_div (a.n +ℤ a.nw) (pos 2)
 prediction_from a p AvgNorthAndNorthEast = int_div (a.n +ℤ a.ne) (pos 2)
 prediction_from a p AvgAll = int_div (pos 6 *ℤ a.n -ℤ pos 2 *ℤ a.nn +ℤ pos 7 *ℤ a.w +ℤ a.ww +ℤ a.nee +ℤ pos 3 *ℤ a.ne +ℤ pos 8) (pos 16)
-
--- the weighted prediction times 8, where there are weights for it
-abbrev pub corrected : Option WpHeader → List ℤ → ℕ → ℤ
-corrected weights samples width = option_map_or (λ h. self_corrected h samples width) weights (pos 0)
-
--- the same before it is clamped
-abbrev pub unclamped_correction : Option WpHeader → List ℤ → ℕ → ℤ
-unclamped_correction weights samples width = option_map_or (λ h. self_unclamped h samples width) weights (pos 0)
 
 -- the prediction at the cell after the samples, reduced to 32 bits
 abbrev pub prediction : Option WpHeader → List ℤ → ℕ → Predictor → ℤ

@@ -1,12 +1,11 @@
 -- The properties of a cell (ISO/IEC 18181-1, Modular: properties).
 use Rattle.std.specs.Prelude.{ℕ, zero, suc, ◌-◌, ◌/◌, ◌%◌, ◌==◌, nat_lt, if◌then◌else◌, ℤ, pos, ◌+ℤ◌, ◌-ℤ◌, List, [], ◌∷◌, slice_get, slice_index_or, Option, Some, None}
 use Rattle.std.specs.Int.{w32, int_wrap}
-use Rattle.std.specs.Option.{option_map_or}
 use Rattle.jxlm_base.specs.Grid.{Grid}
 use Rattle.jxlm_bits.specs.Numbers.{absolute, clamped_gradient}
-use Rattle.jxlm_predictor.specs.Neighbours.{neighbours, at, west, north, north_west, column, row}
-use Rattle.jxlm_predictor.specs.SelfCorrecting.{maximum_error}
-use Rattle.jxlm_predictor.specs.declared.predictor.WpHeader.{WpHeader}
+use Rattle.jxlm_weighted.specs.Neighbours.{neighbours, at, west, north, north_west, column, row}
+use Rattle.jxlm_weighted.specs.SelfCorrecting.{error_property}
+use Rattle.jxlm_weighted.specs.declared.weights.WpHeader.{WpHeader}
 
 -- What the properties of a cell look at: the weights, if there are any; the width; the samples before the cell, in row
 -- order; the earlier channels of this size, whole, the nearest first.
@@ -25,10 +24,6 @@ abbrev pub west_change : List ℤ → ℕ → ℕ → ℕ → ℤ
 west_change samples width zero y = west samples width zero y
 west_change samples width (suc x) y = west samples width (suc x) y -ℤ gradient_at samples width x y
 
--- property 15: the maximum error, or 0 without weights
-abbrev pub error_property : Option WpHeader → List ℤ → ℕ → ℤ
-error_property weights samples width = option_map_or (λ h. maximum_error h samples width) weights (pos 0)
-
 -- properties 2 to 15, at the cell after the samples, before they are reduced
 abbrev pub own_properties : Surroundings → List ℤ
 own_properties s =
@@ -41,17 +36,17 @@ own_properties s =
     ∷ error_property s.weights s.samples s.width ∷ []
 
 -- what an earlier channel leads to expect: 0 at the start, above in column 0, left in row 0, else the clamped gradient
-abbrev pub expected : List ℤ → ℕ → ℕ → ℕ → ℤ
-expected cells width zero zero = pos 0
-expected cells width zero (suc y) = at cells width 0 y
-expected cells width (suc x) zero = at cells width x 0
-expected cells width (suc x) (suc y) = clamped_gradient (at cells width (suc x) y) (at cells width x (suc y)) (at cells width x y)
+abbrev pub expectation : List ℤ → ℕ → ℕ → ℕ → ℤ
+expectation cells width zero zero = pos 0
+expectation cells width zero (suc y) = at cells width 0 y
+expectation cells width (suc x) zero = at cells width x 0
+expectation cells width (suc x) (suc y) = clamped_gradient (at cells width (suc x) y) (at cells width x (suc y)) (at cells width x y)
 
 -- the four properties of an earlier channel at (x, y), before they are reduced
 abbrev pub earlier_properties : Grid ℤ → ℕ → ℕ → List ℤ
 earlier_properties g x y =
     let c = at g.cells g.width x y in
-    let d = c -ℤ expected g.cells g.width x y in
+    let d = c -ℤ expectation g.cells g.width x y in
     absolute c ∷ c ∷ absolute d ∷ d ∷ []
 
 -- property 16 + n before it is reduced; where there is no such earlier channel it is 0

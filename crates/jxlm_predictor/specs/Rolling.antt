@@ -1,6 +1,6 @@
 -- Two rolling rows and the running values beside them.
 use Rattle.std.specs.Prelude.{◌≡◌, ℕ, suc, ◌+◌, ◌*◌, ◌<◌, ◌≤◌, ℤ, pos, List, length, slice_index_or}
-use Rattle.jxlm_predictor.specs.Neighbours.{at, west, north, north_west}
+use Rattle.jxlm_weighted.specs.Neighbours.{at, west, north, north_west}
 use Rattle.jxlm_predictor.specs.Properties.{gradient_at}
 
 -- At (x, y), after these samples in row order: the neighbours w, n and nw; property 9 of the sample before in the

@@ -3,11 +3,11 @@ use Rattle.std.specs.Prelude.{◌≡◌, ℕ, ◌+◌, ◌^◌, ◌<◌, ◌≤�
 use Rattle.jxlm_base.specs.Grid.{Grid}
 use Rattle.jxlm_base.specs.Regions.{Lies}
 use Rattle.jxlm_base.specs.declared.subgrid.Region.{Region}
-use Rattle.jxlm_predictor.specs.Correcting.{Corrects, header_of, header_of_either}
-use Rattle.jxlm_predictor.specs.Neighbours.{row}
+use Rattle.jxlm_weighted.specs.Correcting.{Corrects, header_of, header_of_either}
+use Rattle.jxlm_weighted.specs.Neighbours.{row}
 use Rattle.jxlm_predictor.specs.Rolling.{Rolls}
 use Rattle.jxlm_predictor.specs.declared.state.PredictorState.{PredictorState}
-use Rattle.jxlm_predictor.specs.declared.predictor.WpHeader.{WpHeader}
+use Rattle.jxlm_weighted.specs.declared.weights.WpHeader.{WpHeader}
 
 -- What a state is reset for: a channel's width, the weights if there are any, the regions of the earlier channels, the
 -- nearest first.

@@ -4,7 +4,7 @@ ghost use Rattle.std.specs.Prelude.{◌≡◌, ◌+ℤ◌, ◌-ℤ◌, ℤ, List
 ghost use Rattle.jxlm_base.specs.Regions.{store_meanings};
 ghost use Rattle.jxlm_predictor.specs.Holding.{IsCurrent, state_of, store_of, surroundings};
 ghost use Rattle.jxlm_predictor.specs.Standing.{Setting, StandsAt};
-ghost use Rattle.jxlm_predictor.specs.Sums.{clamped, clamped_sum as sum_clamped};
+ghost use Rattle.jxlm_predictor.specs.Sums.{clamp_sum, gradient_sum as sum_clamped};
 
 use crate::predictor::Properties;
 use jxlm_base::sample::Sample;
@@ -20,7 +20,7 @@ fn sum(w: i32, nw: i32, n: i32) -> i64
 /// The number clamped to -512..=511.
 #[inline(always)]
 fn near_zero(number: i64) -> i32
-    ensures { result ≡ clamped number }
+    ensures { result ≡ clamp_sum number }
 {
     if number < -512 {
         -512
@@ -34,7 +34,7 @@ fn near_zero(number: i64) -> i32
 /// West less north west plus north, clamped to -512..=511.
 #[inline(always)]
 pub fn clamped_sum(w: i32, nw: i32, n: i32) -> i32
-    ensures { result ≡ clamped (w -ℤ nw +ℤ n) }
+    ensures { result ≡ clamp_sum (w -ℤ nw +ℤ n) }
 {
     near_zero(sum(w, nw, n))
 }

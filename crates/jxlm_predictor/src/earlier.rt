@@ -5,11 +5,11 @@ ghost use Rattle.std.specs.Int.{w32, int_wrap};
 ghost use Rattle.jxlm_base.specs.Grid.{Grid, at};
 ghost use Rattle.jxlm_base.specs.Regions.{Lies, grid_of, store_meanings};
 
-use crate::reduced::{reduced, reduced_absolute};
 use crate::state::PredictorState;
 use jxlm_base::grid::{AlignedGrid, Region};
 use jxlm_base::region::region_row;
 use jxlm_base::sample::{Sample, Sealed};
+use jxlm_weighted::reduced::{reduced, reduced_absolute};
 
 /// A row of an earlier channel, and the row above it.
 #[derive(Clone, Copy)]
@@ -29,7 +29,7 @@ pub struct EarlierRows<'s, S> {
 
 impl<'s, S: Sample> EarlierRow<'s, S> {
     ghost use Rattle.jxlm_predictor.specs.EarlierRows.{IsRowOf};
-    ghost use Rattle.jxlm_predictor.specs.Properties.{earlier_properties, expected};
+    ghost use Rattle.jxlm_predictor.specs.Properties.{earlier_properties, expectation};
 
     // Row `y` of a region.
     pub(crate) fn of(store: &'s [AlignedGrid<S>], region: Region, y: usize) -> EarlierRow<'s, S>
@@ -68,7 +68,7 @@ impl<'s, S: Sample> EarlierRow<'s, S> {
     fn expected(self, x: usize, y: usize) -> i32
         requires column { x < length self.row.now }
         requires above { x < length self.above.now }
-        ensures { (r : Region) (store : List (Grid S)) → IsRowOf r store y self.entry → result ≡ expected
+        ensures { (r : Region) (store : List (Grid S)) → IsRowOf r store y self.entry → result ≡ expectation
             (grid_of (store_meanings S.to_int store) r).cells r.width x y }
     {
         if x == 0 {
@@ -83,7 +83,7 @@ impl<'s, S: Sample> EarlierRow<'s, S> {
     // The same in the first column.
     fn expected_first(self, y: usize) -> i32
         requires { 0 < length self.above.now }
-        ensures { (r : Region) (store : List (Grid S)) → IsRowOf r store y self.entry → result ≡ expected
+        ensures { (r : Region) (store : List (Grid S)) → IsRowOf r store y self.entry → result ≡ expectation
             (grid_of (store_meanings S.to_int store) r).cells r.width 0 y }
     {
         if y == 0 { 0 } else { self.cell_above(0) }

@@ -4,10 +4,10 @@
 //! prediction.
 
 ghost use Rattle.jxlm_predictor.specs.Holding.{IsCurrent, IsOfPlace};
-ghost use Rattle.jxlm_predictor.specs.Predictions.{corrected, unclamped_correction};
+ghost use Rattle.jxlm_weighted.specs.SelfCorrecting.{corrected, unclamped_correction};
 
 use crate::properties::Properties;
-use crate::self_correcting::PredictionResult;
+use jxlm_weighted::self_correcting::PredictionResult;
 
 /// The prediction at the cell of these properties, times 8, before it is clamped; 0 where there are no weights.
 pub fn before_clamp<S>(properties: &Properties<'_, S>) -> i64

@@ -1,13 +1,11 @@
-//! Neighbours, predictors and properties.
+//! Predictors, properties, and the state between two samples.
 #![tactic(auto)]
 
-mod around;
 pub mod clamping;
 pub mod earlier;
 pub mod eighths;
 pub mod place;
+mod predictions;
 pub mod predictor;
 mod properties;
-pub mod reduced;
-mod self_correcting;
 mod state;

@@ -3,21 +3,21 @@
 ghost use Rattle.std.specs.Prelude.{◌≡◌, ◌+◌, ◌-◌, ◌<◌, ◌≤◌, ◌^◌, ℕ, ℤ, pos, List, [], ◌∷◌, ◌++◌, false, None, slice_index_or};
 ghost use Rattle.std.specs.Int.{w32, int_wrap};
 ghost use Rattle.jxlm_base.specs.Regions.{store_meanings};
-ghost use Rattle.jxlm_predictor.specs.Around.{neighbours_of};
+ghost use Rattle.jxlm_weighted.specs.Around.{neighbours_of};
 ghost use Rattle.jxlm_predictor.specs.EarlierRows.{HoldRows};
 ghost use Rattle.jxlm_predictor.specs.Inner.OwnProperties.{own_list};
 ghost use Rattle.jxlm_predictor.specs.Holding.{AreOwn, IsCurrent, surroundings, state_of, store_of};
 ghost use Rattle.jxlm_predictor.specs.Properties.{place_property, earlier_property};
 ghost use Rattle.jxlm_predictor.specs.Standing.{Setting, StandsAt, IsReady, IsInner, HasSameRoom, used_weights};
 
-use crate::around::Around;
 use crate::earlier::EarlierRow;
 use crate::place::{AskedProperty, PlaceProperties};
-use crate::reduced::{read_as_signed, reduced_absolute};
-use crate::self_correcting::PredictionResult;
 use crate::state::PredictorState;
 use jxlm_base::grid::AlignedGrid;
 use jxlm_base::sample::{Sample, Sealed};
+use jxlm_weighted::around::Around;
+use jxlm_weighted::reduced::{read_as_signed, reduced_absolute};
+use jxlm_weighted::self_correcting::PredictionResult;
 
 /// The properties of the cell that a state is at (ISO/IEC 18181-1, Modular: properties).
 #[derive(Drop)]

@@ -3,14 +3,14 @@
 ghost use Rattle.std.specs.Prelude.{◌≡◌, ◌+◌, ◌*◌, ◌<◌, ◌≤◌, ◌^◌, ℕ, ℤ, List, [], ◌∷◌, ◌++◌, false, None, IfOk, IfErr, OnErr, if◌then◌else◌, vec_len};
 ghost use Rattle.std.specs.Option.{option_copied, ForSome};
 ghost use Rattle.jxlm_bits.specs.ErrorKind.{NoMemory, kind_of};
-ghost use Rattle.jxlm_predictor.specs.Correcting.{HasRows};
-ghost use Rattle.jxlm_predictor.specs.SelfCorrecting.{IsHeader};
+ghost use Rattle.jxlm_weighted.specs.Correcting.{HasRows};
+ghost use Rattle.jxlm_weighted.specs.SelfCorrecting.{IsHeader};
 
-use crate::around::Around;
-use crate::predictor::WpHeader;
-use crate::self_correcting::{Corrector, PredictionResult};
 use jxlm_base::grid::{OutOfMemory, Region};
 use jxlm_bits::error::Result;
+use jxlm_weighted::around::Around;
+use jxlm_weighted::self_correcting::{Corrector, PredictionResult};
+use jxlm_weighted::weights::WpHeader;
 use std::alloc::Global;
 use std::marker::PhantomData;
 use std::mem;
@@ -49,9 +49,9 @@ pub struct PredictorState<S> {
 impl<S> PredictorState<S> {
     ghost use Rattle.jxlm_predictor.specs.Inner.StateSteps.{DiffersInWeights, IsNext, KeepsSetting, RollsIn};
     ghost use Rattle.jxlm_predictor.specs.Standing.{Setting, StandsAt, Stands, HasEarlier, IsInner, HasSameRoom, setting, room_of, earlier_room_of, earlier_count, used_weights, weights_of};
-    ghost use Rattle.jxlm_predictor.specs.Neighbours.{neighbours, north_east, north_east_east, north_north, west_west};
-    ghost use Rattle.jxlm_predictor.specs.Around.{neighbours_of};
-    ghost use Rattle.jxlm_predictor.specs.Correcting.{IsMade};
+    ghost use Rattle.jxlm_weighted.specs.Neighbours.{neighbours, north_east, north_east_east, north_north, west_west};
+    ghost use Rattle.jxlm_weighted.specs.Around.{neighbours_of};
+    ghost use Rattle.jxlm_weighted.specs.Correcting.{IsMade};
 
     /// A state that is at no cell, with no room, no weights and no earlier channel: it is to be reset before its
     /// first use.

@@ -19,14 +19,14 @@ use Rattle.jxlm_base.proofs.Regions.{IsFull-grid_of}
 use Rattle.jxlm_predictor.specs.EarlierRows.{AreRowsOf, HoldRows}
 use Rattle.jxlm_predictor.specs.Holding.{state_of, store_of}
 use Rattle.jxlm_tree.specs.FlatTree.{ClustersStandIn, FlatTree, GoesWithoutWeights, ReadsEarlierBelow}
-use Rattle.jxlm_predictor.specs.Neighbours.{row as line}
+use Rattle.jxlm_weighted.specs.Neighbours.{row as line}
 use Rattle.jxlm_predictor.specs.Standing.{HasSameRoom, HoldsRow, IsInner, IsReady, Setting, StandsAt, row_of}
 use Rattle.jxlm_samples.specs.CellLeaves.{leaf_at, steps_walked}
 use Rattle.jxlm_predictor.specs.declared.earlier.EarlierRow.{EarlierRow}
 use Rattle.jxlm_tree.specs.declared.flat.Leaf.{Leaf}
 use Rattle.jxlm_tree.specs.declared.paths.Path.{Path}
 use Rattle.jxlm_predictor.specs.declared.properties.Properties.{Properties}
-use Rattle.jxlm_predictor.specs.declared.predictor.WpHeader.{WpHeader}
+use Rattle.jxlm_weighted.specs.declared.weights.WpHeader.{WpHeader}
 use Rattle.jxlm_predictor.specs.declared.state.PredictorState.{PredictorState}
 use Rattle.jxlm_predictor.proofs.EarlierLaws.{in_state, of_setting}
 use Rattle.jxlm_predictor.proofs.StandingLaws.{stands_row}
@@ -37,7 +37,7 @@ use Rattle.jxlm_tree.proofs.SumTrees.{goes_by_sum, second_of}
 use Rattle.jxlm_samples.specs.Part.{clamps, channel, max_width, no_channel}
 use Rattle.jxlm_samples.specs.Reading.{FindsClusters, HasRoomFor, IsCodingOf, IsTreeOf, alone_at, are_weighted, cost_of, flat, part_of, regions_of, weights_used}
 use Rattle.jxlm_samples.specs.Inner.Cells.{FailsSample, ReadsSample, predicted_at}
-use Rattle.jxlm_samples.specs.ChannelSettings.{StandsAfter, asked_at, handed, region_at, setting_of, weighted_at, weights_at}
+use Rattle.jxlm_samples.specs.ChannelSettings.{StandsAfter, asked_at, earlier_for, region_at, setting_of, weighted_at, weights_at}
 use Rattle.jxlm_samples.specs.Progress.{grids_in}
 use Rattle.jxlm_samples.specs.Inner.Progress.{preceding_cells}
 use Rattle.jxlm_samples.specs.Inner.Rows.{FailsCell, IsLine, ReadsCell, StandsInRow, rule_on}
@@ -57,7 +57,7 @@ pub stands_so : {X : Type 0} (s : Setting) (samples : List ℤ) (a b : Predictor
 stands_so s samples a b same h = subst (λ p. StandsAt p s samples) (sym same) h
 
 -- what holds of all earlier channels holds of those that are given to the state
-all_handed : {X : Type 0} (n : ℕ) (P : X → Type 0) (xs : List X) → All P xs → All P (handed n xs)
+all_handed : {X : Type 0} (n : ℕ) (P : X → Type 0) (xs : List X) → All P xs → All P (earlier_for n xs)
 all_handed zero P xs h = All-nil P
 all_handed (suc n) P xs h = h
 

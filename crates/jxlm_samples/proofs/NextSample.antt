@@ -13,17 +13,18 @@ use Rattle.jxlm_tree.specs.FlatTree.{GoesWithoutWeights, ReadsEarlierBelow, leaf
 use Rattle.jxlm_tree.specs.ShortTrees.{Fits}
 use Rattle.jxlm_predictor.specs.Holding.{surroundings as surroundings_of}
 use Rattle.jxlm_predictor.specs.Predictions.{prediction}
-use Rattle.jxlm_predictor.specs.Properties.{Surroundings, earlier_property, error_property, own_properties, place_property, property}
+use Rattle.jxlm_predictor.specs.Properties.{Surroundings, earlier_property, own_properties, place_property, property}
+use Rattle.jxlm_weighted.specs.SelfCorrecting.{error_property}
 use Rattle.jxlm_predictor.specs.Standing.{Setting, setting}
 use Rattle.jxlm_tree.specs.Tree.{walk}
 use Rattle.jxlm_tree.specs.declared.flat.Leaf.{Leaf}
 use Rattle.jxlm_predictor.specs.declared.predictor.Predictor.{Predictor}
 use Rattle.jxlm_predictor.specs.declared.predictor.Predictor.TheVariants.{Zero, West, North, AvgWestAndNorth, Select, Gradient, SelfCorrecting, NorthEast, NorthWest, WestWest, AvgWestAndNorthWest, AvgNorthAndNorthWest, AvgNorthAndNorthEast, AvgAll}
-use Rattle.jxlm_predictor.specs.declared.predictor.WpHeader.{WpHeader}
+use Rattle.jxlm_weighted.specs.declared.weights.WpHeader.{WpHeader}
 use Rattle.jxlm_samples.specs.Coded.{next_prediction}
 use Rattle.jxlm_samples.specs.Reading.{flat}
 use Rattle.jxlm_samples.specs.Inner.Cells.{predicted_at}
-use Rattle.jxlm_samples.specs.ChannelSettings.{handed, region_at}
+use Rattle.jxlm_samples.specs.ChannelSettings.{earlier_for, region_at}
 use Rattle.jxlm_samples.specs.Part.{Part, channel, clamps, earlier_alike, grid_of as grid_before, next_channel, samples_of, next_leaf, place_by, property_by, surroundings}
 use Rattle.jxlm_samples.proofs.ClampedSums.{by-fit, by_same, walks_by}
 use Rattle.jxlm_samples.proofs.Earlier.{earlier_mapped, few_earlier}
@@ -72,7 +73,7 @@ cut_same s f xs n k h = chosen (nat_lt k 2) (nat_lt k 16) _ _ _ _ (λ own. refl)
 
 -- so it is where a tree that asks for none is given none
 cut_handed : {X : Type 0} (s : Surroundings) (f : X → Grid ℤ) (xs : List X) (n k : ℕ) → k < 16 + 4 * n →
-    place_property (with_earlier s (map f (handed n xs))) k ≡ place_property (with_earlier s (map f xs)) k
+    place_property (with_earlier s (map f (earlier_for n xs))) k ≡ place_property (with_earlier s (map f xs)) k
 cut_handed s f xs zero k h = cut_same s f xs 0 k (omega (arith, h))
 cut_handed s f xs (suc n) k h = refl
 
@@ -167,7 +168,7 @@ module _ (part : Part) (regions : List Region) (ints : List (Grid ℤ)) (i : ℕ
   -- the earlier channels, where the tree asks for any
   module _ (n : ℕ) (below : ReadsEarlierBelow (flat part.tree part.stream i) n) where
     abbrev handed_on : List Region
-    handed_on = handed n earlier
+    handed_on = earlier_for n earlier
 
     abbrev cut_with : Option WpHeader → Surroundings
     cut_with weights = surroundings_of (setting reg.width weights handed_on) ints own

@@ -12,11 +12,11 @@ use Rattle.jxlm_base.specs.declared.subgrid.Region.{Region}
 use Rattle.jxlm_base.proofs.Outside.{number_of_row}
 use Rattle.jxlm_base.proofs.RegionRows.{get_row, length-row}
 use Rattle.jxlm_base.proofs.Regions.{IsFull-grid_of, cell-grid_of}
-use Rattle.jxlm_predictor.specs.Neighbours.{at, column, neighbours, north, north_west, row as line, west}
+use Rattle.jxlm_weighted.specs.Neighbours.{at, column, neighbours, north, north_west, row as line, west}
 use Rattle.jxlm_predictor.specs.Predictions.{prediction}
 use Rattle.jxlm_predictor.specs.Properties.{Surroundings, gradient_at}
-use Rattle.jxlm_predictor.specs.Sums.{clamped_sum}
-use Rattle.jxlm_predictor.specs.declared.predictor.WpHeader.{WpHeader}
+use Rattle.jxlm_predictor.specs.Sums.{gradient_sum}
+use Rattle.jxlm_weighted.specs.declared.weights.WpHeader.{WpHeader}
 use Rattle.jxlm_predictor.specs.declared.predictor.Predictor.TheVariants as predictor
 use Rattle.jxlm_samples.specs.Inner.Paths.{property_9_in, row_above, sum_by}
 use Rattle.jxlm_samples.specs.RowNeighbours.{gradient_in, north_in, north_west_in, west_in}
@@ -125,7 +125,7 @@ module _ (g : Grid ℤ) (full : IsFull g) (y : ℕ) (below : y < g.height) (row 
   property_9_seen = from_three samples (row_above g y) row g.width (λ n w nw. int_wrap w32 (w -ℤ nw +ℤ n)) (length row) y samples_long short none_over over own
 
   -- and the clamped sum
-  pub sum_seen : (s : Surroundings) → s.samples ≡ samples → s.width ≡ g.width → clamped_sum s ≡ property_9_in (row_above g y) row true (length row)
+  pub sum_seen : (s : Surroundings) → s.samples ≡ samples → s.width ≡ g.width → gradient_sum s ≡ property_9_in (row_above g y) row true (length row)
   sum_seen s same wide =
       ap (λ xs. sum_by true ((neighbours xs s.width).w -ℤ (neighbours xs s.width).nw +ℤ (neighbours xs s.width).n)) same
       ∙ ap (λ n. sum_by true ((neighbours samples n).w -ℤ (neighbours samples n).nw +ℤ (neighbours samples n).n)) wide

@@ -6,7 +6,7 @@ use Rattle.std.proofs.lemmas.List.{length-take, take-set}
 use Rattle.jxlm_bits.specs.Bits.{position_of}
 use Rattle.jxlm_bits.specs.Decoding.{Meaning}
 use Rattle.jxlm_bits.specs.declared.decoder.DecoderError.{DecoderError}
-use Rattle.jxlm_base.proofs.Cells.{slice_get-set_same}
+use Rattle.jxlm_lanes.proofs.NumberAt.{slice_get-set_same}
 use Rattle.jxlm_samples.specs.Inner.Rows.{AreAlike, FailsCell, FailsRow, ReadsCell, ReadsCells, ReadsRow}
 use Rattle.jxlm_samples.specs.declared.source.Source.{Source}
 use Rattle.jxlm_samples.specs.Rule.{Rule, CodedPrefix}

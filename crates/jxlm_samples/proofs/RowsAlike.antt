@@ -9,7 +9,7 @@ use Rattle.jxlm_base.specs.Grid.{Grid}
 use Rattle.jxlm_base.specs.Regions.{grid_of, store_meanings}
 use Rattle.jxlm_base.specs.declared.subgrid.Region.{Region}
 use Rattle.jxlm_base.proofs.Regions.{IsFull-grid_of}
-use Rattle.jxlm_predictor.specs.Neighbours.{column, row as line}
+use Rattle.jxlm_weighted.specs.Neighbours.{column, row as line}
 use Rattle.jxlm_predictor.specs.Predictions.{prediction}
 use Rattle.jxlm_predictor.specs.Properties.{gradient_at}
 use Rattle.jxlm_predictor.specs.declared.predictor.Predictor.TheVariants as predictor

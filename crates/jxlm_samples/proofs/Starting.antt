@@ -12,14 +12,14 @@ use Rattle.jxlm_predictor.specs.Standing.{HasSameRoom, Setting, Stands, StandsAt
 use Rattle.jxlm_tree.specs.FlatTree.{FlatTree, flat_tree}
 use Rattle.jxlm_tree.specs.Tree.{Shape}
 use Rattle.jxlm_tree.specs.declared.flat.Leaf.{Leaf}
-use Rattle.jxlm_predictor.specs.declared.predictor.WpHeader.{WpHeader}
+use Rattle.jxlm_weighted.specs.declared.weights.WpHeader.{WpHeader}
 use Rattle.jxlm_predictor.specs.declared.state.PredictorState.{PredictorState}
 use Rattle.jxlm_predictor.proofs.StandingLaws.{stands_earlier}
 use Rattle.jxlm_transform.specs.Channels.{Channel, IsNarrow, infos}
 use Rattle.jxlm_transform.specs.declared.channels.PlacedChannel.{PlacedChannel}
 use Rattle.jxlm_samples.specs.Part.{channel, no_channel, downward, earlier_alike, is_alike}
 use Rattle.jxlm_samples.specs.Reading.{HasFlats, HasRoom, HasRoomFor, IsCodingOf, IsRoomy, IsRoomyFor, IsTreeOf, LeadsAlone, alone_at, alone_in, flat, part_of, regions_of, row_width, sampled_width, state_width, tree_of, walked_width, width_in_state}
-use Rattle.jxlm_samples.specs.ChannelSettings.{IsAfterChannel, IsNext, StandsIn, all_alike, asked_at, earlier_regions, handed, region_at, setting_of, weights_at}
+use Rattle.jxlm_samples.specs.ChannelSettings.{IsAfterChannel, IsNext, StandsIn, all_alike, asked_at, earlier_regions, earlier_for, region_at, setting_of, weights_at}
 use Rattle.jxlm_samples.specs.declared.coding.Alone.{Alone}
 use Rattle.jxlm_samples.specs.declared.coding.ChannelTree.{ChannelTree}
 use Rattle.jxlm_samples.specs.declared.coding.PartCoding.{PartCoding}
@@ -94,7 +94,7 @@ within_widest channels i l some =
     omega (arith, here, all)
 
 -- where a tree asks for earlier channels, all are given
-pub some_asked : (n : ℕ) (all : List Region) → 0 < n → handed n all ≡ all
+pub some_asked : (n : ℕ) (all : List Region) → 0 < n → earlier_for n all ≡ all
 some_asked zero all h = absurd (omega (arith, h))
 some_asked (suc n) all h = refl
 
@@ -259,7 +259,7 @@ module _ {D X : Type 0} (c : PartCoding D) (i : ℕ) where
   pub set_for_none : (state : PredictorState X) (weights : Option WpHeader) → weights ≡ weights_at c i → asked_at c i ≡ 0 →
       StandsAt state (setting (region_at (regions_of c) i).width weights []) [] → StandsAt state (setting_of c i) []
   set_for_none state weights same none h =
-      let no : earlier_regions c i ≡ [] = ap (λ n. handed n (all_alike c i)) none in
+      let no : earlier_regions c i ≡ [] = ap (λ n. earlier_for n (all_alike c i)) none in
       subst (λ rs. StandsAt state (setting (region_at (regions_of c) i).width (weights_at c i) rs) []) (sym no)
       (subst (λ w. StandsAt state (setting (region_at (regions_of c) i).width w []) []) same h)
 

@@ -7,8 +7,7 @@ use Rattle.jxlm_bits.specs.Bits.{bytes_of, position_of}
 use Rattle.jxlm_bits.specs.Decoding.{FailsTokens, IsLawful, Meaning, Reading, TakesTokens}
 use Rattle.jxlm_bits.specs.declared.decoder.DecoderError.{DecoderError}
 use Rattle.jxlm_bits.specs.declared.decoder.TokensError.{TokensError}
-use Rattle.jxlm_lanes.proofs.NumberAt.{slice_get-set_other}
-use Rattle.jxlm_base.proofs.Cells.{slice_get-set_same}
+use Rattle.jxlm_lanes.proofs.NumberAt.{slice_get-set_other, slice_get-set_same}
 use Rattle.jxlm_samples.specs.Inner.Rows.{FailsRow, MakesCells, ReadsCells, StretchGives}
 use Rattle.jxlm_samples.specs.declared.source.Source.{Source}
 use Rattle.jxlm_samples.specs.Rule.{Rule, CodedPrefix}

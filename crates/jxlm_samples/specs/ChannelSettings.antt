@@ -5,7 +5,7 @@ use Rattle.jxlm_base.specs.Grid.{Grid}
 use Rattle.jxlm_base.specs.Regions.{region, grid_of, store_meanings}
 use Rattle.jxlm_base.specs.declared.subgrid.Region.{Region}
 use Rattle.jxlm_predictor.specs.Standing.{Setting, StandsAt, setting}
-use Rattle.jxlm_predictor.specs.declared.predictor.WpHeader.{WpHeader}
+use Rattle.jxlm_weighted.specs.declared.weights.WpHeader.{WpHeader}
 use Rattle.jxlm_predictor.specs.declared.state.PredictorState.{PredictorState}
 use Rattle.jxlm_samples.specs.Part.{earlier_alike}
 use Rattle.jxlm_samples.specs.Reading.{HasRoom, IsCodingOf, alone_at, part_of, regions_of}
@@ -17,9 +17,9 @@ abbrev pub region_at : List Region → ℕ → Region
 region_at regions i = get_or regions i (region 0 0 0 0 0)
 
 -- the earlier channels that a tree is given that may ask for n of them: none where n is 0, else all
-abbrev pub handed : {X : Type 0} → ℕ → List X → List X
-handed zero earlier = []
-handed (suc n) earlier = earlier
+abbrev pub earlier_for : {X : Type 0} → ℕ → List X → List X
+earlier_for zero earlier = []
+earlier_for (suc n) earlier = earlier
 
 module _ {D : Type 0} where
   -- the regions of the channels before channel i that are like it, the nearest first
@@ -40,7 +40,7 @@ module _ {D : Type 0} where
 
   -- those that the state is given
   abbrev pub earlier_regions : PartCoding D → ℕ → List Region
-  earlier_regions c i = handed (asked_at c i) (all_alike c i)
+  earlier_regions c i = earlier_for (asked_at c i) (all_alike c i)
 
   -- what the state is set for in channel i
   abbrev pub setting_of : PartCoding D → ℕ → Setting

@@ -6,11 +6,11 @@ use Rattle.jxlm_transform.specs.Channels.{AreGridsOf, Channel, area}
 use Rattle.jxlm_transform.specs.ChannelSteps.{table_channel}
 use Rattle.jxlm_transform.specs.Params.{are_clamped}
 use Rattle.jxlm_predictor.specs.Properties.{Surroundings, place_property, property}
-use Rattle.jxlm_predictor.specs.Sums.{clamped_sum}
+use Rattle.jxlm_predictor.specs.Sums.{gradient_sum}
 use Rattle.jxlm_tree.specs.SumTrees.{takes_sums_at}
 use Rattle.jxlm_tree.specs.Tree.{Shape, walk}
 use Rattle.jxlm_tree.specs.declared.flat.Leaf.{Leaf}
-use Rattle.jxlm_predictor.specs.declared.predictor.WpHeader.{WpHeader}
+use Rattle.jxlm_weighted.specs.declared.weights.WpHeader.{WpHeader}
 
 -- a part: its channels in order, the weights of its header, its tree, and its stream index
 pub record Part : Type 0 where
@@ -89,11 +89,11 @@ clamps part i = are_clamped (channel part.channels i).gradient_sums && takes_sum
 
 -- property k of a cell, where property 9 is clamped or not; properties 0 and 1 are not of the cell, and are 0 here
 abbrev pub place_by : Bool → Surroundings → ℕ → ℤ
-place_by clamped s k = if clamped && k == 9 then clamped_sum s else place_property s k
+place_by clamped s k = if clamped && k == 9 then gradient_sum s else place_property s k
 
 -- the same as a walk sees it: 0 and 1 are the channel's index in its part and the stream index
 abbrev pub property_by : Bool → ℕ → ℕ → Surroundings → ℕ → ℤ
-property_by clamped channel stream s k = if clamped && k == 9 then clamped_sum s else property channel stream s k
+property_by clamped channel stream s k = if clamped && k == 9 then gradient_sum s else property channel stream s k
 
 -- the leaf of the next sample
 abbrev pub next_leaf : Part → List ℤ → Leaf

@@ -5,7 +5,7 @@ use Rattle.jxlm_base.specs.Grid.{Grid}
 use Rattle.jxlm_base.specs.Regions.{AllLie, LieApart, grids_in, store_meanings}
 use Rattle.jxlm_base.specs.declared.subgrid.Region.{Region}
 use Rattle.jxlm_transform.specs.Channels.{AreRegionsOf, IsNarrow, infos, regions}
-use Rattle.jxlm_predictor.specs.SelfCorrecting.{IsHeader}
+use Rattle.jxlm_weighted.specs.SelfCorrecting.{IsHeader}
 use Rattle.jxlm_tree.specs.Steps.{most_steps as most_steps_of}
 use Rattle.jxlm_samples.specs.Decode.{Standing}
 use Rattle.jxlm_samples.specs.Part.{Part}

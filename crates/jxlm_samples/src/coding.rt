@@ -3,7 +3,7 @@
 ghost use Rattle.std.specs.Prelude.{◌≡◌, ◌↔◌, ℤ, ◌^◌, ◌<◌, ◌≤◌, List, IfOk, IfErr, IfSome, IsTrue, None, get_or, length};
 ghost use Rattle.jxlm_bits.specs.ErrorKind.{NoMemory, kind_of};
 ghost use Rattle.jxlm_base.specs.Grid.{Grid};
-ghost use Rattle.jxlm_predictor.specs.SelfCorrecting.{IsHeader};
+ghost use Rattle.jxlm_weighted.specs.SelfCorrecting.{IsHeader};
 ghost use Rattle.jxlm_transform.specs.Layout.{no_region};
 ghost use Rattle.jxlm_samples.specs.Part.{clamps, is_alike as alike};
 ghost use Rattle.jxlm_predictor.specs.Standing.{Setting, StandsAt, earlier_count, setting};
@@ -14,11 +14,12 @@ use jxlm_base::grid::Region;
 use jxlm_base::sample::{Sample, Sealed};
 use jxlm_bits::decoder::Decoder;
 use jxlm_bits::error::Result;
-use jxlm_predictor::predictor::{Predictor, PredictorState, WpHeader};
+use jxlm_predictor::predictor::{Predictor, PredictorState};
 use jxlm_transform::channels::{ModularChannelInfo, PlacedChannel};
 use jxlm_tree::flat::{FlatMaTree, Leaf};
 use jxlm_tree::ma::MaConfig;
 use jxlm_tree::paths::ClusterTable;
+use jxlm_weighted::weights::WpHeader;
 use std::alloc::Global;
 use std::rc::Rc;
 

@@ -2,7 +2,7 @@
 
 ghost use Rattle.std.specs.Prelude.{◌≡◌, ◌↔◌, ◌<◌, ◌≤◌, ◌^◌, ◌*◌, ℕ, IfErr, IfOk, IsOk, IsTrue, length};
 ghost use Rattle.jxlm_tree.specs.FlatTree.{ClustersStandIn};
-ghost use Rattle.jxlm_predictor.specs.SelfCorrecting.{IsHeader};
+ghost use Rattle.jxlm_weighted.specs.SelfCorrecting.{IsHeader};
 ghost use Rattle.jxlm_bits.specs.Bits.{bytes_of, position_of};
 ghost use Rattle.jxlm_tree.specs.TreeReading.{IsOutOfMemory};
 ghost use Rattle.jxlm_bits.specs.ErrorKind.{kind_of};
@@ -24,10 +24,10 @@ use jxlm_base::sample::Sample;
 use jxlm_bits::bits::Bitstream;
 use jxlm_bits::decoder::{Decoder, DecoderError};
 use jxlm_bits::error::{Error, Result};
-use jxlm_predictor::predictor::WpHeader;
 use jxlm_transform::channels::PlacedChannel;
 use jxlm_tree::flat::Steps;
 use jxlm_tree::ma::MaConfig;
+use jxlm_weighted::weights::WpHeader;
 use std::alloc::Global;
 use std::mem;
 

@@ -4,12 +4,12 @@ use Rattle.std.specs.Prelude.{◌==◌, MatchBool}
 use Rattle.std.specs.List.{All}
 use Rattle.std.proofs.lemmas.List.Elements.{All-nil, All-cons, All-head, All-tail, All-append}
 use Rattle.jxlm_bits.specs.ErrorKind.{ErrorKind}
-use Rattle.jxlm_bits.specs.Grammar.{repeated}
-use Rattle.jxlm_predictor.specs.declared.predictor.WpHeader.{WpHeader}
+use Rattle.jxlm_bits.specs.Grammar.{repeated, from_result}
+use Rattle.jxlm_weighted.specs.declared.weights.WpHeader.{WpHeader}
 use Rattle.jxlm_transform.specs.Channels.{ChannelList, tables_for}
 use Rattle.jxlm_transform.specs.ChannelSteps.{CodedList, Step, RctStep, PaletteStep, SqueezeStep, coded_list, list_after_all, steps_of, steps_of_squeeze}
 use Rattle.jxlm_transform.specs.Steps.{HasChannels}
-use Rattle.jxlm_transform.specs.Transforms.{Transform, OfRct, OfPalette, OfSqueeze, checked, palette_by, rct, squeeze, transform_by}
+use Rattle.jxlm_transform.specs.Transforms.{Transform, OfRct, OfPalette, OfSqueeze, palette_by, rct, squeeze, transform_by}
 use Rattle.jxlm_transform.specs.Transforms as listed
 use Rattle.jxlm_transform.specs.declared.param.PaletteTables.{PaletteTables}
 use Rattle.jxlm_transform.specs.declared.transform.Palette.{Palette}
@@ -17,7 +17,7 @@ use Rattle.jxlm_transform.specs.declared.transform.SqueezeParams.{SqueezeParams}
 use Rattle.jxlm_transform.proofs.SideBounds.{came}
 use Rattle.jxlm_transform.proofs.StepLaws.{steps_list}
 use Rattle.jxlm_header.specs.Header.{Header, header_by}
-use Rattle.jxlm_header.specs.Opening.{Opening, conditions, opening, opening_of, resolved}
+use Rattle.jxlm_header.specs.Opening.{Opening, conditions, opening, opening_of, resolve}
 use Rattle.jxlm_header.proofs.HeaderLaws.{exact-opening}
 
 -- ---- palettes as they are listed
@@ -90,7 +90,7 @@ of_all (t ∷ ts) l c p e =
     subst (λ (x : CodedList). All HasChannels x.steps) (same_ok _ c last)
     (All-append HasChannels ss others.steps (of_one t l ss (All-head listed.HasChannels t ts p) steps) (of_all ts m others (All-tail listed.HasChannels t ts p) all))
 
-checked_is : {X : Type 0} (r : Result X ErrorKind) (bytes : List ℕ) (m : ℕ) (x : X) (q : ℕ) → (checked r).Stands bytes m x q → r ≡ Ok x
+checked_is : {X : Type 0} (r : Result X ErrorKind) (bytes : List ℕ) (m : ℕ) (x : X) (q : ℕ) → (from_result r).Stands bytes m x q → r ≡ Ok x
 checked_is (Ok y) bytes m x q s = ap Ok (sym s.0)
 checked_is (Err e) bytes m x q s = absurd s
 
@@ -101,7 +101,7 @@ pub record StepsOf (given : ChannelList) (head : Opening) : Type 0 where
 pub opened_steps : (global : Bool) (given : ChannelList) (bytes : List ℕ) (p : ℕ) (head : Opening) (q : ℕ) → (opening global given).read bytes p ≡ Ok (record { value = head; position = q }) → StepsOf given head
 opened_steps global given bytes p head q e =
     let (h, m, stands, comes) = (exact-opening global given).read_stands bytes p (record { value = head; position = q }) e in
-    let all : resolved global given h ≡ Ok head = checked_is (resolved global given h) bytes m head q comes in
+    let all : resolve global given h ≡ Ok head = checked_is (resolve global given h) bytes m head q comes in
     let (coded, found, then) = came (coded_list h.transform given) _ head all in
     let (u, holds, last) = came (conditions global h coded.list) _ head then in
     let is : coded ≡ head.coded = ap (λ (o : Opening). o.coded) (same_ok (opening_of h coded) head last) in

@@ -4,7 +4,7 @@ use Rattle.jxlm_bits.specs.ErrorKind.{ErrorKind, BadRct, BadPalette, BadSqueeze,
 use Rattle.jxlm_predictor.specs.declared.predictor.Predictor.TheVariants.{Zero}
 use Rattle.jxlm_transform.specs.Channels.{Channel, image_channel}
 use Rattle.jxlm_transform.specs.ChannelSteps.{coded_list, default_squeeze, step_of_all}
-use Rattle.jxlm_transform.specs.Params.{sized}
+use Rattle.jxlm_transform.specs.Params.{channel_params}
 use Rattle.jxlm_transform.specs.Transforms.{Transform, OfRct, OfPalette, OfSqueeze}
 use Rattle.jxlm_transform.specs.declared.param.ChannelShift.TheVariants.{Shifts}
 
@@ -17,7 +17,7 @@ abbrev coded_meta : List Transform → List Channel → Result ℕ ErrorKind
 coded_meta ts cs = coded_list ts (record { channels = cs; nb_meta = 0 }) >>= λ coded. Ok coded.list.nb_meta
 
 abbrev square : Channel
-square = image_channel (sized 16 16 (Shifts 0))
+square = image_channel (channel_params 16 16 (Shifts 0))
 
 abbrev three : List Channel
 three = square ∷ square ∷ square ∷ []

@@ -6,7 +6,7 @@ use Rattle.jxlm_bits.specs.Grammar.{IsErrorAt, number}
 use Rattle.jxlm_bits.specs.declared.decoder.DecoderError.TheVariants as decoder
 use Rattle.jxlm_transform.specs.Transforms.{squeeze, transform_by}
 use Rattle.jxlm_transform.specs.declared.param.PaletteTables.{PaletteTables}
-use Rattle.jxlm_predictor.specs.declared.predictor.WpHeader.{WpHeader}
+use Rattle.jxlm_weighted.specs.declared.weights.WpHeader.{WpHeader}
 
 -- a fact holds also where it is asked for unless it is out of memory
 pub unless_no_memory : (error : ErrorKind) (P : Type 0) → P → UnlessNoMemory error P

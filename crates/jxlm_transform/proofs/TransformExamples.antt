@@ -1,7 +1,7 @@
 -- Transforms in small inputs.
 use Rattle.std.specs.Prelude.{◌≡◌, refl, true, [], ◌∷◌, Some, Ok, Err, codes}
 use Rattle.jxlm_bits.specs.ErrorKind.{Eof, BadEnum}
-use Rattle.jxlm_predictor.specs.WeightsHeader.{default_weights}
+use Rattle.jxlm_weighted.specs.WeightsHeader.{default_weights}
 use Rattle.jxlm_transform.specs.Transforms.{OfRct, OfSqueeze, transform}
 
 -- after four bits of a header: a colour transform of the first three channels

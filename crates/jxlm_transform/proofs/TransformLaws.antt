@@ -1,14 +1,14 @@
 -- Transforms are read exactly.
 use Rattle.std.specs.Prelude.{Result, Ok, Err, ok_or, slice_get, codes}
 use Rattle.jxlm_bits.specs.ErrorKind.{ErrorKind, BadEnum}
-use Rattle.jxlm_bits.specs.Grammar.{Grammar, IsExact, ◌>>=◌}
+use Rattle.jxlm_bits.specs.Grammar.{Grammar, IsExact, ◌>>=◌, from_result}
 use Rattle.jxlm_bits.specs.declared.bits.U32Spec.TheVariants.{Const, Offset}
 use Rattle.jxlm_bits.proofs.GrammarLaws.{exact-give, exact-fail, exact-number, exact-bind, exact-either, exact-repeated, exact-flag, exact-u32}
 use Rattle.jxlm_predictor.specs.Predictions.{predictors}
-use Rattle.jxlm_predictor.specs.declared.predictor.WpHeader.{WpHeader}
+use Rattle.jxlm_weighted.specs.declared.weights.WpHeader.{WpHeader}
 use Rattle.jxlm_transform.specs.Params.{columns}
 use Rattle.jxlm_transform.specs.declared.param.PaletteTables.{PaletteTables}
-use Rattle.jxlm_transform.specs.Transforms.{OfRct, OfPalette, OfSqueeze, begin_channel, rct, checked, predictor, weights_for, palette_by, squeeze_params, squeeze, transform_by}
+use Rattle.jxlm_transform.specs.Transforms.{OfRct, OfPalette, OfSqueeze, begin_channel, rct, predictor, weights_for, palette_by, squeeze_params, squeeze, transform_by}
 
 bind : {X Y : Type 0} {field : Grammar X} {next : X → Grammar Y} → IsExact field → ((x : X) → IsExact (next x)) → IsExact (field >>= next)
 bind {field} {next} first rest = exact-bind field next first rest
@@ -19,7 +19,7 @@ exact-begin = exact-u32 (Offset 0 3) (Offset 8 6) (Offset 72 10) (Offset 1096 13
 pub exact-rct : IsExact rct
 exact-rct = bind exact-begin λ begin. bind (exact-u32 (Const 6) (Offset 0 2) (Offset 2 4) (Offset 10 6)) λ kind. exact-give (record { begin_c = begin; rct_type = kind })
 
-pub exact-checked : {X : Type 0} (r : Result X ErrorKind) → IsExact (checked r)
+pub exact-checked : {X : Type 0} (r : Result X ErrorKind) → IsExact (from_result r)
 exact-checked (Ok x) = exact-give x
 exact-checked (Err e) = exact-fail e
 

@@ -4,19 +4,19 @@ use Rattle.std.proofs.Math.Nat.{pow-le-pow_right}
 use Rattle.std.proofs.lemmas.List.{length-replicate}
 use Rattle.std.proofs.lemmas.List.Elements.{All-replicate}
 use Rattle.std.specs.List.{All}
-use Rattle.jxlm_transform.specs.Params.{IsValidChannel, OneSizeIsValid, OneSizeOfImageIsValid, PowersAreGroupDims, sized}
+use Rattle.jxlm_transform.specs.Params.{IsValidChannel, OneSizeIsValid, OneSizeOfImageIsValid, PowersAreGroupDims, channel_params}
 use Rattle.jxlm_transform.specs.declared.param.ChannelShift.TheVariants.{Shifts}
 use Rattle.jxlm_transform.specs.declared.param.ModularChannelParams.{ModularChannelParams}
 
 pub one_size_is_valid : OneSizeIsValid
-one_size_is_valid n width height wide high = All-replicate IsValidChannel n (sized width height (Shifts 0)) (wide, high, omega arith)
+one_size_is_valid n width height wide high = All-replicate IsValidChannel n (channel_params width height (Shifts 0)) (wide, high, omega arith)
 
 pub one_size_of_image_is_valid : (D : Type 0) → OneSizeOfImageIsValid D
 one_size_of_image_is_valid D p n width height channels few wide high group_dim deep =
     record {
       group_dim = group_dim;
       bit_depth = deep;
-      count = subst (λ (cs : List ModularChannelParams). length cs ≤ 2 ^ 20) (sym channels) (rw (length-replicate n (sized width height (Shifts 0))) few);
+      count = subst (λ (cs : List ModularChannelParams). length cs ≤ 2 ^ 20) (sym channels) (rw (length-replicate n (channel_params width height (Shifts 0))) few);
       channels = subst (λ (cs : List ModularChannelParams). All IsValidChannel cs) (sym channels) (one_size_is_valid n width height wide high);
     }
 

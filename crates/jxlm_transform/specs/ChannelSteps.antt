@@ -67,22 +67,22 @@ palette_step t l =
     else Err BadPalette
 
 -- a shift grows by one where a side is halved; a table's stays
-abbrev pub grown : ℤ → ℤ
-grown (pos s) = pos (s + 1)
-grown (negsuc s) = negsuc s
+abbrev pub shift_of_half : ℤ → ℤ
+shift_of_half (pos s) = pos (s + 1)
+shift_of_half (negsuc s) = negsuc s
 
 -- a channel that is squeezed across, or down, to what f makes of that side
-abbrev pub squeezed : Bool → (ℕ → ℕ) → Channel → Channel
-squeezed true f c = record c { width = f c.width; hshift = grown c.hshift }
-squeezed false f c = record c { height = f c.height; vshift = grown c.vshift }
+abbrev pub squeeze_side : Bool → (ℕ → ℕ) → Channel → Channel
+squeeze_side true f c = record c { width = f c.width; hshift = shift_of_half c.hshift }
+squeeze_side false f c = record c { height = f c.height; vshift = shift_of_half c.vshift }
 
 -- the averages of a channel that is squeezed
 abbrev pub average_channel : Bool → Channel → Channel
-average_channel horizontal c = squeezed horizontal (λ n. div_ceil n 2) c
+average_channel horizontal c = squeeze_side horizontal (λ n. div_ceil n 2) c
 
 -- its residuals
 abbrev pub residual_channel : Bool → Channel → Channel
-residual_channel horizontal c = squeezed horizontal (λ n. n / 2) c
+residual_channel horizontal c = squeeze_side horizontal (λ n. n / 2) c
 
 -- it has samples, and is not squeezed too often already
 abbrev pub can_be_squeezed : Channel → Bool

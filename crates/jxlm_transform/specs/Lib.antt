@@ -1,11 +1,8 @@
 pub mod ChannelSteps
 pub mod DefaultSqueeze
-pub mod ColourRows
 pub mod Channels
 pub mod Kinds
-pub mod Palette
 pub mod Params
-pub mod Recoloured
 pub mod Shifts
 pub mod SqueezedRegions
 pub mod Steps
@@ -13,4 +10,3 @@ pub mod Transforms
 pub mod Ends
 pub mod Layout
 pub mod Lists
-pub mod Inner

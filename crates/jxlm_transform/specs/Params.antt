@@ -54,8 +54,8 @@ are_clamped Wrapped = false
 are_clamped Clamped = true
 
 -- a channel with this shift in a picture of these sides
-abbrev pub sized : ℕ → ℕ → ChannelShift → ModularChannelParams
-sized width height shift = record { width = width; height = height; shift = shift; palette_tables = OfColours; gradient_sums = Wrapped }
+abbrev pub channel_params : ℕ → ℕ → ChannelShift → ModularChannelParams
+channel_params width height shift = record { width = width; height = height; shift = shift; palette_tables = OfColours; gradient_sums = Wrapped }
 
 -- the same channel, read by these tables of palettes
 abbrev pub with_tables : PaletteTables → ModularChannelParams → ModularChannelParams
@@ -67,7 +67,7 @@ with_sums sums p = record p { gradient_sums = sums }
 
 -- n channels as large as a picture of these sides
 abbrev pub of_one_size : ℕ → ℕ → ℕ → List ModularChannelParams
-of_one_size n width height = replicate n (sized width height (Shifts 0))
+of_one_size n width height = replicate n (channel_params width height (Shifts 0))
 
 -- they may be given
 abbrev pub OneSizeIsValid : Type 0

@@ -1,7 +1,7 @@
 -- The steps that transforms come to: palettes' channels, weights and tables.
 use Rattle.std.specs.Prelude.{◌≡◌, ◌≤◌, ◌⊎◌, ℕ, List, [], ◌∷◌, ◌++◌, Some, None}
 use Rattle.std.specs.List.{All}
-use Rattle.jxlm_predictor.specs.declared.predictor.WpHeader.{WpHeader}
+use Rattle.jxlm_weighted.specs.declared.weights.WpHeader.{WpHeader}
 use Rattle.jxlm_transform.specs.ChannelSteps.{Step, RctStep, PaletteStep, SqueezeStep, listed_steps}
 use Rattle.jxlm_transform.specs.Params.{IsSide}
 use Rattle.jxlm_transform.specs.Transforms.{Transform}

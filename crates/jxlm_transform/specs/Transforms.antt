@@ -3,13 +3,13 @@ use Rattle.std.specs.Prelude.{◌≡◌, ◌⊎◌, ℕ, ◌+◌, ◌≤◌, Lis
 use Rattle.std.specs.List.{All}
 use Rattle.jxlm_bits.specs.Decoding.{Found}
 use Rattle.jxlm_bits.specs.ErrorKind.{ErrorKind, BadEnum, ErrorAt, UnlessNoMemory, kind_of}
-use Rattle.jxlm_bits.specs.Grammar.{Grammar, IsErrorAt, number, flag, u32, give, fail, either, repeated, ◌>>=◌}
+use Rattle.jxlm_bits.specs.Grammar.{Grammar, IsErrorAt, number, flag, u32, give, fail, either, repeated, ◌>>=◌, from_result}
 use Rattle.jxlm_bits.specs.declared.bits.U32Spec.TheVariants.{Const, Offset}
 use Rattle.jxlm_bits.specs.declared.error.Error.{Error}
 use Rattle.jxlm_predictor.specs.Predictions.{predictors}
 use Rattle.jxlm_predictor.specs.declared.predictor.Predictor.{Predictor}
 use Rattle.jxlm_predictor.specs.declared.predictor.Predictor.TheVariants.{SelfCorrecting}
-use Rattle.jxlm_predictor.specs.declared.predictor.WpHeader.{WpHeader}
+use Rattle.jxlm_weighted.specs.declared.weights.WpHeader.{WpHeader}
 use Rattle.jxlm_transform.specs.Params.{columns}
 use Rattle.jxlm_transform.specs.declared.param.PaletteTables.{PaletteTables}
 use Rattle.jxlm_transform.specs.declared.param.PaletteTables.TheVariants.{OfColours}
@@ -42,16 +42,11 @@ rct = do
   kind ← u32 (Const 6) (Offset 0 2) (Offset 2 4) (Offset 10 6)
   give (record { begin_c = begin; rct_type = kind })
 
--- a value that is found without bits, or its error
-abbrev pub checked : {X : Type 0} → Result X ErrorKind → Grammar X
-checked (Ok x) = give x
-checked (Err e) = fail e
-
 -- a predictor's number; 14 and 15 name none
 abbrev pub predictor : Grammar Predictor
 predictor = do
   n ← number 4
-  checked (ok_or (slice_get predictors n) (BadEnum (codes "MaProperty") n))
+  from_result (ok_or (slice_get predictors n) (BadEnum (codes "MaProperty") n))
 
 -- the weights that a palette of this predictor keeps
 abbrev pub weights_for : Predictor → WpHeader → Option WpHeader

@@ -5,7 +5,7 @@ ghost use Rattle.std.specs.List.{All, list_any};
 ghost use Rattle.jxlm_bits.specs.ErrorKind.{NoMemory, kind_of};
 ghost use Rattle.jxlm_base.specs.Regions.{region};
 ghost use Rattle.jxlm_lanes.specs.Squeeze.{averages as the_averages};
-ghost use Rattle.jxlm_transform.specs.ChannelSteps.{has_size_of, table_channel, average_channel, residual_channel, can_be_squeezed, grown as the_grown};
+ghost use Rattle.jxlm_transform.specs.ChannelSteps.{has_size_of, table_channel, average_channel, residual_channel, can_be_squeezed, shift_of_half as the_grown};
 ghost use Rattle.jxlm_transform.specs.Channels.{image_channel, infos, regions, tables_for as the_tables};
 ghost use Rattle.jxlm_transform.specs.Ends.{HasEnds};
 ghost use Rattle.jxlm_transform.specs.Params.{IsValidChannel, has_deltas};

@@ -1,9 +1,6 @@
-//! What an image's channels are, and what transforms do to them.
+//! What an image's channels are, and what transforms do to the list of them.
 #![tactic(auto)]
 
 pub mod channels;
-pub mod palette;
 pub mod param;
-pub mod rct;
-pub mod squeeze;
 pub mod transform;

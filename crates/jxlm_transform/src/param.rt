@@ -4,7 +4,7 @@ ghost use Rattle.std.specs.Prelude.{◌≡◌, ◌+◌, ◌<◌, ◌≤◌, ◌�
 ghost use Rattle.std.specs.Int.{div_ceil};
 ghost use Rattle.std.specs.List.{All, list_any};
 ghost use Rattle.jxlm_transform.specs.Shifts.{IsValidShift, shift_size, jpeg_shift, hshift, vshift, IsShift, upsampled_side as the_upsampled_side};
-ghost use Rattle.jxlm_transform.specs.Params.{IsSide, IsValidChannel, IsGroupDim, IsValidParams, OneSizeIsValid, OneSizeOfImageIsValid, PowersAreGroupDims, are_clamped, columns, has_deltas, params_of, sized, with_sums, with_tables};
+ghost use Rattle.jxlm_transform.specs.Params.{IsSide, IsValidChannel, IsGroupDim, IsValidParams, OneSizeIsValid, OneSizeOfImageIsValid, PowersAreGroupDims, are_clamped, columns, has_deltas, params_of, channel_params, with_sums, with_tables};
 ghost use Rattle.jxlm_bits.specs.ErrorKind.{NoMemory, kind_of};
 
 use jxlm_bits::decoder::Decoder;
@@ -256,7 +256,7 @@ pub struct ModularChannelParams {
 impl ModularChannelParams {
     /// A channel as large as the picture.
     pub fn new(width: u32, height: u32) -> ModularChannelParams
-        ensures { result ≡ sized width height (ChannelShift.Shifts 0) }
+        ensures { result ≡ channel_params width height (ChannelShift.Shifts 0) }
     {
         ModularChannelParams::with_shift(width, height, ChannelShift::from_shift(0))
     }
@@ -271,7 +271,7 @@ impl ModularChannelParams {
     ) -> ModularChannelParams
         requires values { All (λ v. v ≤ 3) jpeg_upsampling }
         requires index { idx < 3 }
-        ensures channel { result ≡ sized width height (jpeg_shift jpeg_upsampling idx) }
+        ensures channel { result ≡ channel_params width height (jpeg_shift jpeg_upsampling idx) }
         ensures valid { IsValidShift result.shift }
     {
         let shift = ChannelShift::from_jpeg_upsampling(jpeg_upsampling, idx);
@@ -280,7 +280,7 @@ impl ModularChannelParams {
 
     /// A channel with this shift in a picture of these sides.
     pub fn with_shift(width: u32, height: u32, shift: ChannelShift) -> ModularChannelParams
-        ensures { result ≡ sized width height shift }
+        ensures { result ≡ channel_params width height shift }
     {
         ModularChannelParams {
             width,
@@ -352,7 +352,7 @@ impl<'a, D: Decoder> ModularParams<'a, D> {
     ) -> Result<ModularParams<'a, D>>
         ensures group_dim { IfOk result (λ p. p.group_dim ≡ group_dim) }
         ensures bit_depth { IfOk result (λ p. p.bit_depth ≡ bit_depth) }
-        ensures channels { IfOk result (λ p. p.channels.items ≡ map (sized width height) channel_shifts.items) }
+        ensures channels { IfOk result (λ p. p.channels.items ≡ map (channel_params width height) channel_shifts.items) }
         ensures ma_config { IfOk result (λ p. p.ma_config ≡ ma_config.entry) }
         ensures err { IfErr result (λ e. kind_of e ≡ NoMemory) }
     {

@@ -4,7 +4,7 @@ ghost use Rattle.std.specs.Prelude.{◌≡◌, ◌≤◌, ◌↔◌, ◌⊎◌, 
 ghost use Rattle.std.specs.List.{All};
 ghost use Rattle.jxlm_bits.specs.Bits.{bytes_of, position_of};
 ghost use Rattle.jxlm_bits.specs.Grammar.{FitsU32, IsExact, Reads, number, repeated, u32 as the_u32};
-ghost use Rattle.jxlm_predictor.specs.WeightsHeader.{GivesExactly};
+ghost use Rattle.jxlm_weighted.specs.WeightsHeader.{GivesExactly};
 ghost use Rattle.jxlm_transform.specs.DefaultSqueeze.{LeavesSmallSides, TakesFewestSteps};
 ghost use Rattle.jxlm_bits.specs.FieldRanges.{min_of, max_of};
 ghost use Rattle.jxlm_transform.specs.Params.{columns};
@@ -17,7 +17,8 @@ mod steps;
 use crate::param::PaletteTables;
 use jxlm_bits::bits::{Bitstream, BitstreamError, U32Spec};
 use jxlm_bits::error::{Error, Result};
-use jxlm_predictor::predictor::{Predictor, WpHeader};
+use jxlm_predictor::predictor::Predictor;
+use jxlm_weighted::weights::WpHeader;
 use std::alloc::Global;
 
 /// A colour transform of three channels.

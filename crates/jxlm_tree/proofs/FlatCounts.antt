@@ -4,7 +4,7 @@ use Rattle.std.specs.Prelude.{int_lt, is_some, fold, not, ◌&&◌, ◌||◌}
 use Rattle.std.specs.Int.{w32, int_wrap, int_min, int_max}
 use Rattle.std.proofs.lemmas.Int.{ints, clamps}
 use Rattle.std.proofs.lemmas.Bool.Decides.{nat_tests}
-use Rattle.jxlm_tree.specs.CompiledNodes.{cuts, greatest, has_table, if_any, least, make_table, parted, takes, undecided}
+use Rattle.jxlm_tree.specs.CompiledNodes.{cuts, greatest, has_table, if_any, least, make_table, nodes_of_sides, takes, prune}
 use Rattle.jxlm_tree.specs.FlatTree.{FlatTree}
 use Rattle.jxlm_tree.specs.Tree.{Shape, leaf, decision, depth}
 use Rattle.jxlm_tree.specs.Inner.Compiled.{known_at}
@@ -85,7 +85,7 @@ some-in low high n h = rw (not_above high low h)
 none-in : (low high : ℤ) (n : ℕ) → high <ℤ low → if_any low high n ≡ 0
 none-in low high n h = rw (above high low h)
 
-own-parted : (p : ℕ) (v : ℤ) (a b : Shape Leaf) → has_table (decision p v a b) ≡ true → (takes (decision p v a b)).own ≡ 1 + parted p least greatest v (takes a) (takes b)
+own-parted : (p : ℕ) (v : ℤ) (a b : Shape Leaf) → has_table (decision p v a b) ≡ true → (takes (decision p v a b)).own ≡ 1 + nodes_of_sides p least greatest v (takes a) (takes b)
 own-parted p v a b h = rw h
 
 pub own-table : (p : ℕ) (v : ℤ) (a b : Shape Leaf) → has_table (decision p v a b) ≡ true → (takes (decision p v a b)).own ≡ 1 + (takes (decision p v a b)).within p least greatest
@@ -196,7 +196,7 @@ either false true there x y v p a b a1 b1 ea eb = rw (ea, eb)
 either false false true x y v p a b a1 b1 ea eb = rw (ea, eb)
 either false false false x y v p a b a1 b1 ea eb = rw (ea, eb)
 
-pub undecided-is : (t : FlatTree) (s : Shape Leaf) → undecided t s ≡ pruned (known_at t.channel t.stream_idx t.prev_channels) s
+pub undecided-is : (t : FlatTree) (s : Shape Leaf) → prune t s ≡ pruned (known_at t.channel t.stream_idx t.prev_channels) s
 undecided-is t (leaf l) = refl
 undecided-is t (decision p v a b) =
-    either (eqb p 0) (eqb p 1) (ltb p (16 + 4 * t.prev_channels)) (int_wrap w32 (pos t.channel)) (int_wrap w32 (pos t.stream_idx)) v p (undecided t a) (undecided t b) _ _ (undecided-is t a) (undecided-is t b)
+    either (eqb p 0) (eqb p 1) (ltb p (16 + 4 * t.prev_channels)) (int_wrap w32 (pos t.channel)) (int_wrap w32 (pos t.stream_idx)) v p (prune t a) (prune t b) _ _ (undecided-is t a) (undecided-is t b)

@@ -4,7 +4,7 @@ use Rattle.std.specs.Prelude.{int_lt}
 use Rattle.std.specs.Int.{w32, int_wrap}
 use Rattle.std.proofs.lemmas.Grind.{get_or_default_zero}
 use Rattle.std.proofs.lemmas.Int.{ints}
-use Rattle.jxlm_tree.specs.FlatTree.{FlatTree, HasMultiplier, PropertiesAre, asked, flat_tree, leaf_reached}
+use Rattle.jxlm_tree.specs.FlatTree.{FlatTree, HasMultiplier, PropertiesAre, property_of, flat_tree, leaf_reached}
 use Rattle.jxlm_tree.specs.ShortTrees.{CutsWithin, Fits, MeetsOnce, Reaches, TestsOnly}
 use Rattle.jxlm_tree.specs.Tree.{Shape, StandsAtLeaf, depth, walk}
 use Rattle.jxlm_tree.specs.Inner.Compiled.{IsCompiled, IsCompiledFor, known_at}
@@ -88,7 +88,7 @@ module _ {P : Type 0} (gives : P → ℕ → ℤ → Type 0) (properties : P) wh
       }
 
 -- properties as decisions ask for them are those that are seen
-pub seen-is : (t : Shape Leaf) (channel stream earlier : ℕ) (f : ℕ → ℤ) (k : ℕ) → seen (known_at channel stream earlier) f k ≡ asked (record { tree = t; channel = channel; stream_idx = stream; prev_channels = earlier }) f k
+pub seen-is : (t : Shape Leaf) (channel stream earlier : ℕ) (f : ℕ → ℤ) (k : ℕ) → seen (known_at channel stream earlier) f k ≡ property_of (record { tree = t; channel = channel; stream_idx = stream; prev_channels = earlier }) f k
 seen-is t channel stream earlier f k = either (eqb k 0) (eqb k 1) (ltb k (16 + 4 * earlier)) where
   either : (a b c : Bool) → or_seen (cond a (Some (int_wrap w32 (pos channel))) (cond b (Some (int_wrap w32 (pos stream))) (cond c None (Some (pos 0))))) (f k) ≡ cond a (int_wrap w32 (pos channel)) (cond b (int_wrap w32 (pos stream)) (cond c (f k) (pos 0)))
   either true b c = refl
@@ -100,7 +100,7 @@ pub walk-pruned : (t : Shape Leaf) (channel stream earlier : ℕ) (f : ℕ → �
     walk (pruned (known_at channel stream earlier) t) f ≡ leaf_reached (record { tree = t; channel = channel; stream_idx = stream; prev_channels = earlier }) f
 walk-pruned t channel stream earlier f =
     pruned-walk (known_at channel stream earlier) t f
-    ∙ walk_by t (seen (known_at channel stream earlier) f) (asked (record { tree = t; channel = channel; stream_idx = stream; prev_channels = earlier }) f) (seen-is t channel stream earlier f)
+    ∙ walk_by t (seen (known_at channel stream earlier) f) (property_of (record { tree = t; channel = channel; stream_idx = stream; prev_channels = earlier }) f) (seen-is t channel stream earlier f)
 
 -- what the end of a walk tells of the tree
 pub record Tells (t : Shape Leaf) (looks : ℕ) (l : Leaf) : Type 0 where

@@ -6,7 +6,7 @@ use Rattle.std.proofs.lemmas.Bool.{cases_lt}
 use Rattle.std.proofs.lemmas.Bool.Decides.{nat_tests}
 use Rattle.std.proofs.lemmas.Option.{slice_get_past}
 use Rattle.jxlm_predictor.specs.Properties.{Surroundings, place_property, property}
-use Rattle.jxlm_tree.specs.FlatTree.{FlatTree, asked, leaf_reached}
+use Rattle.jxlm_tree.specs.FlatTree.{FlatTree, property_of, leaf_reached}
 use Rattle.jxlm_tree.specs.Tree.{AllLeaves, Shape, StandsAtLeaf, leaf, decision, walk}
 
 -- what holds of each leaf holds of the one that is reached
@@ -44,7 +44,7 @@ seen_is s k n h = either (cases_lt k (16 + 4 * n)) where
   either (inl inside) = let is : nat_lt k (16 + 4 * n) ≡ true = grind (arith, nat_tests) in rw is refl
   either (inr past) = let is : nat_lt k (16 + 4 * n) ≡ false = grind (arith, nat_tests) in rw is (sym (beyond s k n h past))
 
-pub asked_is : (t : FlatTree) (s : Surroundings) (k : ℕ) → length s.earlier ≤ t.prev_channels → asked t (place_property s) k ≡ property t.channel t.stream_idx s k
+pub asked_is : (t : FlatTree) (s : Surroundings) (k : ℕ) → length s.earlier ≤ t.prev_channels → property_of t (place_property s) k ≡ property t.channel t.stream_idx s k
 asked_is t s k h = ap (λ (v : ℤ). if k == 0 then int_wrap w32 (pos t.channel) else if k == 1 then int_wrap w32 (pos t.stream_idx) else v) (seen_is s k t.prev_channels h)
 
 pub walk_by : {L : Type 0} (t : Shape L) (f g : ℕ → ℤ) → ((k : ℕ) → f k ≡ g k) → walk t f ≡ walk t g
@@ -53,4 +53,4 @@ walk_by (decision k value left right) f g same = rw (same k, walk_by left f g sa
 
 -- where all earlier channels may be asked for, the walk is by the properties of the definitions
 pub walks_by_properties : (t : FlatTree) (s : Surroundings) → length s.earlier ≤ t.prev_channels → leaf_reached t (place_property s) ≡ walk t.tree (property t.channel t.stream_idx s)
-walks_by_properties t s h = walk_by t.tree (asked t (place_property s)) (property t.channel t.stream_idx s) (λ k. asked_is t s k h)
+walks_by_properties t s h = walk_by t.tree (property_of t (place_property s)) (property t.channel t.stream_idx s) (λ k. asked_is t s k h)

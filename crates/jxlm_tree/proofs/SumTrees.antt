@@ -3,7 +3,7 @@ use Rattle.std.proofs.Common.{◌≡◌, ℕ, ℤ, pos, Bool, true, false, ◌==
 use Rattle.std.specs.Int.{w32, int_wrap}
 use Rattle.std.proofs.lemmas.Bool.{eqb-true, ltb-true}
 use Rattle.std.proofs.lemmas.Bool.Decides.{nat_tests}
-use Rattle.jxlm_tree.specs.FlatTree.{FlatTree, asked, leaf_reached}
+use Rattle.jxlm_tree.specs.FlatTree.{FlatTree, property_of, leaf_reached}
 use Rattle.jxlm_tree.specs.SumTrees.{GoesBySum, is_near, takes_sums, takes_sums_at}
 use Rattle.jxlm_tree.specs.Tree.{Shape, leaf, decision, walk}
 use Rattle.jxlm_tree.specs.declared.flat.Leaf.{Leaf}
@@ -64,5 +64,5 @@ module _ (c s : ℤ) (f g : ℕ → ℤ) (f0 : f 0 ≡ c) (g0 : g 0 ≡ c) (f1 :
 pub goes_by_sum : (t : FlatTree) → takes_sums_at t.channel t.stream_idx t.tree ≡ true → GoesBySum t
 goes_by_sum t h f g nine =
     let within : nat_lt 9 (16 + 4 * t.prev_channels) ≡ true = grind (arith, nat_tests) in
-    let asked_nine : asked t f 9 ≡ asked t g 9 = rw within nine in
-    same_walk (int_wrap w32 (pos t.channel)) (int_wrap w32 (pos t.stream_idx)) (asked t f) (asked t g) refl refl refl refl asked_nine t.tree h
+    let asked_nine : property_of t f 9 ≡ property_of t g 9 = rw within nine in
+    same_walk (int_wrap w32 (pos t.channel)) (int_wrap w32 (pos t.stream_idx)) (property_of t f) (property_of t g) refl refl refl refl asked_nine t.tree h

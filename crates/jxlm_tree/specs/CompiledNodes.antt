@@ -1,7 +1,7 @@
 -- How many nodes a tree is compiled to for the samples of a channel.
 use Rattle.std.specs.Prelude.{◌≡◌, ℕ, ◌+◌, ◌*◌, ◌==◌, ◌&&◌, ◌||◌, not, nat_lt, Bool, true, false, ℤ, pos, neg_ℤ, ◌+ℤ◌, int_lt, if◌then◌else◌, List, [], ◌∷◌, ◌++◌, length, fold, ◌^◌}
 use Rattle.std.specs.Int.{int_min, int_max}
-use Rattle.jxlm_tree.specs.FlatTree.{FlatTree, asked}
+use Rattle.jxlm_tree.specs.FlatTree.{FlatTree, property_of}
 use Rattle.jxlm_tree.specs.Tree.{Shape, leaf, decision}
 use Rattle.jxlm_tree.specs.declared.flat.Leaf.{Leaf}
 
@@ -10,12 +10,12 @@ abbrev pub is_known : FlatTree → ℕ → Bool
 is_known t k = k == 0 || (k == 1 || not (nat_lt k (16 + 4 * t.prev_channels)))
 
 -- the tree once each decision on such a property is taken
-abbrev pub undecided : FlatTree → Shape Leaf → Shape Leaf
-undecided t (leaf l) = leaf l
-undecided t (decision k value left right) =
+abbrev pub prune : FlatTree → Shape Leaf → Shape Leaf
+prune t (leaf l) = leaf l
+prune t (decision k value left right) =
     if is_known t k
-    then (if int_lt value (asked t (λ _. pos 0) k) then undecided t left else undecided t right)
-    else decision k value (undecided t left) (undecided t right)
+    then (if int_lt value (property_of t (λ _. pos 0) k) then prune t left else prune t right)
+    else decision k value (prune t left) (prune t right)
 
 -- the least and the greatest value of a property
 abbrev pub least : ℤ
@@ -54,18 +54,18 @@ abbrev pub if_any : ℤ → ℤ → ℕ → ℕ
 if_any low high n = if int_lt high low then 0 else n
 
 -- a cut gives each side its values
-abbrev pub parted : ℕ → ℤ → ℤ → ℤ → Takes → Takes → ℕ
-parted p low high v left right = left.within p (int_max low (v +ℤ pos 1)) high + right.within p low (int_min high v)
+abbrev pub nodes_of_sides : ℕ → ℤ → ℤ → ℤ → Takes → Takes → ℕ
+nodes_of_sides p low high v left right = left.within p (int_max low (v +ℤ pos 1)) high + right.within p low (int_min high v)
 
 -- a table is a node, and decisions on its property take no other one; else a decision is a node with both its sides, and
 -- a side takes none for its own test
 abbrev pub takes_decision : Bool → ℕ → ℤ → Takes → Takes → Takes
 takes_decision table p v left right =
-    let own = if table then 1 + parted p least greatest v left right else 1 + (left.side + right.side) in
+    let own = if table then 1 + nodes_of_sides p least greatest v left right else 1 + (left.side + right.side) in
     record {
       own = own;
       side = if table then own else left.own + right.own;
-      within = λ q low high. if p == q then parted q low high v left right else if_any low high own;
+      within = λ q low high. if p == q then nodes_of_sides q low high v left right else if_any low high own;
     }
 
 abbrev pub takes : Shape Leaf → Takes
@@ -74,7 +74,7 @@ takes (decision p v left right) = takes_decision (has_table (decision p v left r
 
 -- the nodes of the tree as it is compiled
 abbrev pub flat_nodes : FlatTree → ℕ
-flat_nodes t = (takes (undecided t t.tree)).own
+flat_nodes t = (takes (prune t t.tree)).own
 
 -- every decision asks for a property that is known beforehand
 abbrev pub AsksKnown : FlatTree → Shape Leaf → Type 0

@@ -20,8 +20,8 @@ flat_tree t c s n = record { tree = t; channel = c; stream_idx = s; prev_channel
 
 -- property k as a decision asks for it: 0 and 1 are the channel and the stream, read as 32-bit numbers; those of
 -- earlier channels that there are none of are 0; each other one is that of the cell
-abbrev pub asked : FlatTree → (ℕ → ℤ) → ℕ → ℤ
-asked t of_place k =
+abbrev pub property_of : FlatTree → (ℕ → ℤ) → ℕ → ℤ
+property_of t of_place k =
     if k == 0 then int_wrap w32 (pos t.channel)
     else if k == 1 then int_wrap w32 (pos t.stream_idx)
     else if nat_lt k (16 + 4 * t.prev_channels) then of_place k
@@ -29,7 +29,7 @@ asked t of_place k =
 
 -- the leaf to which the properties of a cell lead
 abbrev pub leaf_reached : FlatTree → (ℕ → ℤ) → Leaf
-leaf_reached t of_place = walk t.tree (asked t of_place)
+leaf_reached t of_place = walk t.tree (property_of t of_place)
 
 -- the properties that a cell gives are those of f
 abbrev pub PropertiesAre : {P : Type 0} → (P → ℕ → ℤ → Type 0) → P → (ℕ → ℤ) → Type 0

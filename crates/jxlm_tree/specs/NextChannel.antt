@@ -1,13 +1,13 @@
 -- When the nodes of a tree serve the next channel, too.
 use Rattle.std.specs.Prelude.{ℕ, ◌+◌, ◌&&◌, not, Bool, true, false, ℤ, pos, int_lt, if◌then◌else◌, Option, Some, None}
 use Rattle.jxlm_tree.specs.CompiledNodes.{is_known}
-use Rattle.jxlm_tree.specs.FlatTree.{FlatTree, asked, flat_tree}
+use Rattle.jxlm_tree.specs.FlatTree.{FlatTree, property_of, flat_tree}
 use Rattle.jxlm_tree.specs.Tree.{Shape, leaf, decision}
 use Rattle.jxlm_tree.specs.declared.flat.Leaf.{Leaf}
 
 -- to which side a decision goes, where its property is known beforehand: true to the left
 abbrev pub side : FlatTree → ℕ → ℤ → Option Bool
-side t k value = if is_known t k then Some (int_lt value (asked t (λ _. pos 0) k)) else None
+side t k value = if is_known t k then Some (int_lt value (property_of t (λ _. pos 0) k)) else None
 
 -- what is asked of a decision's sides, given where it goes for the one channel and for the other
 abbrev pub goes_alike : Option Bool → Option Bool → Bool → Bool → Bool

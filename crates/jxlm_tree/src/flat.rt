@@ -5,7 +5,7 @@ ghost use Rattle.std.proofs.Common.{reverse};
 ghost use Rattle.std.specs.Int.{w32, int_wrap};
 ghost use Rattle.jxlm_bits.specs.Bits.{bytes_of};
 ghost use Rattle.jxlm_tree.specs.DecodingSamples.{SampleGives};
-ghost use Rattle.jxlm_tree.specs.CompiledNodes.{AsksKnown, flat_nodes, undecided};
+ghost use Rattle.jxlm_tree.specs.CompiledNodes.{AsksKnown, flat_nodes, prune};
 ghost use Rattle.jxlm_tree.specs.NextChannel.{next_alike};
 ghost use Rattle.jxlm_tree.specs.FlatTree.{PropertiesAre, ClustersStandIn, FlatTree, GoesWithoutWeights, HasMultiplier, NamesEarlier, ReadsEarlierBelow, flat_tree, leaf_reached, needs_weights, residual_of};
 ghost use Rattle.jxlm_predictor.specs.Properties.{Surroundings, place_property, property};
@@ -35,7 +35,7 @@ use jxlm_bits::decoder::Decoder;
 use jxlm_bits::error::Result;
 pub use jxlm_predictor::place::{AskedProperty, PlaceProperties};
 use jxlm_predictor::predictor::Predictor;
-use jxlm_predictor::reduced::read_as_signed;
+use jxlm_weighted::reduced::read_as_signed;
 use std::alloc::Global;
 use std::marker::Model;
 use std::rc::Rc;
@@ -466,6 +466,6 @@ pub fn a_sample_takes_few_steps()
 /// Where no decision is left once those that are known beforehand are taken, there is one flat node; so also where all
 /// decisions ask for what is known: the channel, the stream, or an earlier channel that there is none of.
 pub fn a_decided_tree_is_one_node()
-    ensures left { (t : FlatTree) (l : Leaf) → undecided t t.tree ≡ leaf l → flat_nodes t ≡ 1 }
+    ensures left { (t : FlatTree) (l : Leaf) → prune t t.tree ≡ leaf l → flat_nodes t ≡ 1 }
     ensures known { (t : FlatTree) → AsksKnown t t.tree → flat_nodes t ≡ 1 }
 {}

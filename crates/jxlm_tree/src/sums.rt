@@ -7,7 +7,7 @@ ghost use Rattle.jxlm_tree.specs.Inner.TreeShape.{shape_of};
 use crate::flat::{FlatMaTree, Leaf};
 use crate::tree::MaTreeNode;
 use jxlm_predictor::predictor::Predictor;
-use jxlm_predictor::reduced::read_as_signed;
+use jxlm_weighted::reduced::read_as_signed;
 
 impl Leaf {
     // Whether it predicts by the gradient, with an offset and a multiplier of 8 bits.

@@ -21,17 +21,17 @@ use Rattle.jxlm_encode_roundtrip.proofs.EncodedPictures.{encoded_is_picture}
 use Rattle.jxl_text.specs.Reading.{IsTextOf}
 use Rattle.jxlm_transform.specs.Channels.{Channel, ChannelList, image_channel}
 use Rattle.jxlm_transform.specs.ChannelSteps.{CodedList}
-use Rattle.jxlm_transform.specs.Params.{sized}
+use Rattle.jxlm_transform.specs.Params.{channel_params}
 use Rattle.jxlm_transform.specs.declared.param.ChannelShift.TheVariants.{Shifts}
-use Rattle.jxlm_predictor.specs.WeightsHeader.{default_weights}
+use Rattle.jxlm_weighted.specs.WeightsHeader.{default_weights}
 use Rattle.jxlm_predictor.specs.declared.predictor.Predictor.TheVariants.{Gradient}
 
 -- ---- the channels of an image are those that its encoder is given
 
-each_given : (image : List (Grid ℤ)) → map image_channel (map (λ g. sized g.width g.height (Shifts 0)) image) ≡ map (λ g. plain_channel g.width g.height) image
+each_given : (image : List (Grid ℤ)) → map image_channel (map (λ g. channel_params g.width g.height (Shifts 0)) image) ≡ map (λ g. plain_channel g.width g.height) image
 each_given [] = refl
 each_given (g ∷ gs) =
-    ap (λ (c : Channel). c ∷ map image_channel (map (λ h. sized h.width h.height (Shifts 0)) gs)) (each_asked g.width g.height)
+    ap (λ (c : Channel). c ∷ map image_channel (map (λ h. channel_params h.width h.height (Shifts 0)) gs)) (each_asked g.width g.height)
     ∙ ap (λ (cs : List Channel). plain_channel g.width g.height ∷ cs) (each_given gs)
 
 list_given : (image : List (Grid ℤ)) → given_list image ≡ channels_of image

@@ -8,7 +8,7 @@ use Rattle.std.proofs.lemmas.List.{length-replicate}
 use Rattle.std.proofs.lemmas.List.Elements.{All-replicate}
 use Rattle.std.proofs.lemmas.List.Sums.{list_all-from_AllPass}
 use Rattle.std.proofs.lemmas.Bool.Decides.{nat_tests}
-use Rattle.jxlm_transform.specs.Params.{IsValidParams, IsValidChannel, IsSide, sized}
+use Rattle.jxlm_transform.specs.Params.{IsValidParams, IsValidChannel, IsSide, channel_params}
 use Rattle.jxlm_transform.specs.declared.param.ChannelShift.TheVariants.{Shifts}
 use Rattle.jxlm_transform.specs.declared.param.GradientSums.TheVariants.{Wrapped}
 use Rattle.jxlm_transform.specs.declared.param.PaletteTables.TheVariants.{OfColours}
@@ -28,16 +28,16 @@ use Rattle.jxl_modular.specs.Picture.{IsPicture, PictureFails}
 use Rattle.jxl_modular.proofs.PictureLaws.{no_memory}
 
 pub valid_params : {D : Type 0} (width height channels bit_depth : ℕ) (p : ModularParams D) → p.group_dim ≡ 256 → p.bit_depth ≡ bit_depth →
-    p.channels.items ≡ replicate channels (sized width height (Shifts 0)) → channels ≤ 2 ^ 20 → bit_depth ≤ 32 → IsSide width → IsSide height → IsValidParams p
+    p.channels.items ≡ replicate channels (channel_params width height (Shifts 0)) → channels ≤ 2 ^ 20 → bit_depth ≤ 32 → IsSide width → IsSide height → IsValidParams p
 valid_params width height channels bit_depth p g b is many deep wide high =
     let flat : 0 ≤ 30 = omega arith in
-    let one : IsValidChannel (sized width height (Shifts 0)) = (wide, high, flat) in
-    let count : length p.channels.items ≡ channels = ap length is ∙ length-replicate channels (sized width height (Shifts 0)) in
+    let one : IsValidChannel (channel_params width height (Shifts 0)) = (wide, high, flat) in
+    let count : length p.channels.items ≡ channels = ap length is ∙ length-replicate channels (channel_params width height (Shifts 0)) in
     record {
       group_dim = rw g (omega arith, omega arith, (8, refl));
       bit_depth = omega (arith, b, deep);
       count = omega (arith, count, many);
-      channels = subst (All IsValidChannel) (sym is) (All-replicate IsValidChannel channels (sized width height (Shifts 0)) one);
+      channels = subst (All IsValidChannel) (sym is) (All-replicate IsValidChannel channels (channel_params width height (Shifts 0)) one);
     }
 
 -- ---- the channels that are asked for
@@ -45,7 +45,7 @@ valid_params width height channels bit_depth p g b is many deep wide high =
 size_same : (n : ℕ) → div_ceil n (2 ^ 0) ≡ n
 size_same n = let one = div-one n in let rest : n % 1 ≡ 0 = omega arith in rw (one, rest) (omega arith)
 
-pub each_asked : (width height : ℕ) → image_channel (sized width height (Shifts 0)) ≡ plain_channel width height
+pub each_asked : (width height : ℕ) → image_channel (channel_params width height (Shifts 0)) ≡ plain_channel width height
 each_asked width height =
     ap (λ n. record { width = n; height = div_ceil height (2 ^ 0); original_width = width; original_height = height; hshift = pos 0; vshift = pos 0; original_shift = Shifts 0; palette_tables = OfColours; gradient_sums = Wrapped }) (size_same width)
     ∙ ap (λ n. record { width = width; height = n; original_width = width; original_height = height; hshift = pos 0; vshift = pos 0; original_shift = Shifts 0; palette_tables = OfColours; gradient_sums = Wrapped }) (size_same height)
@@ -54,10 +54,10 @@ replicated : (n : ℕ) (c : ModularChannelParams) (d : Channel) → image_channe
 replicated zero c d same = refl
 replicated (suc n) c d same = ap (λ (e : Channel). e ∷ map image_channel (replicate n c)) same ∙ ap (λ (rest : List Channel). d ∷ rest) (replicated n c d same)
 
-pub asked : (width height n : ℕ) (given : List ModularChannelParams) → given ≡ replicate n (sized width height (Shifts 0)) → image_list given ≡ channels_asked width height n
+pub asked : (width height n : ℕ) (given : List ModularChannelParams) → given ≡ replicate n (channel_params width height (Shifts 0)) → image_list given ≡ channels_asked width height n
 asked width height n given is =
     ap (λ (cs : List ModularChannelParams). image_list cs) is
-    ∙ ap (λ (cs : List Channel). record { channels = cs; nb_meta = 0 }) (replicated n (sized width height (Shifts 0)) _ (each_asked width height))
+    ∙ ap (λ (cs : List Channel). record { channels = cs; nb_meta = 0 }) (replicated n (channel_params width height (Shifts 0)) _ (each_asked width height))
 
 -- they are of one picture
 same_picture : (c : Channel) → is_of_picture_of c c ≡ true
@@ -67,7 +67,7 @@ alike : (n : ℕ) (c : Channel) → one_picture (replicate n c) ≡ true
 alike zero c = refl
 alike (suc n) c = list_all-from_AllPass (is_of_picture_of c) (replicate n c) (All-replicate (λ (d : Channel). is_of_picture_of c d ≡ true) n c (same_picture c))
 
-pub alike_asked : (width height n : ℕ) (given : List ModularChannelParams) → given ≡ replicate n (sized width height (Shifts 0)) → one_picture (image_list given).channels ≡ true
+pub alike_asked : (width height n : ℕ) (given : List ModularChannelParams) → given ≡ replicate n (channel_params width height (Shifts 0)) → one_picture (image_list given).channels ≡ true
 alike_asked width height n given is = ap (λ (l : ChannelList). one_picture l.channels) (asked width height n given is) ∙ alike n _
 
 -- ---- what comes of a picture at the start of the bytes

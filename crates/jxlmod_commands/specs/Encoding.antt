@@ -13,7 +13,7 @@ use Rattle.jxlmod_commands.specs.declared.arguments.Format.TheVariants.{First, S
 use Rattle.jxlmod_commands.specs.declared.refusal.Refusal.{Refusal}
 use Rattle.jxlmod_commands.specs.declared.refusal.Refusal.TheVariants.{Image, Text, Encoder}
 use Rattle.jxl_text.specs.Reading.{IsTextOf, TextFails}
-use Rattle.jxlm_predictor.specs.WeightsHeader.{default_weights}
+use Rattle.jxlm_weighted.specs.WeightsHeader.{default_weights}
 use Rattle.jxlm_predictor.specs.declared.predictor.Predictor.TheVariants.{Gradient}
 use Rattle.jxlm_encode_write.specs.declared.tree.EncodeNode.{EncodeNode}
 use Rattle.jxlm_encode_write.specs.declared.tree.EncodeNode.TheVariants.{Leaf}

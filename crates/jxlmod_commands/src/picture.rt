@@ -1,6 +1,6 @@
 //! The text of a picture, from its bytes.
 ghost use Rattle.std.specs.Prelude.{◌≡◌, ◌≤◌, ◌<◌, ◌^◌, pos, MatchResult, IfOk, None, replicate, string_bytes};
-ghost use Rattle.jxlm_transform.specs.Params.{IsGroupDim, params_of, sized};
+ghost use Rattle.jxlm_transform.specs.Params.{IsGroupDim, params_of, channel_params};
 ghost use Rattle.jxlm_transform.specs.declared.param.ChannelShift.TheVariants.{Shifts};
 ghost use Rattle.jxlmod_commands.specs.Arguments.{ArePossible};
 ghost use Rattle.jxlmod_commands.specs.Channels.{channels_asked};
@@ -29,7 +29,7 @@ fn channel_list(
     height: u32,
     count: u32,
 ) -> Result<Vec<ModularChannelParams>, OutOfMemory>
-    ensures { IfOk result (λ v. v.items ≡ replicate count (sized width height (Shifts 0))) }
+    ensures { IfOk result (λ v. v.items ≡ replicate count (channel_params width height (Shifts 0))) }
 {
     let channel = ModularChannelParams::new(width, height);
     Ok(vec![in alloc; channel; count as usize]?)

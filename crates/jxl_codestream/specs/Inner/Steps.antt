@@ -5,7 +5,7 @@ use Rattle.jxlm_bits.specs.ErrorKind.{BadProfile, ErrorAt, UnlessMemory, kind_of
 use Rattle.jxlm_bits.specs.Grammar.{Grammar, IsErrorAt, give, fail, either, ◌>>=◌}
 use Rattle.jxlm_bits.specs.declared.error.Error.{Error}
 use Rattle.jxl_image_header.specs.Fields.{long, number_meant}
-use Rattle.jxlm_bits.specs.Tokens.{After, Tokens, called, token}
+use Rattle.jxlm_bits.specs.Tokens.{After, Tokens, decoder_call, token}
 use Rattle.jxl_codestream.specs.Orders.{context_of}
 use Rattle.jxl_codestream.specs.Profiles as profiles
 
@@ -22,7 +22,7 @@ StateReads (Err e) s q reading = UnlessMemory (kind_of e) (IsErrorAt reading (ki
 
 -- the decoder of this number of contexts, at the begin of its tokens
 abbrev pub decoder : {S : Type 0} → Meaning S → ℕ → Grammar S
-decoder d contexts = called (λ bytes p. d.parse bytes p contexts) >>= λ s. called (λ bytes p. d.begin s bytes p)
+decoder d contexts = decoder_call (λ bytes p. d.parse bytes p contexts) >>= λ s. decoder_call (λ bytes p. d.begin s bytes p)
 
 -- how many digits a code of n numbers has
 abbrev pub told_digits : {S : Type 0} → Meaning S → ℕ → Tokens S ℕ

@@ -11,7 +11,7 @@ use Rattle.jxlm_transform.specs.ChannelSteps.{Step}
 use Rattle.jxlm_transform.specs.Kinds.{is_palette, is_squeeze}
 use Rattle.jxlm_transform.specs.Steps.{steps_in}
 use Rattle.jxlm_tree.specs.Tree.{Config}
-use Rattle.jxlm_predictor.specs.declared.predictor.WpHeader.{WpHeader}
+use Rattle.jxlm_weighted.specs.declared.weights.WpHeader.{WpHeader}
 use Rattle.jxl_modular.specs.Image.{Image}
 
 -- the image of these fields, in the order in which a program keeps them

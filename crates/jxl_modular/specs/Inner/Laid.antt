@@ -8,7 +8,7 @@ use Rattle.jxlm_transform.specs.Params.{IsGroupDim, IsValidChannel}
 use Rattle.jxlm_transform.specs.declared.param.ModularChannelParams.{ModularChannelParams}
 use Rattle.jxlm_transform.specs.ChannelSteps.{list_after_all}
 use Rattle.jxlm_transform.specs.Steps.{HasChannels, HasWeights}
-use Rattle.jxlm_predictor.specs.SelfCorrecting.{IsHeader}
+use Rattle.jxlm_weighted.specs.SelfCorrecting.{IsHeader}
 use Rattle.jxl_modular.specs.Image.{Image, coded_list, given_list}
 
 -- channels of an image, before any transform: none is a meta channel

@@ -12,7 +12,7 @@ use Rattle.jxlm_transform.specs.Channels.{AreRegionsOf, Channel, IsNarrow, infos
 use Rattle.jxlm_transform.specs.declared.channels.PlacedChannel.{PlacedChannel}
 use Rattle.jxlm_transform.specs.ChannelSteps.{Step}
 use Rattle.jxlm_tree.specs.Tree.{Config}
-use Rattle.jxlm_predictor.specs.declared.predictor.WpHeader.{WpHeader}
+use Rattle.jxlm_weighted.specs.declared.weights.WpHeader.{WpHeader}
 use Rattle.jxlm_nested.specs.NestedParts.{head_of, nested_list, nested_places, regions_in}
 use Rattle.jxlm_nested.specs.Opened.{IsOpened, steps_of_header}
 use Rattle.jxl_modular.specs.Layers.{Layer}

@@ -3,13 +3,13 @@ use Rattle.std.specs.Prelude.{◌≡◌, ℕ, ◌+◌, ◌*◌, ◌&&◌, nat_lt
 use Rattle.std.specs.Option.{ok_or, option_and_then, option_map_or}
 use Rattle.jxlm_bits.specs.Decoding.{Found, Meaning}
 use Rattle.jxlm_bits.specs.ErrorKind.{BadEnum, BadProfile, ErrorAt, ErrorKind, UnlessMemory}
-use Rattle.jxlm_bits.specs.Grammar.{Grammar, IsErrorAt, ◌>>=◌}
+use Rattle.jxlm_bits.specs.Grammar.{Grammar, IsErrorAt, ◌>>=◌, from_result}
 use Rattle.jxl_image_header.specs.Fields.{number_meant}
 use Rattle.jxl_image_header.specs.declared.size.Size.{Size}
-use Rattle.jxlm_bits.specs.Tokens.{After, Tokens, called, token}
+use Rattle.jxlm_bits.specs.Tokens.{After, Tokens, decoder_call, token}
 use Rattle.jxl_patches.specs.Dictionaries.{patches_of}
 use Rattle.jxl_patches.specs.Errors.{patch_kind}
-use Rattle.jxl_patches.specs.Patches.{Patches, checked, most_rectangles}
+use Rattle.jxl_patches.specs.Patches.{Patches, most_rectangles}
 use Rattle.jxl_patches.specs.declared.dictionary.Dictionary.{Dictionary}
 use Rattle.jxl_patches.specs.declared.dictionary.Rectangle.{Rectangle}
 use Rattle.jxl_patches.specs.declared.error.PatchError.{PatchError}
@@ -32,7 +32,7 @@ Checks (Err e) check = check ≡ Err (patch_kind e)
 
 -- the decoder of this number of contexts, at the begin of its tokens
 abbrev pub decoder : {S : Type 0} → Meaning S → ℕ → Grammar S
-decoder d contexts = called (λ bytes p. d.parse bytes p contexts) >>= λ s. called (λ bytes p. d.begin s bytes p)
+decoder d contexts = decoder_call (λ bytes p. d.parse bytes p contexts) >>= λ s. decoder_call (λ bytes p. d.begin s bytes p)
 
 -- the slot of a rectangle
 abbrev pub slot : {S : Type 0} → Meaning S → List (Option Size) → Tokens S ℕ
@@ -53,7 +53,7 @@ count_within size done cells r limit v = if nat_le (done + (v + 1)) (4 * most_re
     then (if nat_le (cells + r.width * r.height * (v + 1)) limit then Ok (v + 1) else Err (BadProfile (codes "patches of too many cells"))) else Err (BadEnum (codes "places of a patch") v)
 
 abbrev pub place_count : {S : Type 0} → Meaning S → Size → ℕ → ℕ → Rectangle → ℕ → Tokens S ℕ
-place_count d size done cells r limit = token d 7 (λ v. checked (count_within size done cells r limit v))
+place_count d size done cells r limit = token d 7 (λ v. from_result (count_within size done cells r limit v))
 
 -- a coordinate, from which so much lies within a side
 abbrev pub inside : ℕ → ℕ → ℕ → Option ℕ → Result ℕ ErrorKind

@@ -14,7 +14,7 @@ use Rattle.jxlm_tree.specs.declared.flat.Leaf.{Leaf}
 use Rattle.jxlm_samples.specs.Part.{Part, cell_count, cells_of}
 use Rattle.jxlm_encode_tokens.specs.Tokens.{AreTokensOf}
 use Rattle.jxlm_transform.specs.ChannelSteps.{CodedList}
-use Rattle.jxlm_predictor.specs.WeightsHeader.{default_weights}
+use Rattle.jxlm_weighted.specs.WeightsHeader.{default_weights}
 use Rattle.jxlm_encode_write.specs.declared.tree.EncodeNode.{EncodeNode}
 use Rattle.jxlm_encode.specs.Encoded.{AreAccepted, IsTreeGiven, coded_part, given_list}
 

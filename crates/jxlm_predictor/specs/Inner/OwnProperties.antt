@@ -2,7 +2,7 @@
 use Rattle.std.specs.Prelude.{ℕ, ℤ, pos, ◌+ℤ◌, ◌-ℤ◌, List, [], ◌∷◌, map}
 use Rattle.std.specs.Int.{w32, int_wrap}
 use Rattle.jxlm_bits.specs.Numbers.{absolute}
-use Rattle.jxlm_predictor.specs.Neighbours.{Neighbours}
+use Rattle.jxlm_weighted.specs.Neighbours.{Neighbours}
 use Rattle.jxlm_predictor.specs.Properties.{Surroundings, own_properties}
 
 -- properties 0 to 15 at (x, y) with these neighbours, before they are reduced, where `change` is property 9 of the

@@ -11,7 +11,7 @@ use Rattle.jxlm_tree.specs.Tree.{Shape}
 use Rattle.jxlm_tree.specs.declared.flat.Leaf.{Leaf}
 use Rattle.jxlm_tree.specs.declared.paths.Path.{Path}
 use Rattle.jxlm_tree.specs.declared.paths.Path.TheVariants as path
-use Rattle.jxlm_predictor.specs.Sums.{clamped}
+use Rattle.jxlm_predictor.specs.Sums.{clamp_sum}
 use Rattle.jxlm_predictor.specs.declared.predictor.Predictor.TheVariants as predictor
 use Rattle.jxlm_samples.specs.Coded.{sample_of}
 use Rattle.jxlm_samples.specs.RowNeighbours.{gradient_in, north_in, north_west_in, west_in}
@@ -78,13 +78,13 @@ AreLeavesOf t (Table c) = IsTableOf t c.now × IsOnGradient c.now
 
 -- a sum as property 9 has it, clamped or reduced to 32 bits
 abbrev pub sum_by : Bool → ℤ → ℤ
-sum_by true z = clamped z
+sum_by true z = clamp_sum z
 sum_by false z = int_wrap w32 z
 
 -- property 9 in column x of a row, from the row above and the row: west less north west plus north, clamped or reduced
 -- to 32 bits
 abbrev pub property_9_in : List ℤ → List ℤ → Bool → ℕ → ℤ
-property_9_in above row clamped x = sum_by clamped (west_in above row x -ℤ north_west_in above row x +ℤ north_in above row x)
+property_9_in above row clamp_sum x = sum_by clamp_sum (west_in above row x -ℤ north_west_in above row x +ℤ north_in above row x)
 
 -- two samples are those to the left of column x of a row, and above that one
 pub record AreLeft {X : Type 0} (to_int : X → ℤ) (above row : List X) (x : ℕ) (w nw : X) : Type 0 where
@@ -109,5 +109,5 @@ zero_rule d w bytes widest l = leaf_rule d w bytes widest (λ row. l) (λ row. p
 
 -- over the clamped gradient, at the leaf where property 9 is as it is there
 abbrev pub gradient_rule : {S : Type 0} → Meaning S → Width → Bool → List ℕ → ℕ → Leaves → List ℤ → Rule S
-gradient_rule d w clamped bytes widest leaves above =
-    leaf_rule d w bytes widest (λ row. leaf_by leaves (property_9_in above row clamped (length row))) (λ row. gradient_in above row (length row))
+gradient_rule d w clamp_sum bytes widest leaves above =
+    leaf_rule d w bytes widest (λ row. leaf_by leaves (property_9_in above row clamp_sum (length row))) (λ row. gradient_in above row (length row))

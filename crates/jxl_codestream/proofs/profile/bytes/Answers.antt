@@ -4,7 +4,7 @@ use Rattle.jxlm_bits.specs.Bits.{bytes_of, position_of}
 use Rattle.jxlm_bits.specs.ErrorKind.{kind_of, UnlessMemory}
 use Rattle.jxlm_bits.specs.Grammar.{IsErrorAt, give}
 use Rattle.jxl_codestream.specs.Profiles.{context_of, one_byte}
-use Rattle.jxlm_bits.specs.Tokens.{told}
+use Rattle.jxlm_bits.specs.Tokens.{token_value}
 use Rattle.jxlm_bits.proofs.Chains.{chain_step, chain_fails, chain_ends}
 use Rattle.jxl_codestream.proofs.ProfileBytes.{byte_ok}
 use Rattle.jxlm_bits.proofs.TokenFields.{token_refuses}
@@ -21,7 +21,7 @@ returns-in_err-value-clause-gives g c =
     let at = position_of c.loop-i.bits in
     let q = position_of c.token.new.bits in
     let context : context_of i.all ≡ c.context_of.result = rw (i.count, i.last, i.before) (sym c.context_of.ensures.context) in
-    let one : UnlessMemory error (IsErrorAt ((told d (context_of i.all) s).read bytes at) error q) = rw context (rw i.same at c.in_err-value.ensures.gives) in
+    let one : UnlessMemory error (IsErrorAt ((token_value d (context_of i.all) s).read bytes at) error q) = rw context (rw i.same at c.in_err-value.ensures.gives) in
     let this = chain_fails (one_byte d) bytes c.args.count c.loop-i.i at q i.all s error c.loop-i-test.true
     (token_refuses d bytes at q s (context_of i.all) (λ v. give (v % 256 ∷ i.all)) error one) in
     rw (p.1, p.2) (rw i.read at this)
@@ -37,7 +37,7 @@ loop-i-preserved g c =
     let at = position_of c.loop-i.bits in
     let q = position_of c.token.new.bits in
     let context : context_of i.all ≡ c.context_of.result = rw (i.count, i.last, i.before) (sym c.context_of.ensures.context) in
-    let one : (told d (context_of i.all) s).read bytes at ≡ Ok (record { value = record { value = v; state = t }; position = q }) = rw context (rw i.same at c.in_ok-value.ensures.gives) in
+    let one : (token_value d (context_of i.all) s).read bytes at ≡ Ok (record { value = record { value = v; state = t }; position = q }) = rw context (rw i.same at c.in_ok-value.ensures.gives) in
     record {
       same = c.token.ensures.bytes ∙ i.same;
       clusters = ap (λ (xs : List ℕ). length xs) c.in_ok-value.ensures.clusters ∙ i.clusters;

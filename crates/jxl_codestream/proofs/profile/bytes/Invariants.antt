@@ -1,7 +1,7 @@
 use Rattle.std.proofs.Common.{◌≡◌, ◌-◌, ℕ, List, [], length}
 use Rattle.std.specs.Prelude.{slice_index}
 use Rattle.jxlm_bits.specs.Bits.{bytes_of, position_of}
-use Rattle.jxlm_bits.specs.Turns.{chained}
+use Rattle.jxlm_bits.specs.Turns.{chain}
 use Rattle.jxl_codestream.specs.Profiles.{one_byte}
 use Rattle.jxl_codestream.proofs.profile.bytes.Given as goal
 
@@ -13,6 +13,6 @@ invariant-loop-i g l = record {
   count : length all ≡ l.i;
   last : slice_index all 0 ≡ l.last;
   before : slice_index all 1 ≡ l.before;
-  read : (chained (one_byte g.D.Decoder.meaning) (l.count - l.i) all l.decoder).read (bytes_of l.fn.bits) (position_of l.bits)
-      ≡ (chained (one_byte g.D.Decoder.meaning) l.count [] l.fn.decoder).read (bytes_of l.fn.bits) (position_of l.fn.bits);
+  read : (chain (one_byte g.D.Decoder.meaning) (l.count - l.i) all l.decoder).read (bytes_of l.fn.bits) (position_of l.bits)
+      ≡ (chain (one_byte g.D.Decoder.meaning) l.count [] l.fn.decoder).read (bytes_of l.fn.bits) (position_of l.fn.bits);
 }

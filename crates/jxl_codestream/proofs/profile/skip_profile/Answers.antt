@@ -4,7 +4,7 @@ use Rattle.jxlm_bits.specs.Bits.{bytes_of, position_of}
 use Rattle.jxlm_bits.specs.ErrorKind.{kind_of, UnlessMemory}
 use Rattle.jxlm_bits.specs.Grammar.{IsErrorAt}
 use Rattle.jxl_codestream.specs.Inner.Steps.{decoder}
-use Rattle.jxlm_bits.specs.Turns.{chained}
+use Rattle.jxlm_bits.specs.Turns.{chain}
 use Rattle.jxl_codestream.specs.Profiles.{one_byte}
 use Rattle.jxl_codestream.proofs.ProfileSteps.{profile_fails}
 use Rattle.jxl_codestream.proofs.profile.skip_profile.Goals as goal
@@ -19,6 +19,6 @@ returns-in_err-bytes-clause-gives g c =
     let b = position_of c.decoder.new.bits in
     let q = position_of c.bytes.new.bits in
     let second : (decoder d 41).read bytes a ≡ Ok (record { value = c.in_ok-decoder.decoder; position = b }) = rw c.length_within.ensures.bytes at c.in_ok-decoder.ensures.gives in
-    let third : UnlessMemory error (IsErrorAt ((chained (one_byte d) c.in_ok-length.length [] c.in_ok-decoder.decoder).read bytes b) error q) =
+    let third : UnlessMemory error (IsErrorAt ((chain (one_byte d) c.in_ok-length.length [] c.in_ok-decoder.decoder).read bytes b) error q) =
     rw (c.decoder.ensures.bytes ∙ c.length_within.ensures.bytes) at c.in_err-bytes.ensures.gives in
     rw (p.1, p.2) (profile_fails d c.args.limit bytes (position_of c.args.bits.now) c.in_ok-length.length a c.in_ok-decoder.decoder b error q c.in_ok-length.ensures.gives second third)

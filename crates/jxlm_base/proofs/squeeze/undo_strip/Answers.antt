@@ -6,7 +6,7 @@ use Rattle.jxlm_lanes.specs.Pairs.{number_at, line_in}
 use Rattle.jxlm_base.specs.Inner.Unsqueeze.{column_in}
 use Rattle.jxlm_lanes.proofs.NumberAt.{number_same}
 use Rattle.jxlm_lanes.proofs.SqueezeLaws.{IsUnsqueezed_same}
-use Rattle.jxlm_base.proofs.Turned.{grid_line_within, grid_line_numbers}
+use Rattle.jxlm_base.proofs.GridLines.{grid_line_within, grid_line_numbers}
 use Rattle.jxlm_base.proofs.squeeze.undo_strip.Goals as goal
 
 pub unsqueeze_strip-requires-clause-inside : goal.unsqueeze_strip-requires-clause-inside

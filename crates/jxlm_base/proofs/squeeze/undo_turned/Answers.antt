@@ -6,7 +6,7 @@ use Rattle.jxlm_lanes.specs.Pairs.{number_at, line_in}
 use Rattle.jxlm_base.specs.Inner.Unsqueeze.{row_in}
 use Rattle.jxlm_lanes.proofs.NumberAt.{number_same}
 use Rattle.jxlm_lanes.proofs.SqueezeLaws.{IsUnsqueezed_same}
-use Rattle.jxlm_base.proofs.Turned.{turned_numbers}
+use Rattle.jxlm_base.proofs.GridLines.{turned_numbers}
 use Rattle.jxlm_base.proofs.squeeze.undo_turned.Goals as goal
 
 pub returns-clause-undone : goal.returns-clause-undone

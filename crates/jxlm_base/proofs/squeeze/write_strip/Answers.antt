@@ -1,7 +1,7 @@
 use Rattle.std.proofs.Common.{◌≡◌, ℕ, ◌+◌, ◌*◌, ◌<◌, length, arith, ◌∙◌, refl, subst}
 use Rattle.std.specs.Prelude.{slice_get, slice_range}
 use Rattle.jxlm_base.specs.Subgrid.{whole, IsSameOutside}
-use Rattle.jxlm_base.proofs.Parts.{get-slice_range}
+use Rattle.jxlm_kernels.proofs.Slices.{get-slice_range}
 use Rattle.jxlm_base.proofs.RowWrites.{line_within, length-slice_range, outside_none, lines_outside, lines_written}
 use Rattle.jxlm_base.proofs.squeeze.write_strip.Goals as goal
 

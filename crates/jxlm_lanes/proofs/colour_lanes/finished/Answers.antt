@@ -1,6 +1,6 @@
 use Rattle.std.proofs.Common.{◌≡◌, ◌∙◌, ◌%◌, ◌/◌, ap, sym, cond, eqb, ℕ, ℤ, List, map, to_z, of_z, w16}
 use Rattle.std.proofs.lemmas.Bool.{eq-eqb, ne_eqb}
-use Rattle.jxlm_lanes.specs.Colour.{triple, plus, halved, from_luma, from_differences}
+use Rattle.jxlm_lanes.specs.Colour.{triple, plus, floor_half, from_luma, from_differences}
 use Rattle.jxlm_lanes.specs.Inner.Lanes.{lane}
 use Rattle.jxlm_lanes.proofs.ColourLaws.{triple_same}
 use Rattle.jxlm_lanes.proofs.Each.{eight_back, lane_back}
@@ -64,7 +64,7 @@ returns-clause-value c j lt =
     let third : lane c.third_samples-f.result j ≡ f =
     c.third_samples-f.ensures.value j lt ∙ ap (λ u. cond (eqb (ty % 2) 1) (plus w16 u (lane (back c.args.a) j)) u) at_z ∙ ap (λ u. cond (eqb (ty % 2) 1) (plus w16 z u) z) at_x in
     let at_f = lane_back c.third_samples-f.result j c.third_samples-f.ensures.eight ∙ third in
-    let e : ℤ → ℤ → ℤ → ℤ = λ u v h. cond (eqb (ty / 2) 1) (plus w16 v u) (cond (eqb (ty / 2) 2) (plus w16 v (halved (plus w16 u h))) v) in
+    let e : ℤ → ℤ → ℤ → ℤ = λ u v h. cond (eqb (ty / 2) 1) (plus w16 v u) (cond (eqb (ty / 2) 2) (plus w16 v (floor_half (plus w16 u h))) v) in
     let second : lane c.second_samples.result j ≡ e x y f =
     c.second_samples.ensures.value j lt ∙ ap (λ u. e u (lane (back c.args.b) j) (lane (back c.third_samples-f.result) j)) at_x
     ∙ ap (λ u. e x u (lane (back c.third_samples-f.result) j)) at_y ∙ ap (e x y) at_f in

@@ -1,5 +1,5 @@
 use Rattle.std.proofs.Common.{◌≡◌, ◌∙◌, ap, ℤ, w16}
-use Rattle.jxlm_lanes.specs.Colour.{plus, minus, halved}
+use Rattle.jxlm_lanes.specs.Colour.{plus, minus, floor_half}
 use Rattle.jxlm_lanes.specs.Inner.Lanes.{lane}
 use Rattle.jxlm_lanes.proofs.ColourLaws.{triple_same}
 use Rattle.jxlm_lanes.proofs.Each.{eight_back, lane_back, two}
@@ -13,15 +13,15 @@ returns-clause-value c j lt =
     let at_x = lane_back c.args.a j c.requires.a in
     let at_y = lane_back c.args.b j c.requires.b in
     let at_z = lane_back c.args.c j c.requires.c in
-    let m : ℤ = minus w16 x (halved z) in
+    let m : ℤ = minus w16 x (floor_half z) in
     let e : ℤ = plus w16 z m in
-    let f : ℤ = minus w16 m (halved y) in
-    let half_z : lane c.halves.result j ≡ halved z = c.halves.ensures.value j lt ∙ ap halved at_z in
+    let f : ℤ = minus w16 m (floor_half y) in
+    let half_z : lane c.halves.result j ≡ floor_half z = c.halves.ensures.value j lt ∙ ap floor_half at_z in
     let middle : lane c.differences-middle.result j ≡ m =
     c.differences-middle.ensures.value j lt ∙ two (minus w16) _ _ _ _ at_x (lane_back c.halves.result j c.halves.ensures.eight ∙ half_z) in
     let at_m = lane_back c.differences-middle.result j c.differences-middle.ensures.eight ∙ middle in
     let second : lane c.sums-e.result j ≡ e = c.sums-e.ensures.value j lt ∙ two (plus w16) _ _ _ _ at_z at_m in
-    let half_y : lane c.halves-2.result j ≡ halved y = c.halves-2.ensures.value j lt ∙ ap halved at_y in
+    let half_y : lane c.halves-2.result j ≡ floor_half y = c.halves-2.ensures.value j lt ∙ ap floor_half at_y in
     let third : lane c.differences-f.result j ≡ f =
     c.differences-f.ensures.value j lt ∙ two (minus w16) _ _ _ _ at_m (lane_back c.halves-2.result j c.halves-2.ensures.eight ∙ half_y) in
     let at_f = lane_back c.differences-f.result j c.differences-f.ensures.eight ∙ third in

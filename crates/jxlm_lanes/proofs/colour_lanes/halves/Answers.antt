@@ -8,7 +8,7 @@ use lib.Lanes.{zip2}
 use mir.Syntax.{shr, signed}
 use borrow.Table.Row.{s_int}
 use borrow.Rule.Simd.Lanes.{act2}
-use Rattle.jxlm_lanes.specs.Colour.{halved}
+use Rattle.jxlm_lanes.specs.Colour.{floor_half}
 use Rattle.jxlm_lanes.specs.Inner.Lanes.{lane, AreEight}
 use Rattle.jxlm_lanes.proofs.Each.{halved_fits}
 use Rattle.jxlm_lanes.proofs.colour_lanes.halves.Goals as goal
@@ -22,7 +22,7 @@ module _ (v : List ℤ) (eight : AreEight v) where
       let n = length-zip2 d (map (of_z w16) v) (replicate 8 1) (omega arith) in
       length-map (zip2 d (map (of_z w16) v) (replicate 8 1)) (to_z w16) ∙ omega arith
 
-  value : (j : ℕ) → j < 8 → lane (map (to_z w16) (zip2 (act2 (shr signed) (s_int w16) (s_int w16) (s_int w16)) (map (of_z w16) v) (replicate 8 1))) j ≡ halved (lane v j)
+  value : (j : ℕ) → j < 8 → lane (map (to_z w16) (zip2 (act2 (shr signed) (s_int w16) (s_int w16) (s_int w16)) (map (of_z w16) v) (replicate 8 1))) j ≡ floor_half (lane v j)
   value j lt =
       let e = eight.len in
       let z = lane v j in
@@ -35,7 +35,7 @@ module _ (v : List ℤ) (eight : AreEight v) where
       ∙ ap (λ x. to_z w16 (d (get_or (map (of_z w16) v) j 0) x)) (get_or-replicate 8 j 1 0 lt)
       ∙ ap (λ x. to_z w16 (d x 1)) (get_or-map (of_z w16) v j (pos 0) 0 (omega arith))
       ∙ ap (λ x. to_z w16 (of_z w16 (int_shr x 1))) (to_z-of_z w16 z f)
-      ∙ to_z-of_z w16 (halved z) (halved_fits z f)
+      ∙ to_z-of_z w16 (floor_half z) (halved_fits z f)
 
 pub returns-clause-value : goal.returns-clause-value
 returns-clause-value c j lt = value c.args.a c.requires j lt

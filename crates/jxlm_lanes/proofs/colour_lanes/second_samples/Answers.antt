@@ -1,5 +1,5 @@
 use Rattle.std.proofs.Common.{◌∙◌, ◌/◌, ap, sym, subst, map, to_z, cond, eqb, ℕ, ℤ, w16}
-use Rattle.jxlm_lanes.specs.Colour.{plus, halved}
+use Rattle.jxlm_lanes.specs.Colour.{plus, floor_half}
 use Rattle.jxlm_lanes.specs.Inner.Lanes.{lane, AreEight}
 use Rattle.jxlm_lanes.proofs.Each.{eight_back, lane_back, two, chosen, not_chosen}
 use Rattle.jxlm_lanes.proofs.colour_lanes.second_samples.Goals as goal
@@ -35,7 +35,7 @@ returns-clause-value c j lt =
     let at_y = lane_back c.args.b j c.requires.b in
     let at_f = lane_back c.args.f j c.requires.f in
     let k : ℕ = c.args.ty / 2 in
-    let mean : ℤ = plus w16 y (halved (plus w16 x f)) in
+    let mean : ℤ = plus w16 y (floor_half (plus w16 x f)) in
     elim c.if-kind-eq1.branch [
       | then-kind-eq1 w ↦
           ap (λ l. lane (map (to_z w16) l) j) w.result-is ∙ lane_back w.sums.result j w.sums.ensures.eight ∙ w.sums.ensures.value j lt ∙ two (plus w16) _ _ _ _ at_y at_x
@@ -46,7 +46,7 @@ returns-clause-value c j lt =
             | then-kind-eq2 v ↦
                 ap (λ l. lane (map (to_z w16) l) j) v.result-is ∙ lane_back v.sums-then-kind-eq2-2.result j v.sums-then-kind-eq2-2.ensures.eight ∙ v.sums-then-kind-eq2-2.ensures.value j lt
                 ∙ two (plus w16) _ _ _ _ at_y (lane_back v.halves.result j v.halves.ensures.eight ∙ v.halves.ensures.value j lt
-                ∙ ap halved (lane_back v.sums-then-kind-eq2.result j v.sums-then-kind-eq2.ensures.eight ∙ v.sums-then-kind-eq2.ensures.value j lt ∙ two (plus w16) _ _ _ _ at_x at_f))
+                ∙ ap floor_half (lane_back v.sums-then-kind-eq2.result j v.sums-then-kind-eq2.ensures.eight ∙ v.sums-then-kind-eq2.ensures.value j lt ∙ two (plus w16) _ _ _ _ at_x at_f))
                 ∙ sym (chosen k 2 mean y v.if-kind-eq2.true)
             | else-kind-eq2 v ↦ ap (λ l. lane (map (to_z w16) l) j) v.result-is ∙ at_y ∙ sym (not_chosen k 2 mean y v.if-kind-eq2.false)
           ])

@@ -1,10 +1,9 @@
 use Rattle.std.proofs.Common.{◌≡◌, ℕ, ℤ, List, Some, None, Option, FitsSigned, ◌∙◌, rules, w64}
 use Rattle.std.proofs.lemmas.Int.{to_z-of_z}
-use Rattle.jxlm_predictor.specs.Correcting.{Corrects, CorrectsBy}
-use Rattle.jxlm_predictor.specs.Predictions.{unclamped_correction}
-use Rattle.jxlm_predictor.specs.SelfCorrecting.{self_unclamped}
-use Rattle.jxlm_predictor.specs.declared.predictor.WpHeader.{WpHeader}
-use Rattle.jxlm_predictor.specs.declared.self_correcting.Corrector.{Corrector}
+use Rattle.jxlm_weighted.specs.Correcting.{Corrects, CorrectsBy}
+use Rattle.jxlm_weighted.specs.SelfCorrecting.{unclamped_correction, self_unclamped}
+use Rattle.jxlm_weighted.specs.declared.weights.WpHeader.{WpHeader}
+use Rattle.jxlm_weighted.specs.declared.self_correcting.Corrector.{Corrector}
 use Rattle.jxlm_predictor.proofs.eighths.before_clamp.Goals as goal
 
 -- a state that corrects has weights

@@ -5,7 +5,7 @@ use Rattle.jxlm_bits.specs.Bits.{bytes_of, position_of}
 use Rattle.jxlm_chain.specs.declared.placed.PlacedChannels.{PlacedChannels}
 use Rattle.jxlm_nested.specs.Opened.{IsOpened, TreeOfGives, opened_of}
 use Rattle.jxl_modular.specs.Parsing.{ParseGives}
-use Rattle.jxlm_nested.specs.Starts.{opened}
+use Rattle.jxlm_nested.specs.Starts.{opening_at}
 use Rattle.jxlm_header.specs.Opening.{opening}
 use Rattle.jxlm_header.specs.declared.header.ModularHeader.{ModularHeader}
 use Rattle.jxl_modular.proofs.ParsingLaws.{image_stands, tree_fails, not_zero, gives_image, gives_error}
@@ -82,8 +82,8 @@ returns-in_err-ma_ctx-clause-gives g c =
     let some : 0 < length ps = omega (arith, counted_some, params.channels.ok.0) in
     let given : given_channels c.in_ok-given.given.items ≡ image_list ps = ap given_channels (c.in_ok-given.ensures.ok ∙ ap (map image_channel) c.deref.ensures.value) in
     let list : list_of c.in_ok-start.start.channels ≡ image_list ps = c.in_ok-start.ensures.list ∙ ap given_channels c.deref-2.ensures.value ∙ given in
-    let opens : opened global bytes (image_list ps) p ≡ Ok (record { value = opened_of o; position = m }) =
-    subst (λ (l : ChannelList). opened global bytes l p ≡ Ok (record { value = opened_of o; position = m })) list
+    let opens : opening_at global bytes (image_list ps) p ≡ Ok (record { value = opened_of o; position = m }) =
+    subst (λ (l : ChannelList). opening_at global bytes l p ≡ Ok (record { value = opened_of o; position = m })) list
     (subst (λ (b : Bool). (opening b (list_of c.in_ok-start.start.channels)).read bytes p ≡ Ok (record { value = opened_of o; position = m })) has c.in_ok-header.ensures.gives) in
     let q = position_of c.tree_of.new.bits in
     let e = c.in_err-ma_ctx.field-0.0 in
@@ -107,8 +107,8 @@ returns-clause-gives g c =
     let some : 0 < length ps = omega (arith, counted_some, params.channels.ok.0) in
     let given : given_channels c.in_ok-given.given.items ≡ image_list ps = ap given_channels (c.in_ok-given.ensures.ok ∙ ap (map image_channel) c.deref.ensures.value) in
     let list : list_of c.in_ok-start.start.channels ≡ image_list ps = c.in_ok-start.ensures.list ∙ ap given_channels c.deref-2.ensures.value ∙ given in
-    let opens : opened global bytes (image_list ps) p ≡ Ok (record { value = opened_of o; position = m }) =
-    subst (λ (l : ChannelList). opened global bytes l p ≡ Ok (record { value = opened_of o; position = m })) list
+    let opens : opening_at global bytes (image_list ps) p ≡ Ok (record { value = opened_of o; position = m }) =
+    subst (λ (l : ChannelList). opening_at global bytes l p ≡ Ok (record { value = opened_of o; position = m })) list
     (subst (λ (b : Bool). (opening b (list_of c.in_ok-start.start.channels)).read bytes p ≡ Ok (record { value = opened_of o; position = m })) has c.in_ok-header.ensures.gives) in
     let q = position_of c.tree_of.new.bits in
     let tree : TreeOfGives d global bytes o.0.use_global_tree (list_of o.1.channels).channels m (Ok c.in_ok-ma_ctx.ma_ctx) q = rw (c.in_ok-header.ensures.bytes, c.deref-3.ensures.value) at c.in_ok-ma_ctx.ensures.gives in

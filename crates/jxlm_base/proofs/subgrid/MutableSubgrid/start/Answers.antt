@@ -1,6 +1,6 @@
 use Rattle.std.proofs.Common.{arith}
 use Rattle.jxlm_base.specs.Subgrid.{whole}
-use Rattle.jxlm_base.proofs.Turned.{grid_line_within}
+use Rattle.jxlm_base.proofs.GridLines.{grid_line_within}
 use Rattle.jxlm_base.proofs.subgrid.MutableSubgrid.start.Goals as goal
 
 pub place_in-requires : goal.place_in-requires

@@ -5,7 +5,7 @@ use Rattle.jxlm_bits.specs.ErrorKind.{kind_of, UnlessNoMemory}
 use Rattle.jxlm_bits.specs.Grammar.{IsErrorAt, repeated, u32}
 use Rattle.jxlm_bits.specs.declared.bits.U32Spec.TheVariants.{Const, Offset}
 use Rattle.jxlm_transform.specs.Transforms.{transform_by}
-use Rattle.jxlm_predictor.specs.WeightsHeader.{wp_header}
+use Rattle.jxlm_weighted.specs.WeightsHeader.{wp_header}
 use Rattle.jxlm_header.proofs.HeaderLaws.{listed_fails}
 use Rattle.jxlm_header.proofs.header.ModularHeader.parse_by.Goals as goal
 

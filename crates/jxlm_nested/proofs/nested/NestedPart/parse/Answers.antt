@@ -12,7 +12,7 @@ use Rattle.jxlm_transform.specs.Lists.{list_of}
 use Rattle.jxlm_transform.specs.declared.channels.ModularChannels.{ModularChannels}
 use Rattle.jxlm_nested.specs.NestedParts.{nested_list}
 use Rattle.jxlm_nested.specs.Opened.{TreeOfGives, opened_of}
-use Rattle.jxlm_nested.specs.Starts.{IsTreeErrorAt, opened}
+use Rattle.jxlm_nested.specs.Starts.{IsTreeErrorAt, opening_at}
 use Rattle.jxlm_nested.proofs.StartLaws.{lent_some, no_tree}
 use Rattle.jxlm_nested.proofs.nested.NestedPart.parse.Goals as goal
 
@@ -26,11 +26,11 @@ returns-in_err-config-clause-err g c =
     let o : ModularHeader × PlacedChannels = (c.in_ok-header.header, c.in_ok-header.placed) in
     let m = position_of c.open.new.bits in
     let has : c.is_some.result ≡ is_some global = c.is_some.ensures ∙ sym (lent_some c.args.global) in
-    let opens : opened global bytes list p ≡ Ok (record { value = opened_of o; position = m }) =
-    subst (λ (l : ModularChannels). opened global bytes (list_of l) p ≡ Ok (record { value = opened_of o; position = m })) c.new-start.ensures.list
+    let opens : opening_at global bytes list p ≡ Ok (record { value = opened_of o; position = m }) =
+    subst (λ (l : ModularChannels). opening_at global bytes (list_of l) p ≡ Ok (record { value = opened_of o; position = m })) c.new-start.ensures.list
     (subst (λ (b : Bool). (opening b (list_of c.new-start.result.channels)).read bytes p ≡ Ok (record { value = opened_of o; position = m })) has c.in_ok-header.ensures.gives) in
     let q = position_of c.tree_of.new.bits in
     let e = c.in_err-config.field-0.0 in
     let tree : TreeOfGives d global bytes o.0.use_global_tree (list_of o.1.channels).channels m (Err e) q = rw (c.in_ok-header.ensures.bytes, c.deref.ensures.value) at c.in_err-config.ensures.gives in
-    let answer : UnlessMemory (kind_of e) (IsErrorAt (opened global bytes list p) (kind_of e) q ⊎ IsTreeErrorAt d global bytes list p (kind_of e) q) = no_tree d global bytes list p o m opens e q tree in
+    let answer : UnlessMemory (kind_of e) (IsErrorAt (opening_at global bytes list p) (kind_of e) q ⊎ IsTreeErrorAt d global bytes list p (kind_of e) q) = no_tree d global bytes list p o m opens e q tree in
     search rules

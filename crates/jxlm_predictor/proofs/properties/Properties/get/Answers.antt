@@ -2,10 +2,10 @@ use Rattle.std.proofs.Common.{◌≡◌, ℤ, get_or, pos, FitsSigned, sym, ap, 
 use Rattle.std.specs.Int.{w32, int_wrap}
 use Rattle.std.proofs.lemmas.Int.{to_z-of_z}
 use Rattle.jxlm_base.specs.Regions.{store_meanings}
-use Rattle.jxlm_predictor.specs.Around.{neighbours_of}
+use Rattle.jxlm_weighted.specs.Around.{neighbours_of}
 use Rattle.jxlm_predictor.specs.Holding.{surroundings}
 use Rattle.jxlm_predictor.specs.Inner.OwnProperties.{own_list}
-use Rattle.jxlm_predictor.specs.Properties.{error_property}
+use Rattle.jxlm_weighted.specs.SelfCorrecting.{error_property}
 use Rattle.jxlm_predictor.proofs.PropertiesLaws.{own_property_kept, own_property, later_property}
 use Rattle.jxlm_predictor.proofs.properties.Properties.get.Goals as goal
 

@@ -1,0 +1,5 @@
+pub mod ColourRows
+pub mod Palette
+pub mod Recoloured
+pub mod UndoneSqueeze
+pub mod Inner

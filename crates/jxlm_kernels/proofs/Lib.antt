@@ -1,0 +1,4 @@
+mod RowLoop
+pub mod Strips
+mod Turned
+pub mod Slices

@@ -1,6 +1,0 @@
-use Rattle.std.proofs.Common.{sym, arith}
-use Rattle.jxlm_transform.proofs.PaletteColours.{no_digit}
-use Rattle.jxlm_transform.proofs.palette.digit_of_four.Goals as goal
-
-pub returns-else-c-lt3-clause-value : goal.returns-else-c-lt3-clause-value
-returns-else-c-lt3-clause-value c = sym (no_digit 4 c.args.c 3 c.args.j (omega arith) (omega arith) (omega arith))

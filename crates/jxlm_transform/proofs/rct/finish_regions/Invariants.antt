@@ -1,8 +1,0 @@
-use Rattle.jxlm_transform.specs.Inner.ColourRows.{AreThree, FinishedUntil}
-use Rattle.jxlm_transform.proofs.rct.finish_regions.Given as goal
-
-abbrev pub invariant-loop-y : goal.invariant-loop-y
-invariant-loop-y g l = record {
-  three : AreThree l.first l.second l.third l.store;
-  until : FinishedUntil l.first l.second l.third g.S.Sealed.to_int g.S.Sealed.width l.ty l.permutation l.y l.fn.store l.store;
-}

@@ -1,0 +1,2 @@
+pub mod CorrectingSteps
+pub mod ListedWeights
