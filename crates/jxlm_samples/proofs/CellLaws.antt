@@ -16,6 +16,7 @@ use Rattle.jxlm_base.specs.Regions.{grid_of, region, store_meanings}
 use Rattle.jxlm_bits.specs.declared.decoder.DecoderError.{DecoderError}
 use Rattle.jxlm_base.specs.declared.subgrid.Region.{Region}
 use Rattle.jxlm_base.proofs.Regions.{IsFull-grid_of}
+use Rattle.jxlm_weighted.specs.Correcting.{Corrects, header_of}
 use Rattle.jxlm_predictor.specs.EarlierRows.{AreRowsOf, HoldRows}
 use Rattle.jxlm_predictor.specs.Holding.{state_of, store_of}
 use Rattle.jxlm_tree.specs.FlatTree.{ClustersStandIn, FlatTree, GoesWithoutWeights, ReadsEarlierBelow}
@@ -27,6 +28,7 @@ use Rattle.jxlm_tree.specs.declared.flat.Leaf.{Leaf}
 use Rattle.jxlm_tree.specs.declared.paths.Path.{Path}
 use Rattle.jxlm_predictor.specs.declared.properties.Properties.{Properties}
 use Rattle.jxlm_weighted.specs.declared.weights.WpHeader.{WpHeader}
+use Rattle.jxlm_weighted.specs.declared.self_correcting.Corrector.{Corrector}
 use Rattle.jxlm_predictor.specs.declared.state.PredictorState.{PredictorState}
 use Rattle.jxlm_predictor.proofs.EarlierLaws.{in_state, of_setting}
 use Rattle.jxlm_predictor.proofs.StandingLaws.{stands_row}
@@ -55,6 +57,18 @@ use Rattle.jxlm_samples.specs.Lines.{IsAway, region_on}
 -- what is known of a state is known of the same
 pub stands_so : {X : Type 0} (s : Setting) (samples : List ℤ) (a b : PredictorState X) → b ≡ a → StandsAt a s samples → StandsAt b s samples
 stands_so s samples a b same h = subst (λ p. StandsAt p s samples) (sym same) h
+
+-- a state uses no weights where its setting has none
+pub uses_none : (o : Option Corrector) (weights : Option WpHeader) (width x y : ℕ) (samples : List ℤ) → weights ≡ None → Corrects o weights width x y samples → header_of o ≡ None
+uses_none None weights width x y samples none h = refl
+uses_none (Some c) weights width x y samples none h = absurd (subst (λ (w : Option WpHeader). Corrects (Some c) w width x y samples) none h)
+
+-- and the setting has none where the state uses none
+pub has_none : (o : Option Corrector) (weights : Option WpHeader) (width x y : ℕ) (samples : List ℤ) → header_of o ≡ None → Corrects o weights width x y samples → weights ≡ None
+has_none None None width x y samples none h = refl
+has_none None (Some w) width x y samples none h = absurd h
+has_none (Some c) None width x y samples none h = refl
+has_none (Some c) (Some w) width x y samples none h = absurd (cc)
 
 -- what holds of all earlier channels holds of those that are given to the state
 all_handed : {X : Type 0} (n : ℕ) (P : X → Type 0) (xs : List X) → All P xs → All P (earlier_for n xs)

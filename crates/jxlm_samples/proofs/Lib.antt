@@ -8,6 +8,7 @@ pub mod NextSample
 pub mod PartAnswers
 pub mod Places
 pub mod Prefixes
+pub mod RowEnds
 pub mod RowNeighbours
 pub mod RowReads
 pub mod RowSees

@@ -12,6 +12,7 @@ ghost use Rattle.jxlm_samples.specs.Inner.Cells.{SampleGives};
 ghost use Rattle.jxlm_samples.specs.Inner.Paths.{is_walked};
 ghost use Rattle.jxlm_samples.specs.Inner.Rows.{CellGives, CellsGive, IsAtCell, IsLine, IsWalked, RowGives};
 ghost use Rattle.jxlm_samples.specs.CellLeaves.{steps_walked};
+ghost use Rattle.jxlm_samples.specs.ChannelSettings.{weights_at};
 ghost use Rattle.jxlm_samples.specs.Lines.{AreAway, IsAway, region_on};
 
 use crate::leaf::leaf_of;
@@ -62,9 +63,16 @@ fn next_sample<S: Sample, D: Decoder>(
 
 /// Reads the cell in column `x` into `row`; `rows` are those of the nearest earlier channels. The walk must be at this
 /// cell, and is at the next one afterwards. Without `EDGE` the cell is two or more columns and rows away from every edge
-/// but the last row; without `WEIGHTED` no weights are used in the channel.
+/// but the last row; without `WEIGHTED` no weights are used in the channel. With `CLAMPED` property 9 is clamped.
 #[inline(always)]
-fn decode_cell_by<'s, S: Sample, D: Decoder, const EDGE: bool, const WEIGHTED: bool>(
+fn decode_cell_by<
+    's,
+    S: Sample,
+    D: Decoder,
+    const EDGE: bool,
+    const WEIGHTED: bool,
+    const CLAMPED: bool,
+>(
     walk: &mut Walk<'_, S, D>,
     line: &Line<'_, 's, S, D>,
     rows: &'s [EarlierRow<'s, S>],
@@ -75,6 +83,7 @@ fn decode_cell_by<'s, S: Sample, D: Decoder, const EDGE: bool, const WEIGHTED: b
     requires column { x < (region_on line.now).width }
     requires inner { EDGE ≡ false → IsAway x line.now.y (region_on line.now).width }
     requires without { WEIGHTED ≡ false → used_weights walk.old.state ≡ None }
+    requires clamped { line.now.clamped ≡ CLAMPED }
     requires at { IsAtCell line.now D.meaning S.to_int S.width x row.old walk.old }
     ensures { CellGives line.now D.meaning S.to_int S.width x row.old row.new walk.old walk.new result }
 {
@@ -87,7 +96,7 @@ fn decode_cell_by<'s, S: Sample, D: Decoder, const EDGE: bool, const WEIGHTED: b
         &properties,
         flat,
         line.path,
-        line.clamped,
+        CLAMPED,
         line.coding.widest,
     )?;
     properties.record_in_row::<EDGE>(sample.to_i32());
@@ -97,9 +106,16 @@ fn decode_cell_by<'s, S: Sample, D: Decoder, const EDGE: bool, const WEIGHTED: b
 
 /// Reads the cell in column `x` into `row`; `rows` are those of the nearest earlier channels. The walk must be at this
 /// cell, and is at the next one afterwards. Without `EDGE` the cell is two or more columns and rows away from every edge
-/// but the last row.
+/// but the last row; without `WEIGHTED` no weights are used in the channel. With `CLAMPED` property 9 is clamped.
 #[inline(always)]
-fn decode_cell<'s, S: Sample, D: Decoder, const EDGE: bool>(
+fn decode_cell<
+    's,
+    S: Sample,
+    D: Decoder,
+    const EDGE: bool,
+    const WEIGHTED: bool,
+    const CLAMPED: bool,
+>(
     walk: &mut Walk<'_, S, D>,
     line: &Line<'_, 's, S, D>,
     rows: &'s [EarlierRow<'s, S>],
@@ -109,23 +125,33 @@ fn decode_cell<'s, S: Sample, D: Decoder, const EDGE: bool>(
     requires line { IsWalked line.now rows.now }
     requires column { x < (region_on line.now).width }
     requires inner { EDGE ≡ false → IsAway x line.now.y (region_on line.now).width }
+    requires without { WEIGHTED ≡ false → used_weights walk.old.state ≡ None }
+    requires clamped { line.now.clamped ≡ CLAMPED }
     requires at { IsAtCell line.now D.meaning S.to_int S.width x row.old walk.old }
     ensures { CellGives line.now D.meaning S.to_int S.width x row.old row.new walk.old walk.new result }
 {
-    if walk.state.is_weighted() {
-        decode_cell_by::<S, D, EDGE, true>(walk, line, rows, row, x)
+    if WEIGHTED && walk.state.is_weighted() {
+        decode_cell_by::<S, D, EDGE, true, CLAMPED>(walk, line, rows, row, x)
     } else {
-        decode_cell_by::<S, D, EDGE, false>(walk, line, rows, row, x)
+        decode_cell_by::<S, D, EDGE, false, CLAMPED>(walk, line, rows, row, x)
     }
 }
 
 /// Reads the cells from column `from` to before column `to` into `row`; the walk must be at the first of them, and is
-/// after the last one then. Without `EDGE` they are two or more columns and rows away from every edge but the last row.
+/// after the last one then. Without `EDGE` they are two or more columns and rows away from every edge but the last row;
+/// without `WEIGHTED` no weights are used in the channel. With `CLAMPED` property 9 is clamped.
 ///
 /// # Errors
 ///
 /// That of the read of one cell; the cells before are in the row then.
-fn read_cells<'s, S: Sample, D: Decoder, const EDGE: bool>(
+fn read_cells<
+    's,
+    S: Sample,
+    D: Decoder,
+    const EDGE: bool,
+    const WEIGHTED: bool,
+    const CLAMPED: bool,
+>(
     walk: &mut Walk<'_, S, D>,
     line: &Line<'_, 's, S, D>,
     rows: &'s [EarlierRow<'s, S>],
@@ -137,17 +163,46 @@ fn read_cells<'s, S: Sample, D: Decoder, const EDGE: bool>(
     requires order { from ≤ to }
     requires in_row { to ≤ (region_on line.now).width }
     requires inner { EDGE ≡ false → AreAway from to line.now.y (region_on line.now).width }
+    requires without { WEIGHTED ≡ false → weights_at line.now.coding.now line.now.i ≡ None }
+    requires clamped { line.now.clamped ≡ CLAMPED }
     requires at { IsAtCell line.now D.meaning S.to_int S.width from row.old walk.old }
     ensures { CellsGive line.now D.meaning S.to_int S.width from to row.old row.new walk.old walk.new result }
 {
     let here = Line { ..*line };
     for x in from..to {
-        match decode_cell::<S, D, EDGE>(walk, &here, rows, row, x) {
+        match decode_cell::<S, D, EDGE, WEIGHTED, CLAMPED>(walk, &here, rows, row, x) {
             Ok(()) => (),
             Err(error) => return Err(RowError { column: x, error }),
         }
     }
     Ok(())
+}
+
+/// Reads the row cell by cell, with property 9 not clamped; `rows` are those of the nearest earlier channels. The walk must
+/// be at the row's first cell, and is after its last one then. Without `WEIGHTED` no weights are used in the channel.
+///
+/// # Errors
+///
+/// That of the read of one cell; the cells before are in the row then.
+#[inline(always)]
+fn read_stretches<'s, S: Sample, D: Decoder, const WEIGHTED: bool>(
+    walk: &mut Walk<'_, S, D>,
+    line: &Line<'_, 's, S, D>,
+    rows: &'s [EarlierRow<'s, S>],
+    row: &mut [S],
+) -> Result<(), RowError>
+    requires line { IsWalked line.now rows.now }
+    requires without { WEIGHTED ≡ false → weights_at line.now.coding.now line.now.i ≡ None }
+    requires clamped { line.now.clamped ≡ false }
+    requires at { IsAtCell line.now D.meaning S.to_int S.width 0 row.old walk.old }
+    ensures gives { RowGives line.now D.meaning S.to_int S.width row.new walk.old.source walk.new.source result }
+    ensures at { OnOk result (IsAtCell line.now D.meaning S.to_int S.width (length row.new) row.new walk.new) }
+{
+    let width = row.len();
+    let (from, to) = inner_columns(width, line.y);
+    read_cells::<S, D, true, WEIGHTED, false>(walk, line, rows, row, 0, from)?;
+    read_cells::<S, D, false, WEIGHTED, false>(walk, line, rows, row, from, to)?;
+    read_cells::<S, D, true, WEIGHTED, false>(walk, line, rows, row, to, width)
 }
 
 /// Reads the row cell by cell; the walk must be at its first cell, and is after its last one then.
@@ -166,12 +221,15 @@ pub(crate) fn read_by_cells<S: Sample, D: Decoder>(
     ensures gives { RowGives line.now D.meaning S.to_int S.width row.new walk.old.source walk.new.source result }
     ensures at { OnOk result (IsAtCell line.now D.meaning S.to_int S.width (length row.new) row.new walk.new) }
 {
-    let width = row.len();
     let asked = line.coding.flats[line.i].asked;
     let earlier = EarlierRows::of(&walk.state, line.store, asked);
     let rows = earlier.rows();
-    let (from, to) = inner_columns(width, line.y);
-    read_cells::<S, D, true>(walk, line, rows, row, 0, from)?;
-    read_cells::<S, D, false>(walk, line, rows, row, from, to)?;
-    read_cells::<S, D, true>(walk, line, rows, row, to, width)
+    if line.clamped {
+        let width = row.len();
+        read_cells::<S, D, true, true, true>(walk, line, rows, row, 0, width)
+    } else if walk.state.is_weighted() {
+        read_stretches::<S, D, true>(walk, line, rows, row)
+    } else {
+        read_stretches::<S, D, false>(walk, line, rows, row)
+    }
 }

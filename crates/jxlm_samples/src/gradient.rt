@@ -39,12 +39,12 @@ fn reduced_sum<S: Sample>(n: S, w: S, nw: S) -> i32
         .wrapping_add(n.to_i32())
 }
 
-/// Property 9: west less north west plus north, clamped or reduced to 32 bits.
+/// Property 9: west less north west plus north, clamped (`CLAMPED`) or reduced to 32 bits.
 #[inline(always)]
-fn property_9<S: Sample>(clamped: bool, n: S, w: S, nw: S) -> i32
-    ensures { result ≡ sum_by clamped (S.to_int w -ℤ S.to_int nw +ℤ S.to_int n) }
+fn property_9<S: Sample, const CLAMPED: bool>(n: S, w: S, nw: S) -> i32
+    ensures { result ≡ sum_by CLAMPED (S.to_int w -ℤ S.to_int nw +ℤ S.to_int n) }
 {
-    if clamped {
+    if CLAMPED {
         clamped_sum(w.to_i32(), nw.to_i32(), n.to_i32())
     } else {
         reduced_sum(n, w, nw)
@@ -53,9 +53,8 @@ fn property_9<S: Sample>(clamped: bool, n: S, w: S, nw: S) -> i32
 
 /// The cluster of a cell with these neighbours, by the table.
 #[inline(always)]
-fn cluster_of<S: Sample>(
+fn cluster_of<S: Sample, const CLAMPED: bool>(
     leaves: Leaves<'_>,
-    clamped: bool,
     n: S,
     w: S,
     nw: S,
@@ -63,26 +62,25 @@ fn cluster_of<S: Sample>(
 ) -> u8
     requires kind { are_of_table leaves ≡ true }
     ensures cluster { result ≡
-        (leaf_by leaves.entry (sum_by clamped (S.to_int w -ℤ S.to_int nw +ℤ S.to_int n))).cluster }
+        (leaf_by leaves.entry (sum_by CLAMPED (S.to_int w -ℤ S.to_int nw +ℤ S.to_int n))).cluster }
     ensures cost { steps.new ≡ steps.old + steps_by leaves.entry }
 {
     match leaves {
-        Leaves::Table(table) => table.cluster(property_9(clamped, n, w, nw), steps),
+        Leaves::Table(table) => table.cluster(property_9::<S, CLAMPED>(n, w, nw), steps),
         Leaves::One(_) => unreachable!(),
     }
 }
 
 /// Reads a row below another, or the first one, by the leaves of a table. The reader is a local variable for the length
-/// of the row.
+/// of the row. With `CLAMPED` property 9 is clamped.
 ///
 /// # Errors
 ///
 /// That of the read of one cell; the cells before are in the row then.
 #[inline(never)]
-fn read_below<S: Sample, D: Decoder, const FIRST: bool>(
+fn read_below<S: Sample, D: Decoder, const FIRST: bool, const CLAMPED: bool>(
     source: &mut Source<'_, D>,
     leaves: Leaves<'_>,
-    clamped: bool,
     widest: u32,
     above: &[S],
     row: &mut [S],
@@ -91,7 +89,7 @@ fn read_below<S: Sample, D: Decoder, const FIRST: bool>(
     requires kind { are_of_table leaves ≡ true }
     requires columns { 0 < length row.old }
     requires above { length above.now ≡ (if FIRST then 0 else length row.old) }
-    ensures { GradientGives D.meaning S.width clamped leaves.entry widest (map S.to_int above.now)
+    ensures { GradientGives D.meaning S.width CLAMPED leaves.entry widest (map S.to_int above.now)
         (map S.to_int row.new) source.old source.new result }
 {
     let mut reader = source.bits;
@@ -99,7 +97,7 @@ fn read_below<S: Sample, D: Decoder, const FIRST: bool>(
     let mut nw = w;
     for x in 0..row.len() {
         let n = sample_above::<S, FIRST>(above, x, w);
-        let cluster = cluster_of(leaves, clamped, n, w, nw, &mut source.steps);
+        let cluster = cluster_of::<S, CLAMPED>(leaves, n, w, nw, &mut source.steps);
         let token = match source
             .decoder
             .read_varint_with_multiplier_clustered(&mut reader, cluster, widest)
@@ -137,9 +135,10 @@ fn read_by_kind<S: Sample, D: Decoder, const FIRST: bool>(
 {
     match leaves {
         Leaves::One(leaf) => read_one_gradient::<S, D, FIRST>(source, leaf, widest, above, row),
-        Leaves::Table(_) => {
-            read_below::<S, D, FIRST>(source, leaves, clamped, widest, above, row)
+        Leaves::Table(_) if clamped => {
+            read_below::<S, D, FIRST, true>(source, leaves, widest, above, row)
         }
+        Leaves::Table(_) => read_below::<S, D, FIRST, false>(source, leaves, widest, above, row),
     }
 }
 

@@ -34,7 +34,7 @@ next_sample-requires-clause-gives g c κs within =
 pub next_sample-requires-clause-sums : goal.next_sample-requires-clause-sums
 next_sample-requires-clause-sums g c κs within = λ yes.
     let line = c.requires.line.line in
-    sums_at c.args.line.now.coding.now line.here.part.coding c.args.line.now.i line.here.channel _ (sym line.clamped ∙ yes)
+    sums_at c.args.line.now.coding.now line.here.part.coding c.args.line.now.i line.here.channel _ (sym line.clamped ∙ c.requires.clamped ∙ yes)
 
 pub record_in_row-requires-clause-inner : goal.record_in_row-requires-clause-inner
 record_in_row-requires-clause-inner g c inside =
@@ -47,7 +47,7 @@ returns-in_err-sample g c =
     let seen = c.properties_in_row-properties.ensures in
     rw (p.1, p.2)
     (fails_cell c.args.line.now g.S.Sealed.to_int c.requires.line.line c.args.x c.args.row.now c.requires.at.long c.requires.column g.D.Decoder.meaning g.S.Sealed.width c.args.walk.now.source _ c.requires.line.steps c.next_sample.new.source
-    c.properties_in_row-properties.result seen.store (stands_so _ _ _ _ seen.unchanged c.requires.at.stands) _ (rw c.requires.line.line.clamped at c.in_err-sample.ensures))
+    c.properties_in_row-properties.result seen.store (stands_so _ _ _ _ seen.unchanged c.requires.at.stands) _ (rw (sym c.requires.clamped ∙ c.requires.line.line.clamped) at c.in_err-sample.ensures))
 
 pub returns : goal.returns
 returns g c =
@@ -62,7 +62,7 @@ returns g c =
     let after_it = rw number at (c.record_in_row.ensures.stands (setting_of l.coding.now l.i) (own l to_int is c.args.x c.args.row.now at.long c.requires.column) (rw seen.unchanged at.stands)) in
     let same = rw seen.unchanged at c.record_in_row.ensures.room in (
       reads_cell l to_int is c.args.x c.args.row.now at.long c.requires.column g.D.Decoder.meaning g.S.Sealed.width c.args.walk.now.source _ c.requires.line.steps c.next_sample.new.source
-          c.properties_in_row-properties.result seen.store (stands_so _ _ _ _ seen.unchanged at.stands) g.S.Sealed.from_int g.met.S.Sealed.to_int_from_int sample (rw is.clamped at c.in_ok-sample.ensures),
+          c.properties_in_row-properties.result seen.store (stands_so _ _ _ _ seen.unchanged at.stands) g.S.Sealed.from_int g.met.S.Sealed.to_int_from_int sample (rw (sym c.requires.clamped ∙ is.clamped) at c.in_ok-sample.ensures),
       record {
         long = length-set _ _ _ ∙ at.long;
         stands = stands_further l to_int is c.args.x c.args.row.now at.long c.requires.column sample _ after_it;

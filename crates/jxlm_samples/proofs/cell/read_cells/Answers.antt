@@ -3,6 +3,7 @@ use Rattle.std.proofs.lemmas.List.{length-map}
 use Rattle.jxlm_bits.specs.Bits.{bytes_of}
 use Rattle.jxlm_samples.specs.Inner.Rows.{CellsGive, FailsCell, ReadsCell, rule_on}
 use Rattle.jxlm_samples.specs.Reading.{cost_of}
+use Rattle.jxlm_samples.proofs.CellLaws.{uses_none}
 use Rattle.jxlm_samples.proofs.RowReads.{cell_fails, cell_more}
 use Rattle.jxlm_samples.proofs.cell.read_cells.Goals as goal
 
@@ -14,6 +15,12 @@ decode_cell-requires-clause-line g c κs within = c.requires.line
 
 pub decode_cell-requires-clause-column : goal.decode_cell-requires-clause-column
 decode_cell-requires-clause-column g c κs within = let test = c.loop-x-test.true in let row = c.requires.in_row in omega (arith, test, row)
+
+pub decode_cell-requires-clause-without : goal.decode_cell-requires-clause-without
+decode_cell-requires-clause-without g c κs within none = uses_none _ _ _ _ _ _ (c.requires.without none) c.loop-x.invariant.reads.1.stands.corrects
+
+pub decode_cell-requires-clause-clamped : goal.decode_cell-requires-clause-clamped
+decode_cell-requires-clause-clamped g c κs within = c.requires.clamped
 
 pub decode_cell-requires-clause-at : goal.decode_cell-requires-clause-at
 decode_cell-requires-clause-at g c κs within = c.loop-x.invariant.reads.1
