@@ -10,16 +10,16 @@ use Rattle.jxlm_plain.specs.Plain.{plain, plain2}
 use Rattle.jxlm_tree.specs.Tree.{Shape, levels, depth, node_count, config_of}
 use Rattle.jxlm_tree.specs.TreeStands.{TokenStands, NodeStands, NodesStand, TreeStands, leaf_clusters}
 use Rattle.jxlm_tree.specs.declared.flat.Leaf.{Leaf}
-use Rattle.jxlm_predictor.specs.Predictions.{predictors}
+use Rattle.jxlm_predictor.specs.Predictions.{number_of, predictors}
 use Rattle.jxlm_predictor.specs.declared.predictor.Predictor.{Predictor}
-use Rattle.jxlm_predictor.specs.declared.predictor.Predictor.TheVariants as p
 use Rattle.jxlm_encode_write.specs.Written.{digits, HasBits}
 use Rattle.jxlm_encode_write.specs.Tokens.{decoder_bits, one_cluster, gamma_decoder_bits, gamma_bits, one_gamma_cluster}
-use Rattle.jxlm_encode_write.specs.Nodes.{packed_number, number_of, node_of, node_tokens, tree_tokens}
+use Rattle.jxlm_encode_write.specs.Nodes.{packed_number, node_of, node_tokens, tree_tokens}
 use Rattle.jxlm_encode_write.specs.Trees.{leaves_in, tree_bits, gamma_tree_bits}
 use Rattle.jxlm_encode_write.specs.Laws.{TreesStand, GammaTreesStand}
 use Rattle.jxlm_encode_write.specs.declared.tree.EncodeNode.{EncodeNode}
 use Rattle.jxlm_encode_write.specs.declared.tree.EncodeNode.TheVariants as given
+use Rattle.jxlm_predictor.proofs.Numbers.{found_by_number}
 use Rattle.jxlm_encode_write.proofs.BitLists.{has_first, has_rest}
 use Rattle.jxlm_encode_write.proofs.Writable.{IsWritable}
 use Rattle.jxlm_encode_write.proofs.TokenLaws.{fixed_writable}
@@ -35,23 +35,6 @@ unpack_packed (negsuc k) =
     let odd : (2 * k + 1) % 2 ≡ 1 = omega arith in
     let half : (2 * k + 1) / 2 ≡ k = omega arith in
     rw (odd, half) refl
-
--- a predictor is found by its number
-found_by_number : (x : Predictor) → slice_get predictors (number_of x) ≡ Some x
-found_by_number p.Zero = refl
-found_by_number p.West = refl
-found_by_number p.North = refl
-found_by_number p.AvgWestAndNorth = refl
-found_by_number p.Select = refl
-found_by_number p.Gradient = refl
-found_by_number p.SelfCorrecting = refl
-found_by_number p.NorthEast = refl
-found_by_number p.NorthWest = refl
-found_by_number p.WestWest = refl
-found_by_number p.AvgWestAndNorthWest = refl
-found_by_number p.AvgNorthAndNorthWest = refl
-found_by_number p.AvgNorthAndNorthEast = refl
-found_by_number p.AvgAll = refl
 
 -- each of these tokens fits
 abbrev pub Fit : (ℕ → Type 0) → List ℕ → Type 0

@@ -3,8 +3,7 @@ use Rattle.std.specs.Prelude.{ℕ, suc, ◌+◌, ◌*◌, ◌^◌, ℤ, pos, neg
 use Rattle.std.specs.List.{flat_map}
 use Rattle.jxlm_tree.specs.Tree.{Node, leaf_node, decision_node}
 use Rattle.jxlm_tree.specs.declared.flat.Leaf.{Leaf}
-use Rattle.jxlm_predictor.specs.declared.predictor.Predictor.{Predictor}
-use Rattle.jxlm_predictor.specs.declared.predictor.Predictor.TheVariants as p
+use Rattle.jxlm_predictor.specs.Predictions.{number_of}
 use Rattle.jxlm_encode_write.specs.declared.tree.EncodeNode.{EncodeNode}
 use Rattle.jxlm_encode_write.specs.declared.tree.EncodeNode.TheVariants as given
 
@@ -12,23 +11,6 @@ use Rattle.jxlm_encode_write.specs.declared.tree.EncodeNode.TheVariants as given
 abbrev pub packed_number : ℤ → ℕ
 packed_number (pos k) = 2 * k
 packed_number (negsuc k) = 2 * k + 1
-
--- the number of a predictor
-abbrev pub number_of : Predictor → ℕ
-number_of p.Zero = 0
-number_of p.West = 1
-number_of p.North = 2
-number_of p.AvgWestAndNorth = 3
-number_of p.Select = 4
-number_of p.Gradient = 5
-number_of p.SelfCorrecting = 6
-number_of p.NorthEast = 7
-number_of p.NorthWest = 8
-number_of p.WestWest = 9
-number_of p.AvgWestAndNorthWest = 10
-number_of p.AvgNorthAndNorthWest = 11
-number_of p.AvgNorthAndNorthEast = 12
-number_of p.AvgAll = 13
 
 -- the node that is meant: a leaf has the only cluster, and the multiplier 1
 abbrev pub node_of : EncodeNode → Node Leaf

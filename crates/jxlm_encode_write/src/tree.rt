@@ -2,7 +2,7 @@
 
 ghost use Rattle.std.specs.Prelude.{◌≡◌, ◌++◌, ◌↔◌, true, IsTrue, IfOk, length};
 ghost use Rattle.std.specs.List.{All};
-ghost use Rattle.jxlm_encode_write.specs.Nodes.{packed_number, number_of as the_number, node_tokens, tree_tokens, has_token};
+ghost use Rattle.jxlm_encode_write.specs.Nodes.{packed_number, node_tokens, tree_tokens, has_token};
 
 use jxlm_predictor::predictor::Predictor;
 use std::alloc::{AllocError, Global};
@@ -37,28 +37,6 @@ pub fn pack(value: i32) -> u32
     }
 }
 
-/// The number of a predictor.
-pub fn number_of(predictor: Predictor) -> u32
-    ensures { result ≡ the_number predictor }
-{
-    match predictor {
-        Predictor::Zero => 0,
-        Predictor::West => 1,
-        Predictor::North => 2,
-        Predictor::AvgWestAndNorth => 3,
-        Predictor::Select => 4,
-        Predictor::Gradient => 5,
-        Predictor::SelfCorrecting => 6,
-        Predictor::NorthEast => 7,
-        Predictor::NorthWest => 8,
-        Predictor::WestWest => 9,
-        Predictor::AvgWestAndNorthWest => 10,
-        Predictor::AvgNorthAndNorthWest => 11,
-        Predictor::AvgNorthAndNorthEast => 12,
-        Predictor::AvgAll => 13,
-    }
-}
-
 /// Adds the tokens of a node.
 fn push_node(tokens: &mut Vec<u32>, node: &EncodeNode) -> Result<(), AllocError>
     requires { has_token node.now ≡ true }
@@ -71,7 +49,7 @@ fn push_node(tokens: &mut Vec<u32>, node: &EncodeNode) -> Result<(), AllocError>
         }
         EncodeNode::Leaf { predictor, offset } => {
             tokens.push(0)?;
-            tokens.push(number_of(predictor))?;
+            tokens.push(predictor.number())?;
             tokens.push(pack(offset))?;
             tokens.push(0)?;
             tokens.push(0)?;

@@ -1,6 +1,7 @@
 mod Examples
 pub mod EarlierLaws
 pub mod ExpectedLaws
+pub mod Numbers
 pub mod PropertiesLaws
 pub mod Rolling
 pub mod RollingSteps

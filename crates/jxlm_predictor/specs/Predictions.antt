@@ -1,5 +1,5 @@
 -- The fourteen predictions (ISO/IEC 18181-1, Modular: predictors).
-use Rattle.std.specs.Prelude.{ℕ, nat_lt, if◌then◌else◌, ℤ, pos, ◌+ℤ◌, ◌-ℤ◌, ◌*ℤ◌, unsigned_abs, int_div, List, [], ◌∷◌, slice_get, Option, Some, None, Result, Ok, Err, codes, ◌≡◌}
+use Rattle.std.specs.Prelude.{ℕ, nat_lt, if◌then◌else◌, Bool, true, false, ℤ, pos, ◌+ℤ◌, ◌-ℤ◌, ◌*ℤ◌, unsigned_abs, int_div, List, [], ◌∷◌, slice_get, Option, Some, None, Result, Ok, Err, codes, ◌≡◌}
 use Rattle.std.specs.Int.{w32, int_wrap, int_shr}
 use Rattle.jxlm_bits.specs.ErrorKind.{BadEnum, bitstream_kind}
 use Rattle.jxlm_bits.specs.Numbers.{clamped_gradient}
@@ -18,6 +18,28 @@ predictors = Zero ∷ West ∷ North ∷ AvgWestAndNorth ∷ Select ∷ Gradient
 abbrev pub IsPredictorOf : ℕ → Result Predictor BitstreamError → Type 0
 IsPredictorOf number (Ok predictor) = slice_get predictors number ≡ Some predictor
 IsPredictorOf number (Err e) = (slice_get predictors number ≡ None) × (bitstream_kind e ≡ BadEnum (codes "MaProperty") number)
+
+-- the number of a predictor
+abbrev pub number_of : Predictor → ℕ
+number_of Zero = 0
+number_of West = 1
+number_of North = 2
+number_of AvgWestAndNorth = 3
+number_of Select = 4
+number_of Gradient = 5
+number_of SelfCorrecting = 6
+number_of NorthEast = 7
+number_of NorthWest = 8
+number_of WestWest = 9
+number_of AvgWestAndNorthWest = 10
+number_of AvgNorthAndNorthWest = 11
+number_of AvgNorthAndNorthEast = 12
+number_of AvgAll = 13
+
+-- of all predictors, the weighted one
+abbrev pub is_self_correcting : Predictor → Bool
+is_self_correcting SelfCorrecting = true
+is_self_correcting other = false
 
 -- what a predictor makes of the neighbours, p being the weighted prediction times 8; division is toward zero
 abbrev pub prediction_from : Neighbours → ℤ → Predictor → ℤ

@@ -1,8 +1,9 @@
 //! Predictors.
 
-ghost use Rattle.std.specs.Prelude.{◌<◌};
+ghost use Rattle.std.specs.Prelude.{◌≡◌, ◌<◌, Some, slice_get};
+ghost use Rattle.jxlm_bits.specs.Grammar.{number};
 ghost use Rattle.jxlm_predictor.specs.Holding.{IsCurrent, IsOfPlace};
-ghost use Rattle.jxlm_predictor.specs.Predictions.{prediction};
+ghost use Rattle.jxlm_predictor.specs.Predictions.{number_of, prediction, predictors};
 
 use crate::predictions::predicted_from;
 pub use crate::properties::Properties;
@@ -82,6 +83,30 @@ impl TryFrom<u32> for Predictor {
 }
 
 impl Predictor {
+    /// The number of the predictor, by which `try_from` finds it.
+    #[tactic(auto, using(crate::proofs::Numbers::found_by_number))]
+    pub fn number(self) -> u32
+        ensures number { result ≡ number_of self }
+        ensures found { slice_get predictors result ≡ Some self }
+    {
+        match self {
+            Predictor::Zero => 0,
+            Predictor::West => 1,
+            Predictor::North => 2,
+            Predictor::AvgWestAndNorth => 3,
+            Predictor::Select => 4,
+            Predictor::Gradient => 5,
+            Predictor::SelfCorrecting => 6,
+            Predictor::NorthEast => 7,
+            Predictor::NorthWest => 8,
+            Predictor::WestWest => 9,
+            Predictor::AvgWestAndNorthWest => 10,
+            Predictor::AvgNorthAndNorthWest => 11,
+            Predictor::AvgNorthAndNorthEast => 12,
+            Predictor::AvgAll => 13,
+        }
+    }
+
     /// What the predictor makes of the cell of these properties, reduced to 32 bits.
     #[inline(always)]
     pub fn predict<S>(self, properties: &Properties<'_, S>) -> i32

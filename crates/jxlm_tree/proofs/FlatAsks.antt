@@ -2,7 +2,7 @@
 use Rattle.std.proofs.Common.{◌≡◌, ℕ, ◌+◌, ◌-◌, ◌*◌, ◌/◌, ◌<◌, ◌≤◌, ℤ, Bool, true, false, ◌||◌, eqb, ltb, List, reverse, refl, sym, ap, ◌∙◌, subst, arith, inl, inr, ◌⊎◌}
 use Rattle.std.proofs.lemmas.Bool.{cases_lt, false≢true}
 use Rattle.std.proofs.lemmas.Bool.Decides.{nat_tests, eqb_tells}
-use Rattle.jxlm_tree.specs.FlatTree.{NamesEarlier, flat_tree, is_self_correcting, leaf_reached, needs_weights}
+use Rattle.jxlm_tree.specs.FlatTree.{NamesEarlier, flat_tree, leaf_reached, needs_weights}
 use Rattle.jxlm_tree.specs.ShortTrees.{Fits}
 use Rattle.jxlm_tree.specs.Inner.FlatShapes.{Lacks}
 use Rattle.jxlm_tree.specs.Tree.{Shape, leaf, decision}
@@ -16,6 +16,7 @@ use Rattle.jxlm_tree.proofs.FlatLooks.{all-of}
 use Rattle.jxlm_tree.proofs.FlatNeeds.{or-left, or-right, sees_none, spares}
 use Rattle.jxlm_tree.proofs.FlatSteps.{walk-pruned}
 use Rattle.jxlm_tree.proofs.FlatWalks.{pruned-lacks, pruned_known-lacks}
+use Rattle.jxlm_predictor.specs.Predictions.{is_self_correcting}
 
 -- a property of at most n earlier channels
 pub within : (k n : ℕ) → channels_of k ≤ n → k < 16 + 4 * n

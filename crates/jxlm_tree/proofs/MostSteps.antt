@@ -3,13 +3,14 @@ use Rattle.std.proofs.Common.{◌≡◌, ℕ, ℤ, ◌+◌, ◌≤◌, ◌+ℤ�
 use Rattle.std.proofs.lemmas.Bool.Decides.{Decides-eqb, Decides-int_eq, Decides-ltb}
 use Rattle.std.proofs.lemmas.Int.{ints, clamps}
 use Rattle.std.proofs.lemmas.List.{length-append}
+use Rattle.std.proofs.lemmas.Option.{get_or_from_slice_get}
 use Rattle.std.specs.Bool.{Decides}
 use Rattle.std.specs.Int.{int_min, int_max}
 use Rattle.std.specs.Ordering.{int_eq}
 use Rattle.std.specs.Prelude.{◌==◌, ◌&&◌, ◌||◌, int_lt, nat_lt, not}
 use Rattle.jxlm_tree.specs.ClusterTables.{in_cluster}
 use Rattle.jxlm_tree.specs.ShortTrees.{CutsWithin, EachCut, TestsOnly}
-use Rattle.jxlm_tree.specs.Steps.{are_alike, cuts_within, each_cut, each_leaf, is_tabular, leaves_within, leftmost, most_steps, number_of, plain_gradient, tests_only}
+use Rattle.jxlm_tree.specs.Steps.{are_alike, cuts_within, each_cut, each_leaf, is_tabular, leaves_within, leftmost, most_steps, plain_gradient, tests_only}
 use Rattle.jxlm_tree.specs.Tree.{AllLeaves, Shape, leaf, decision, depth}
 use Rattle.jxlm_tree.specs.Inner.Pruned.{cuts, greatest, least}
 use Rattle.jxlm_tree.specs.declared.flat.Leaf.{Leaf}
@@ -17,9 +18,10 @@ use Rattle.jxlm_tree.proofs.FlatForced.{Tabular}
 use Rattle.jxlm_tree.proofs.FlatTables.{cuts_above, cuts_below, cuts_between}
 use Rattle.jxlm_tree.proofs.FlatTwo.{cuts-table}
 use Rattle.jxlm_tree.proofs.FlatWalks.{above, int_lt-tells, not_above}
-use Rattle.jxlm_predictor.specs.Predictions.{predictors}
+use Rattle.jxlm_predictor.specs.Predictions.{number_of, predictors}
 use Rattle.jxlm_predictor.specs.declared.predictor.Predictor.{Predictor}
-use Rattle.jxlm_predictor.specs.declared.predictor.Predictor.TheVariants.{Zero, West, North, AvgWestAndNorth, Select, Gradient, SelfCorrecting, NorthEast, NorthWest, WestWest, AvgWestAndNorthWest, AvgNorthAndNorthWest, AvgNorthAndNorthEast, AvgAll}
+use Rattle.jxlm_predictor.specs.declared.predictor.Predictor.TheVariants.{Zero}
+use Rattle.jxlm_predictor.proofs.Numbers.{found_by_number}
 
 and-tells : (a b : Bool) → (a && b) ≡ true → (a ≡ true) × (b ≡ true)
 and-tells true b e = (refl, e)
@@ -45,20 +47,7 @@ decides-each_leaf is d (decision q v a b) = decides-and (each_leaf is a) (each_l
 
 -- a predictor is known by its number
 numbered : (p : Predictor) → get_or predictors (number_of p) Zero ≡ p
-numbered Zero = refl
-numbered West = refl
-numbered North = refl
-numbered AvgWestAndNorth = refl
-numbered Select = refl
-numbered Gradient = refl
-numbered SelfCorrecting = refl
-numbered NorthEast = refl
-numbered NorthWest = refl
-numbered WestWest = refl
-numbered AvgWestAndNorthWest = refl
-numbered AvgNorthAndNorthWest = refl
-numbered AvgNorthAndNorthEast = refl
-numbered AvgAll = refl
+numbered p = get_or_from_slice_get predictors (number_of p) p Zero (found_by_number p)
 
 leaf_of : ℕ → Predictor → ℤ → ℕ → Leaf
 leaf_of c p o m = record { cluster = c; predictor = p; offset = o; multiplier = m }

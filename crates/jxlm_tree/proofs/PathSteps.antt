@@ -7,7 +7,7 @@ use Rattle.std.specs.Rc.{rc_value}
 use Rattle.jxlm_tree.specs.FlatTree.{FlatTree, flat_tree}
 use Rattle.jxlm_tree.specs.ClusterTables.{Clusters}
 use Rattle.jxlm_tree.specs.Paths.{steps_on}
-use Rattle.jxlm_tree.specs.Steps.{most_steps, number_of, plain_gradient}
+use Rattle.jxlm_tree.specs.Steps.{most_steps, plain_gradient}
 use Rattle.jxlm_tree.specs.Tree.{Shape, StandsAtLeaf, leaf, decision, depth}
 use Rattle.jxlm_tree.specs.Inner.Compiled.{IsCompiledFor}
 use Rattle.jxlm_tree.specs.Inner.Tables.{IsPathOfLeaf, IsPathOfTable, TableAt}
@@ -20,6 +20,7 @@ use Rattle.jxlm_tree.specs.declared.paths.Path.TheVariants as path
 use Rattle.jxlm_tree.proofs.FlatForced.{forced, root-of_leaf}
 use Rattle.jxlm_tree.proofs.FlatPaths.{leaf-here, root-at}
 use Rattle.jxlm_tree.proofs.MostSteps.{table_steps, tabular, tree_steps}
+use Rattle.jxlm_predictor.specs.Predictions.{number_of}
 
 steps-leaf : (t : Shape Leaf) (l : Leaf) (p : Path) → IsPathOfLeaf l p → ((number_of l.predictor == 0 || plain_gradient l) ≡ false → depth t + 1 ≤ most_steps t) → steps_on p t ≤ most_steps t
 steps-leaf t l (path.Constant k) is h = omega arith

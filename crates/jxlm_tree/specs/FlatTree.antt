@@ -1,12 +1,12 @@
 -- A tree as the samples of one channel walk it (ISO/IEC 18181-1, Modular: meta-adaptive trees, properties).
-use Rattle.std.specs.Prelude.{◌≡◌, ◌≢◌, ◌⊎◌, ℕ, ◌+◌, ◌-◌, ◌*◌, ◌/◌, ◌<◌, ◌^◌, ◌≤◌, ◌==◌, ◌||◌, nat_lt, if◌then◌else◌, ℤ, pos, ◌+ℤ◌, ◌*ℤ◌, Bool, true, false, List, Contains}
+use Rattle.std.specs.Prelude.{◌≡◌, ◌≢◌, ◌⊎◌, ℕ, ◌+◌, ◌-◌, ◌*◌, ◌/◌, ◌<◌, ◌^◌, ◌≤◌, ◌==◌, ◌||◌, nat_lt, if◌then◌else◌, ℤ, pos, ◌+ℤ◌, ◌*ℤ◌, Bool, List, Contains}
 use Rattle.std.specs.Int.{w32, int_wrap}
 use Rattle.jxlm_bits.specs.Numbers.{unpack}
 use Rattle.jxlm_tree.specs.ShortTrees.{Fits}
 use Rattle.jxlm_tree.specs.Tree.{AllLeaves, Shape, leaf, decision, walk}
 use Rattle.jxlm_tree.specs.declared.flat.Leaf.{Leaf}
-use Rattle.jxlm_predictor.specs.declared.predictor.Predictor.{Predictor}
-use Rattle.jxlm_predictor.specs.declared.predictor.Predictor.TheVariants.{Zero, West, North, AvgWestAndNorth, Select, Gradient, SelfCorrecting, NorthEast, NorthWest, WestWest, AvgWestAndNorthWest, AvgNorthAndNorthWest, AvgNorthAndNorthEast, AvgAll}
+use Rattle.jxlm_predictor.specs.Predictions.{is_self_correcting}
+use Rattle.jxlm_predictor.specs.declared.predictor.Predictor.TheVariants.{SelfCorrecting}
 
 -- a tree, the channel's index in its part, the stream's index, and how many earlier channels there are
 pub record FlatTree : Type 0 where
@@ -38,23 +38,6 @@ PropertiesAre gives place f = (k : ℕ) (v : ℤ) → gives place k v → v ≡ 
 -- what the sample of a token is before its prediction, in 32 bits
 abbrev pub residual_of : Leaf → ℕ → ℤ
 residual_of l token = int_wrap w32 (unpack token *ℤ pos l.multiplier +ℤ l.offset)
-
--- of all predictors, the weighted one
-abbrev pub is_self_correcting : Predictor → Bool
-is_self_correcting Zero = false
-is_self_correcting West = false
-is_self_correcting North = false
-is_self_correcting AvgWestAndNorth = false
-is_self_correcting Select = false
-is_self_correcting Gradient = false
-is_self_correcting SelfCorrecting = true
-is_self_correcting NorthEast = false
-is_self_correcting NorthWest = false
-is_self_correcting WestWest = false
-is_self_correcting AvgWestAndNorthWest = false
-is_self_correcting AvgNorthAndNorthWest = false
-is_self_correcting AvgNorthAndNorthEast = false
-is_self_correcting AvgAll = false
 
 -- property 15 or the weighted predictor is somewhere in the tree
 abbrev pub needs_weights : Shape Leaf → Bool

@@ -4,25 +4,7 @@ use Rattle.std.specs.Int.{int_min, int_max}
 use Rattle.std.specs.Ordering.{int_eq}
 use Rattle.jxlm_tree.specs.Tree.{Shape, leaf, decision, depth}
 use Rattle.jxlm_tree.specs.declared.flat.Leaf.{Leaf}
-use Rattle.jxlm_predictor.specs.declared.predictor.Predictor.{Predictor}
-use Rattle.jxlm_predictor.specs.declared.predictor.Predictor.TheVariants.{Zero, West, North, AvgWestAndNorth, Select, Gradient, SelfCorrecting, NorthEast, NorthWest, WestWest, AvgWestAndNorthWest, AvgNorthAndNorthWest, AvgNorthAndNorthEast, AvgAll}
-
--- the number of a predictor
-abbrev pub number_of : Predictor → ℕ
-number_of Zero = 0
-number_of West = 1
-number_of North = 2
-number_of AvgWestAndNorth = 3
-number_of Select = 4
-number_of Gradient = 5
-number_of SelfCorrecting = 6
-number_of NorthEast = 7
-number_of NorthWest = 8
-number_of WestWest = 9
-number_of AvgWestAndNorthWest = 10
-number_of AvgNorthAndNorthWest = 11
-number_of AvgNorthAndNorthEast = 12
-number_of AvgAll = 13
+use Rattle.jxlm_predictor.specs.Predictions.{number_of}
 
 -- the leaves agree in all but the cluster
 abbrev pub are_alike : Leaf → Leaf → Bool

@@ -5,7 +5,7 @@ use Rattle.jxlm_tree.specs.declared.flat.Side.{Side}
 use Rattle.jxlm_tree.specs.declared.flat.FlatNode.{FlatNode}
 use Rattle.jxlm_tree.specs.declared.flat.FlatNode.TheVariants as node
 use Rattle.jxlm_predictor.specs.declared.predictor.Predictor.TheVariants.{Zero}
-use Rattle.jxlm_tree.specs.FlatTree.{is_self_correcting}
+use Rattle.jxlm_predictor.specs.Predictions.{is_self_correcting}
 use Rattle.jxlm_tree.specs.CompiledNodes.{takes}
 pub use Rattle.jxlm_tree.specs.ClusterTables.{slot}
 use Rattle.jxlm_tree.specs.Tree.{Shape, StandsAtLeaf, walk, depth}

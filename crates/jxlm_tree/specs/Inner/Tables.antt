@@ -5,9 +5,10 @@ use Rattle.jxlm_tree.specs.ClusterTables.{Clusters, in_cluster}
 use Rattle.jxlm_tree.specs.declared.flat.Leaf.{Leaf}
 use Rattle.jxlm_tree.specs.declared.flat.FlatNode.{FlatNode}
 use Rattle.jxlm_tree.specs.declared.flat.FlatNode.TheVariants as node
-use Rattle.jxlm_tree.specs.Steps.{number_of, plain_gradient}
+use Rattle.jxlm_tree.specs.Steps.{plain_gradient}
 use Rattle.jxlm_tree.specs.declared.paths.Path.{Path}
 use Rattle.jxlm_tree.specs.declared.paths.Path.TheVariants as path
+use Rattle.jxlm_predictor.specs.Predictions.{number_of}
 
 -- the first n entries lead to this leaf, each in its own cluster
 abbrev pub LeadTo : List FlatNode → List ℕ → ℕ → Leaf → (ℕ → ℕ) → Type 0
