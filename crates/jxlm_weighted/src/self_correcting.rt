@@ -222,9 +222,9 @@ impl ErrorsAround {
 
     /// The prediction: clamped where the errors say so.
     fn settled(&self, around: &Around, unclamped: i64) -> i64
-        requires { unsigned_abs weighted_average < 2 ^ 40 }
+        requires { unsigned_abs unclamped < 2 ^ 40 }
         ensures value { result ≡
-            if is_clamped (near_of self.now) then clamped_around (neighbours_of around.now) weighted_average else weighted_average }
+            if is_clamped (near_of self.now) then clamped_around (neighbours_of around.now) unclamped else unclamped }
         ensures bound { unsigned_abs result < 2 ^ 40 }
     {
         if self.is_clamped() {
