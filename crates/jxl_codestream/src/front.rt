@@ -1,11 +1,11 @@
 //! What comes before the sections of the frames.
 
-ghost use Rattle.std.specs.Prelude.{◌≡◌, ℕ, ◌*◌, ◌/◌, ◌<◌, ◌^◌, ◌≤◌, [], IfErr, IfOk, length};
+ghost use Rattle.std.specs.Prelude.{◌≡◌, ℕ, ◌*◌, ◌/◌, ◌<◌, ◌^◌, ◌≤◌, [], IfErr, IfOk, OnOk, length, true};
 ghost use Rattle.jxlm_bits.specs.Bits.{bytes_of, position_of};
-ghost use Rattle.jxl_image_header.specs.Images.{image_of};
+ghost use Rattle.jxl_image_header.specs.Images.{image_header, image_of};
 ghost use Rattle.jxl_codestream.specs.Reading.{Decodes};
 ghost use Rattle.jxl_picture.specs.Limits.{Allow};
-ghost use Rattle.jxl_codestream.specs.Fronts.{AreBefore, FrontFails, ImageStands, between};
+ghost use Rattle.jxl_codestream.specs.Fronts.{AreBefore, FrontFails, StandsAt, between};
 
 use crate::error::FrontError;
 use crate::frame::FrameFront;
@@ -19,42 +19,22 @@ use jxlm_bits::decoder::Decoder;
 use jxlm_bits::error::Error;
 use std::alloc::Global;
 
-/// What a codestream tells before the sections of its frames.
+/// The frames of a codestream, before their sections.
 #[derive(Drop)]
-pub struct Front {
-    /// The image header.
-    pub image: ImageHeader,
+pub struct Frames {
     /// The frames that are saved for others, in their order.
     pub saved: Vec<FrameFront>,
     /// The frame that is shown.
     pub shown: FrameFront,
 }
 
-/// The image header at the start, of a picture that is supported and within the limits.
-fn read_image<D: Decoder>(
-    alloc: Global,
-    bits: &mut Bitstream<'_>,
-    limits: &Limits,
-) -> Result<ImageHeader, FrontError>
-    requires start { position_of bits.old ≡ 0 }
-    ensures ok { IfOk result (λ h. ImageStands D.meaning limits.now (bytes_of bits.old) (image_of h)
-        (position_of bits.new)) }
-    ensures err { IfErr result (FrontFails D.meaning limits.now (bytes_of bits.old)) }
-    ensures bytes { bytes_of bits.new ≡ bytes_of bits.old }
-{
-    match ImageHeader::parse(alloc, bits) {
-        Ok(image) => match image.refused() {
-            Some(refusal) => Err(FrontError::Image(refusal)),
-            None => {
-                if limits.allow(&image) {
-                    Ok(image)
-                } else {
-                    Err(FrontError::TooLarge)
-                }
-            }
-        },
-        Err(error) => Err(FrontError::ImageHeader(error)),
-    }
+/// What a codestream has before the sections of its frames.
+#[derive(Drop)]
+pub struct Front {
+    /// The image header.
+    pub image: ImageHeader,
+    /// The frames, or why they are not decoded.
+    pub frames: Result<Frames, FrontError>,
 }
 
 // Passes the profile, if there is one, and the bits up to the next byte.
@@ -76,29 +56,36 @@ fn pass_profile<D: Decoder>(
     Ok(padding)
 }
 
-// The image header, and what comes after it up to the frame.
-fn read_begin<D: Decoder>(
+// Passes what comes between the image header and the first frame, of a picture that is supported and within the limits. The
+// reader is at the end of that header.
+fn pass_to_frames<D: Decoder>(
     alloc: Global,
     bits: &mut Bitstream<'_>,
     limits: &Limits,
-) -> Result<ImageHeader, FrontError>
-    requires start { position_of bits.old ≡ 0 }
+    image: &ImageHeader,
+) -> Result<(), FrontError>
+    requires header { StandsAt image_header (bytes_of bits.old) 0 (image_of image.now) (position_of bits.old) }
     requires short { 8 * length (bytes_of bits.old) < 2 ^ 64 }
-    ensures ok { IfOk result (λ h. AreBefore D.meaning limits.now (bytes_of bits.old) (image_of h) []
+    ensures ok { OnOk result (AreBefore D.meaning limits.now (bytes_of bits.old) (image_of image.now) []
         (position_of bits.new / 8) 0) }
-    ensures allowed { IfOk result (λ h. Allow limits.now (image_of h)) }
+    ensures allowed { OnOk result (Allow limits.now (image_of image.now)) }
     ensures inside { position_of bits.new ≤ 8 * length (bytes_of bits.old) }
     ensures err { IfErr result (FrontFails D.meaning limits.now (bytes_of bits.old)) }
     ensures bytes { bytes_of bits.new ≡ bytes_of bits.old }
 {
-    let image = read_image::<D>(alloc, bits, limits)?;
+    if let Some(refusal) = image.refused() {
+        return Err(FrontError::Image(refusal));
+    }
+    if !limits.allow(image) {
+        return Err(FrontError::TooLarge);
+    }
     match pass_profile::<D>(
         alloc,
         bits,
         image.shown.colour_encoding.want_icc,
         limits.profile,
     ) {
-        Ok(_) => Ok(image),
+        Ok(_) => Ok(()),
         Err(error) => Err(FrontError::Profile(error)),
     }
 }
@@ -112,38 +99,37 @@ fn byte_of(bits: &Bitstream<'_>) -> usize
     (bits.position() / 8) as usize
 }
 
-impl Front {
-    ghost use Rattle.jxl_codestream.specs.FrontParts.{IsFrontOf, frame_at};
+impl Frames {
+    ghost use Rattle.jxl_codestream.specs.FrontParts.{AreFramesOf, frame_at};
 
     // The frames of a codestream, from this byte on.
-    fn read_frames<D: Decoder>(
+    fn read<D: Decoder>(
         alloc: Global,
         bytes: &[u8],
         limits: &Limits,
-        image: ImageHeader,
+        image: &ImageHeader,
         begin: usize,
-    ) -> Result<Front, FrontError>
-        requires begins { AreBefore D.meaning limits.now bytes.now (image_of image) [] begin 0 }
-        requires allowed { Allow limits.now (image_of image) }
+    ) -> Result<Frames, FrontError>
+        requires begins { AreBefore D.meaning limits.now bytes.now (image_of image.now) [] begin 0 }
+        requires allowed { Allow limits.now (image_of image.now) }
         requires short { 8 * length bytes.now < 2 ^ 64 }
         requires inside { begin ≤ length bytes.now }
-        ensures ok { IfOk result (IsFrontOf D.meaning limits.now bytes.now) }
+        ensures ok { IfOk result (AreFramesOf D.meaning limits.now bytes.now image.now) }
         ensures err { IfErr result (FrontFails D.meaning limits.now bytes.now) }
     {
         let mut saved = Vec::new(alloc);
         let mut start = begin;
         let mut used = 0;
         for _ in 0..u64::MAX {
-            let frame = FrameFront::read::<D>(alloc, bytes, limits, &image, start, used)?;
+            let frame = FrameFront::read::<D>(alloc, bytes, limits, image, start, used)?;
             if !frame.header.is_saved() {
-                return Ok(Front {
-                    image,
+                return Ok(Frames {
                     saved,
                     shown: frame,
                 });
             }
-            used = frame.cells_with(&image, used, limits.pixels);
-            start = frame.end(bytes, &image);
+            used = frame.cells_with(image, used, limits.pixels);
+            start = frame.end(bytes, image);
             if saved.push(frame).is_err() {
                 break;
             }
@@ -151,18 +137,42 @@ impl Front {
         Err(FrontError::FrameHeader(Error::from(OutOfMemory)))
     }
 
+    // The frames of a codestream whose image header was read: the reader is at the end of that header.
+    fn after<D: Decoder>(
+        alloc: Global,
+        bytes: &[u8],
+        mut bits: Bitstream<'_>,
+        limits: &Limits,
+        image: &ImageHeader,
+    ) -> Result<Frames, FrontError>
+        requires lies { bytes_of bits ≡ bytes.now }
+        requires header { StandsAt image_header (bytes_of bits) 0 (image_of image.now) (position_of bits) }
+        requires short { 8 * length bytes.now < 2 ^ 64 }
+        ensures ok { IfOk result (AreFramesOf D.meaning limits.now bytes.now image.now) }
+        ensures err { IfErr result (FrontFails D.meaning limits.now bytes.now) }
+    {
+        pass_to_frames::<D>(alloc, &mut bits, limits, image)?;
+        let begin = byte_of(&bits);
+        Frames::read::<D>(alloc, bytes, limits, image, begin)
+    }
+}
+
+impl Front {
+    ghost use Rattle.jxl_codestream.specs.FrontParts.{IsFrontOf, is_of_header};
+
     /// What comes before the sections of the frames: the image header, at the start of the bytes; the profile, if there
     /// is one, which is passed; and of each frame its header and table of contents. Frames that are saved for others
     /// stand one after another, each followed by its sections, and after them the one that is shown, which is the last.
-    /// Picture and frames are supported and within the limits, and all sections lie in the codestream. What is coded is
-    /// read by any decoder.
+    /// Picture and frames are supported and within the limits, and all sections lie in the codestream; else the image
+    /// header comes with the reason why the frames are not decoded. What is coded is read by any decoder.
     ///
     /// No memory is taken for samples: that of the lists of the headers, 16 bytes for each section, and the decoder's.
     ///
     /// # Errors
     ///
-    /// The first in the order of the bits, as [`FrontError`] lists them; within a header its own errors come before what
-    /// is not supported. Or it is out of memory, within `ImageHeader`, `Profile`, `FrameHeader` or `Contents`.
+    /// `TooLong`, or `ImageHeader` where the image header has an error or is out of memory. Those of the frames are in
+    /// the result: the first in the order of the bits, as [`FrontError`] lists them; within a header its own errors come
+    /// before what is not supported. Or it is out of memory, within `Profile`, `FrameHeader` or `Contents`.
     pub fn read<D: Decoder>(
         alloc: Global,
         bytes: &[u8],
@@ -170,13 +180,18 @@ impl Front {
     ) -> Result<Front, FrontError>
         ensures ok { IfOk result (IsFrontOf D.meaning limits.now bytes.now) }
         ensures err { IfErr result (FrontFails D.meaning limits.now bytes.now) }
+        ensures first { IfErr result (λ e. is_of_header e ≡ true) }
     {
         if bytes.len() >= 1 << 61 {
             return Err(FrontError::TooLong);
         }
         let mut bits = Bitstream::new(bytes);
-        let image = read_begin::<D>(alloc, &mut bits, limits)?;
-        let begin = byte_of(&bits);
-        Front::read_frames::<D>(alloc, bytes, limits, image, begin)
+        match ImageHeader::parse(alloc, &mut bits) {
+            Ok(image) => {
+                let frames = Frames::after::<D>(alloc, bytes, bits, limits, &image);
+                Ok(Front { image, frames })
+            }
+            Err(error) => Err(FrontError::ImageHeader(error)),
+        }
     }
 }

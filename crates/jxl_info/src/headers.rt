@@ -1,6 +1,6 @@
 //! The headers of a file.
 
-ghost use Rattle.std.specs.Prelude.{◌≡◌, true, IfErr, IfOk};
+ghost use Rattle.std.specs.Prelude.{◌≡◌, IfErr, IfOk};
 ghost use Rattle.jxl_image_header.specs.Images.{image_of};
 ghost use Rattle.jxl_codestream.specs.Fronts.{FrontFails};
 ghost use Rattle.jxl_info.specs.Reasons.{is_refusal as the_is_refusal};
@@ -13,7 +13,6 @@ use jxl_container::codestream::find_codestream;
 use jxl_container::error::FileError;
 use jxl_image_header::image::ImageHeader;
 use jxl_picture::limits::Limits;
-use jxlm_bits::bits::Bitstream;
 use jxlm_bits::decoder::Decoder;
 use std::alloc::Global;
 
@@ -42,28 +41,6 @@ pub fn is_boxed(file: &[u8]) -> bool
     !file.starts_with(&[255, 10])
 }
 
-// The image header, of a codestream that is not decoded for this reason.
-fn read_refused<D: Decoder>(
-    alloc: Global,
-    bytes: &[u8],
-    limits: &Limits,
-    reason: FrontError,
-) -> Result<Headers, FrontError>
-    requires fails { FrontFails D.meaning limits.now bytes.now reason }
-    requires refusal { the_is_refusal reason ≡ true }
-    ensures ok { IfOk result (λ h. HeadersStand D.meaning limits.now bytes.now (image_of h.image) h.reason) }
-    ensures err { IfErr result (FrontFails D.meaning limits.now bytes.now) }
-{
-    let mut bits = Bitstream::new(bytes);
-    match ImageHeader::parse(alloc, &mut bits) {
-        Ok(image) => Ok(Headers {
-            image,
-            reason: Some(reason),
-        }),
-        Err(error) => Err(FrontError::ImageHeader(error)),
-    }
-}
-
 // The headers of a codestream.
 fn read_codestream<D: Decoder>(
     alloc: Global,
@@ -74,17 +51,26 @@ fn read_codestream<D: Decoder>(
     ensures err { IfErr result (FrontFails D.meaning limits.now bytes.now) }
 {
     match Front::read::<D>(alloc, bytes, limits) {
-        Ok(front) => Ok(Headers {
-            image: front.image,
-            reason: None,
-        }),
-        Err(error) => {
-            if is_refusal(error) {
-                read_refused::<D>(alloc, bytes, limits, error)
-            } else {
-                Err(error)
+        Ok(front) => {
+            let image = front.image;
+            match front.frames {
+                Ok(_) => Ok(Headers {
+                    image,
+                    reason: None,
+                }),
+                Err(error) => {
+                    if is_refusal(error) {
+                        Ok(Headers {
+                            image,
+                            reason: Some(error),
+                        })
+                    } else {
+                        Err(error)
+                    }
+                }
             }
         }
+        Err(error) => Err(error),
     }
 }
 

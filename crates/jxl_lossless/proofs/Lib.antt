@@ -15,5 +15,5 @@ pub mod Frames
 pub mod Holding
 pub mod SavedFrames
 pub mod Trees
-pub mod StreamFailures
+pub mod FilePictures
 pub mod PassShifts

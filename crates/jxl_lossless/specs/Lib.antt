@@ -4,4 +4,5 @@ pub mod Sections
 pub mod Frames
 pub mod Saved
 pub mod Pictures
+pub mod Files
 pub mod Inner

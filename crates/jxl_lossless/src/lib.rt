@@ -2,6 +2,7 @@
 #![tactic(auto)]
 
 pub mod error;
+mod file;
 mod frame;
 mod picture;
 mod saved;
@@ -10,9 +11,9 @@ pub mod still;
 mod tree;
 
 pub use error::FileError;
+pub use file::{JxlFile, decode_lossless, decode_lossless_with};
 pub use jxl_modular::sections::Progress;
 pub use jxl_picture::limits::Limits;
 pub use jxl_picture::picture::Picture;
 pub use jxlm_tree::flat::Steps;
-pub use picture::{decode_lossless, decode_lossless_with};
 pub use still::error::FrameError;

@@ -9,7 +9,8 @@ ghost use Rattle.jxl_patches.specs.SavedParts.{slots_of};
 
 use crate::error::FileError;
 use crate::frame::decode_channels;
-use jxl_codestream::front::Front;
+use jxl_codestream::front::Frames;
+use jxl_image_header::image::ImageHeader;
 use jxl_modular::sections::Progress;
 use jxl_patches::slots::SavedFrames;
 use jxlm_bits::decoder::Decoder;
@@ -21,29 +22,24 @@ use std::alloc::Global;
 pub fn decode_saved<D: Decoder, P: Progress>(
     alloc: Global,
     bytes: &[u8],
-    front: &Front,
+    image: &ImageHeader,
+    frames: &Frames,
     steps: &mut Steps,
     progress: &mut P,
 ) -> Result<SavedFrames, FileError>
-    requires ready { IsReady bytes.now front.now }
-    ensures ok { IfOk result (λ s. AreSaved D.meaning bytes.now (image_of front.now.image)
-        (map frame_at front.now.saved.items) no_slots (slots_of s) steps.old steps.new) }
-    ensures held { IfOk result (λ s. HoldChannels (image_of front.now.image) (slots_of s)) }
-    ensures err { IfErr result (FramesFail D.meaning bytes.now (image_of front.now.image)
-        (map frame_at front.now.saved.items ++ frame_at front.now.shown ∷ [])) }
+    requires ready { IsReady bytes.now image.now frames.now }
+    ensures ok { IfOk result (λ s. AreSaved D.meaning bytes.now (image_of image.now)
+        (map frame_at frames.now.saved.items) no_slots (slots_of s) steps.old steps.new) }
+    ensures held { IfOk result (λ s. HoldChannels (image_of image.now) (slots_of s)) }
+    ensures err { IfErr result (FramesFail D.meaning bytes.now (image_of image.now)
+        (map frame_at frames.now.saved.items ++ frame_at frames.now.shown ∷ [])) }
 {
     let mut slots = SavedFrames::none(alloc)?;
-    for frame in &front.saved {
+    for frame in &frames.saved {
         let channels = decode_channels::<D, P>(
-            alloc,
-            bytes,
-            &front.image,
-            frame,
-            &slots,
-            steps,
-            progress,
+            alloc, bytes, image, frame, &slots, steps, progress,
         )?;
-        let size = frame.header.size(front.image.size);
+        let size = frame.header.size(image.size);
         slots.save(frame.header.ending.save_as_reference, size, channels);
     }
     Ok(slots)

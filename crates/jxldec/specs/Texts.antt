@@ -1,5 +1,5 @@
 -- What the program writes of a file: its picture, or what its headers tell.
-use Rattle.std.specs.Prelude.{◌≡◌, ◌⊎◌, ℕ, List, [], length, Bool, true, false, MatchBool, IsTrue, Option, Some, None, if◌then◌else◌}
+use Rattle.std.specs.Prelude.{◌≡◌, ℕ, List, [], length, Bool, true, false, MatchBool, IsTrue, Option, Some, None, if◌then◌else◌}
 use Rattle.std.specs.Io.KnownBytes.{Appends, Consumes, IsAtEnd}
 use Rattle.jxl_coding.specs.Parse.{decoder_at}
 use Rattle.jxl_coding.specs.Tokens.{entropy}
@@ -33,21 +33,11 @@ pub record IsTextOfFile (limits : Limits) (file : List ℕ) (asked : Option Form
   pub without : others ≡ kinds_left_out format (image_of picture.header).ec_info
   pub plain : profile ≡ (image_of picture.header).shown.colour_encoding.want_icc
 
--- The headers of the file are supported, of a picture that is not written in the format that is asked for, or in any;
-pub record HeadersHaveNoFormat (limits : Limits) (file : List ℕ) (asked : Option Format) : Type 0 where
+-- The headers of the file are supported, of a picture that is not written in the format that is asked for, or in any.
+pub record HasNoFormat (limits : Limits) (file : List ℕ) (asked : Option Format) : Type 0 where
   pub image : Image
   pub headers : HeadersOfFile (entropy decoder_at) limits file image None
   pub none : chosen asked image ≡ None
-
--- so it is of the picture that was decoded.
-pub record PictureHasNoFormat (limits : Limits) (file : List ℕ) (asked : Option Format) : Type 0 where
-  pub picture : Picture
-  pub steps : ℕ
-  pub is : IsPictureOfFile limits file picture 0 steps
-  pub none : chosen asked (image_of picture.header) ≡ None
-
-abbrev pub HasNoFormat : Limits → List ℕ → Option Format → Type 0
-HasNoFormat limits file asked = HeadersHaveNoFormat limits file asked ⊎ PictureHasNoFormat limits file asked
 
 -- The picture of the file is above the limits: it has these sides, and this number of extra channels.
 pub record IsAboveLimits (limits : Limits) (file : List ℕ) (size : Size) (extra : ℕ) (most : Limits) : Type 0 where

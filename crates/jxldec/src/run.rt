@@ -1,13 +1,14 @@
 //! The program over a reader and two writers.
 
-ghost use Rattle.std.specs.Prelude.{◌≡◌, ◌≤◌, [], length, true, false, IfErr, IfOk, IfSome, IsTrue, OnOk, string_bytes};
+ghost use Rattle.std.specs.Prelude.{◌≡◌, ◌≤◌, ℕ, List, [], length, true, false, IfErr, IfOk, IfSome, IsTrue, OnOk, Some, string_bytes};
 ghost use Rattle.std.specs.Io.KnownBytes.{Appends};
 ghost use Rattle.jxl_image_header.specs.Images.{image_of};
-ghost use Rattle.jxl_lossless.specs.Pictures.{IsPictureOfFile};
+ghost use Rattle.jxl_lossless.specs.Files.{IsReadOf, header_of};
+ghost use Rattle.jxl_netpbm.specs.Formats.{suits, text_of};
 ghost use Rattle.jxl_picture.specs.Pictures.{IsWhole};
 ghost use Rattle.jxldec.specs.Failures.{IsOfWriting, failure_line, is_of_output};
 ghost use Rattle.jxldec.specs.Texts.{AskedFails, InfoFails, InputFails, IsAsked, IsDone, IsFailed, IsInfo, IsTextOfFile, IsReported, IsWritten, TextFails, chosen};
-ghost use Rattle.jxldec.specs.Warnings.{warnings};
+ghost use Rattle.jxldec.specs.Warnings.{kinds_left_out, warnings};
 
 use crate::failures::Failure;
 use crate::meter::Line;
@@ -19,7 +20,7 @@ use jxl_coding::decoder::EntropyDecoder;
 use jxl_image_header::image::ImageHeader;
 use jxl_info::headers::{Headers, HeadersError, is_boxed};
 use jxl_info::text::info_text;
-use jxl_lossless::{FileError, Limits, Picture, Steps, decode_lossless_with};
+use jxl_lossless::{FileError, JxlFile, Limits, Picture, Steps};
 use jxl_netpbm::format::Format;
 use std::alloc::Global;
 use std::io::{Read, Write};
@@ -86,49 +87,39 @@ fn above(limits: &Limits, header: &ImageHeader) -> Failure
     }
 }
 
-// That a picture whose headers stand is within the limits and can be written: other errors of the file come
-// when it is decoded.
-fn check_picture(
-    alloc: Global,
-    file: &[u8],
+// The format in which the picture of a file is written that was read by these limits. If the file is not decoded, or the
+// picture has no such format, the error comes before any sample is decoded.
+fn format_of_file(
+    read: &JxlFile<'_>,
     asked: Option<Format>,
     limits: &Limits,
-) -> Result<(), Failure>
-    ensures err { IfErr result (TextFails limits.now file.now asked) }
+) -> Result<Format, Failure>
+    ensures ok { IfOk result (λ format. chosen asked (image_of (header_of read.now)) ≡ Some format) }
+    ensures err { (file : List ℕ) → IsReadOf limits.now file read.now
+        → IfErr result (TextFails limits.now file asked) }
 {
-    let Ok(headers) = Headers::read::<EntropyDecoder>(alloc, file, limits) else {
-        return Ok(());
-    };
-    match headers.reason {
-        None => {
-            if format_for(asked, &headers.image).is_none() {
-                return Err(Failure::NoFormat);
-            }
-            Ok(())
-        }
-        Some(FrontError::TooLarge) => Err(above(limits, &headers.image)),
-        Some(_) => Ok(()),
+    match read.reason() {
+        None => match format_for(asked, read.header()) {
+            Some(format) => Ok(format),
+            None => Err(Failure::NoFormat),
+        },
+        Some(FrontError::TooLarge) => Err(above(limits, read.header())),
+        Some(error) => Err(Failure::File(FileError::Front(error))),
     }
 }
 
-// The text of a picture that was decoded from a file.
-fn write_picture(
-    alloc: Global,
-    file: &[u8],
-    picture: &Picture,
-    asked: Option<Format>,
-    limits: &Limits,
-    steps: &Steps,
-) -> Result<Output, Failure>
+// The text of a picture in a format that suits it.
+fn write_picture(alloc: Global, picture: &Picture, format: Format) -> Result<Output, Failure>
     requires whole { IsWhole (image_of picture.now.header) picture.now.channels.items }
-    requires is { IsPictureOfFile limits.now file.now picture.now 0 steps.now }
-    ensures text { IfOk result (λ o. IsTextOfFile limits.now file.now asked o.text.items
-        (string_bytes o.left_out.channels) o.left_out.profile) }
-    ensures err { IfErr result (TextFails limits.now file.now asked) }
+    requires suits { suits format (image_of picture.now.header) ≡ true }
+    ensures text { IfOk result (λ o. o.text.items
+        ≡ text_of format (image_of picture.now.header) picture.now.channels.items) }
+    ensures channels { IfOk result (λ o. string_bytes o.left_out.channels
+        ≡ kinds_left_out format (image_of picture.now.header).ec_info) }
+    ensures profile { IfOk result (λ o. o.left_out.profile
+        ≡ (image_of picture.now.header).shown.colour_encoding.want_icc) }
+    ensures err { IfErr result (λ failure. failure ≡ Failure.OutOfMemory) }
 {
-    let Some(format) = format_for(asked, &picture.header) else {
-        return Err(Failure::NoFormat);
-    };
     let Ok(left_out) = LeftOut::of(alloc, format, &picture.header) else {
         return Err(Failure::OutOfMemory);
     };
@@ -151,10 +142,14 @@ pub fn picture_text<P: Line>(
         (string_bytes o.left_out.channels) o.left_out.profile) }
     ensures err { IfErr result (TextFails limits.now file.now asked) }
 {
-    check_picture(alloc, file, asked, limits)?;
+    let read = match JxlFile::read(alloc, file, limits) {
+        Ok(read) => read,
+        Err(error) => return Err(Failure::File(error)),
+    };
+    let format = format_of_file(&read, asked, limits)?;
     let mut steps = Steps::new();
-    match decode_lossless_with(alloc, file, limits, &mut steps, progress) {
-        Ok(picture) => write_picture(alloc, file, &picture, asked, limits, &steps),
+    match read.decode(alloc, &mut steps, progress) {
+        Ok(picture) => write_picture(alloc, &picture, format),
         Err(error) => Err(Failure::File(error)),
     }
 }

@@ -10,17 +10,20 @@ use Rattle.jxl_lossless.proofs.picture.decode_frames.Goals as goal
 
 pub returns-clause-ok : goal.returns-clause-ok
 returns-clause-ok g c =
-    let front = c.args.front.now in
-    all_decoded (entropy decoder_at) c.args.bytes.now (image_of front.image) (map frame_at front.saved.items) (frame_at front.shown) (slots_of c.in_ok-slots.slots) c.args.steps.now c.decode_saved.new.steps c.in_ok-slots.ensures.ok
+    let image = c.args.image.now in
+    let frames = c.args.frames.now in
+    all_decoded (entropy decoder_at) c.args.bytes.now (image_of image) (map frame_at frames.saved.items) (frame_at frames.shown) (slots_of c.in_ok-slots.slots) c.args.steps.now c.decode_saved.new.steps c.in_ok-slots.ensures.ok
     c.decode_channels.new.steps c.decode_channels.result c.decode_channels.ensures.ok
 
 pub returns-clause-whole : goal.returns-clause-whole
 returns-clause-whole g c =
-    let front = c.args.front.now in
-    all_whole (image_of front.image) (frame_size front.image.size (frame_of front.shown.header)) c.decode_channels.result c.requires.ready.covers c.decode_channels.ensures.sides
+    let image = c.args.image.now in
+    let frames = c.args.frames.now in
+    all_whole (image_of image) (frame_size image.size (frame_of frames.shown.header)) c.decode_channels.result c.requires.ready.covers c.decode_channels.ensures.sides
 
 pub returns-clause-err : goal.returns-clause-err
 returns-clause-err g c =
-    let front = c.args.front.now in
-    last_fails (entropy decoder_at) c.args.bytes.now (image_of front.image) (map frame_at front.saved.items) (frame_at front.shown) (slots_of c.in_ok-slots.slots) c.args.steps.now c.decode_saved.new.steps c.in_ok-slots.ensures.ok
+    let image = c.args.image.now in
+    let frames = c.args.frames.now in
+    last_fails (entropy decoder_at) c.args.bytes.now (image_of image) (map frame_at frames.saved.items) (frame_at frames.shown) (slots_of c.in_ok-slots.slots) c.args.steps.now c.decode_saved.new.steps c.in_ok-slots.ensures.ok
     c.decode_channels.result c.decode_channels.ensures.err

@@ -15,12 +15,11 @@ use Rattle.jxl_lossless.proofs.saved.decode_saved.Goals as goal
 pub returns-in_err-channels-clause-err : goal.returns-in_err-channels-clause-err
 returns-in_err-channels-clause-err g c =
     let d = g.D.Decoder.meaning in
-    let front = c.args.front.now in
-    let image = image_of front.image in
-    let xs = front.saved.items in
+    let image = image_of c.args.image.now in
+    let xs = c.args.frames.now.saved.items in
     let k = c.loop-frame.frame-index in
     let f = c.frame-item.result in
-    let shown = frame_at front.shown in
+    let shown = frame_at c.args.frames.now.shown in
     let p = err_from_is_err_and c.from_residual-in_err-channels.result c.from_residual-in_err-channels.ensures.1 in
     let within : k < length xs = omega (arith, c.loop-frame-test.true, c.deref-frame-items.ensures.len) in
     let is : get_or xs k f ≡ f = sym (c.frame-item.is ∙ ap (λ (l : List FrameFront). get_or l k f) c.deref-frame-items.ensures.value) in
@@ -30,9 +29,8 @@ returns-in_err-channels-clause-err g c =
 pub loop-frame-preserved : goal.loop-frame-preserved
 loop-frame-preserved g c =
     let d = g.D.Decoder.meaning in
-    let front = c.args.front.now in
-    let image = image_of front.image in
-    let xs = front.saved.items in
+    let image = image_of c.args.image.now in
+    let xs = c.args.frames.now.saved.items in
     let k = c.loop-frame.frame-index in
     let f = c.frame-item.result in
     let grids = c.in_ok-channels.channels.items in

@@ -8,6 +8,6 @@ use Rattle.jxl_lossless.proofs.saved.decode_saved.Given as goal
 
 abbrev pub invariant-loop-frame : goal.invariant-loop-frame
 invariant-loop-frame g l = record {
-  saved : AreSaved g.D.Decoder.meaning l.bytes (image_of l.front.image) (map frame_at (take l.frame-index l.front.saved.items)) no_slots (slots_of l.slots) l.fn.steps l.steps;
-  held : HoldChannels (image_of l.front.image) (slots_of l.slots);
+  saved : AreSaved g.D.Decoder.meaning l.bytes (image_of l.image) (map frame_at (take l.frame-index l.frames.saved.items)) no_slots (slots_of l.slots) l.fn.steps l.steps;
+  held : HoldChannels (image_of l.image) (slots_of l.slots);
 }

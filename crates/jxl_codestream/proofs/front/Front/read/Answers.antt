@@ -1,9 +1,36 @@
-use Rattle.std.proofs.Common.{ℕ, List, subst}
-use Rattle.std.proofs.lemmas.Result.{err_from_is_err_and}
-use Rattle.jxl_codestream.specs.Fronts.{FrontFails}
+use Rattle.std.proofs.Common.{ℕ, List, ◌∙◌, sym, subst}
+use Rattle.std.proofs.lemmas.Result.{MatchResult-from_both}
+use Rattle.jxlm_bits.specs.Bits.{bytes_of, position_of}
+use Rattle.jxl_image_header.specs.Images.{image_header, image_of}
+use Rattle.jxl_codestream.specs.Fronts.{FrontFails, StandsAt}
+use Rattle.jxl_codestream.specs.FrontParts.{AreFramesOf}
+use Rattle.jxl_codestream.specs.declared.error.FrontError.TheVariants as errors
+use Rattle.jxl_codestream.proofs.Fronts.{image_fails}
 use Rattle.jxl_codestream.proofs.front.Front.read.Goals as goal
 
-pub returns-in_err-image-clause-err : goal.returns-in_err-image-clause-err
-returns-in_err-image-clause-err g c =
-    let p = err_from_is_err_and c.from_residual.result c.from_residual.ensures.1 in
-    rw (p.1, p.2) (subst (λ (b : List ℕ). FrontFails g.D.Decoder.meaning c.args.limits.now b c.in_err-image.field-0.0) c.new-bits.ensures.bytes c.in_err-image.ensures.err)
+pub after-frames-requires-clause-header : goal.after-frames-requires-clause-header
+after-frames-requires-clause-header g c =
+    let image = image_of c.in-Ok.image in
+    let end = position_of c.parse.new.bits in
+    subst (λ (p : ℕ). StandsAt image_header (bytes_of c.parse.new.bits) p image end) c.new-bits.ensures.position
+    (subst (λ (b : List ℕ). StandsAt image_header b (position_of c.new-bits.result) image end) (sym c.in-Ok.ensures.bytes) c.in-Ok.ensures.gives)
+
+pub returns-in-Ok-clause-ok : goal.returns-in-Ok-clause-ok
+returns-in-Ok-clause-ok g c =
+    let d = g.D.Decoder.meaning in
+    let limits = c.args.limits.now in
+    let bytes = c.args.bytes.now in
+    let image = image_of c.in-Ok.image in
+    let end = position_of c.parse.new.bits in
+    record {
+      end = end;
+      header = subst (λ (p : ℕ). StandsAt image_header bytes p image end) c.new-bits.ensures.position
+          (subst (λ (b : List ℕ). StandsAt image_header b (position_of c.new-bits.result) image end) c.new-bits.ensures.bytes c.in-Ok.ensures.gives);
+      frames = MatchResult-from_both c.after-frames.result (AreFramesOf d limits bytes c.in-Ok.image) (FrontFails d limits bytes) c.after-frames.ensures.ok c.after-frames.ensures.err;
+    }
+
+pub returns-in-Err-clause-err : goal.returns-in-Err-clause-err
+returns-in-Err-clause-err g c =
+    let d = g.D.Decoder.meaning in
+    subst (λ (b : List ℕ). FrontFails d c.args.limits.now b (errors.ImageHeader c.in-Err.error)) c.new-bits.ensures.bytes
+    (image_fails d c.args.limits.now (bytes_of c.new-bits.result) (position_of c.new-bits.result) (position_of c.parse.new.bits) c.in-Err.error c.new-bits.ensures.position c.in-Err.ensures.gives)

@@ -3,7 +3,7 @@ use Rattle.std.specs.Prelude.{All}
 use Rattle.jxl_image_header.specs.Images.{image_of}
 use Rattle.jxl_codestream.specs.Fronts.{AreBefore}
 use Rattle.jxl_codestream.specs.FrontParts.{IsReadyFrame, frame_at}
-use Rattle.jxl_codestream.proofs.front.Front.read_frames.Given as goal
+use Rattle.jxl_codestream.proofs.front.Frames.read.Given as goal
 
 abbrev pub invariant-loop : goal.invariant-loop
 invariant-loop g l = record {

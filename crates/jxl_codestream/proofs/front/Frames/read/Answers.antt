@@ -6,12 +6,12 @@ use Rattle.jxl_frame_header.specs.Frames.{frame_of, is_saved}
 use Rattle.jxl_codestream.specs.Fronts.{AreBefore, end_of}
 use Rattle.jxl_codestream.specs.FrontParts.{IsReadyFrame, frame_at}
 use Rattle.jxl_codestream.proofs.Fronts.{before_more, covers, image_before, low}
-use Rattle.jxl_codestream.proofs.front.Front.read_frames.Goals as goal
+use Rattle.jxl_codestream.proofs.front.Frames.read.Goals as goal
 
 pub loop-preserved : goal.loop-preserved
 loop-preserved g c =
     let f = c.in_ok-frame.frame in
-    let image = image_of c.args.image in
+    let image = image_of c.args.image.now in
     let bytes = c.args.bytes.now in
     let pushed : c.push.new.self.items ≡ c.loop.saved.items ++ f ∷ [] = search rules in
     let saved : is_saved (frame_of f.header) ≡ true = search rules in
@@ -29,12 +29,12 @@ loop-preserved g c =
 pub returns-then-not-is_saved-clause-ok : goal.returns-then-not-is_saved-clause-ok
 returns-then-not-is_saved-clause-ok g c =
     let f = c.in_ok-frame.frame in
-    let image = image_of c.args.image in
+    let image = image_of c.args.image.now in
     let stands = c.in_ok-frame.ensures.stands in
     let header = image_before g.D.Decoder.meaning c.args.limits.now c.args.bytes.now c.loop.invariant.before in
     let shown : is_saved (frame_of f.header) ≡ false = search rules in
     record {
-      stands = (
+      stand = (
         c.loop.used,
         subst (λ n. AreBefore g.D.Decoder.meaning c.args.limits.now c.args.bytes.now image (map frame_at c.loop.saved.items) n c.loop.used) (sym c.in_ok-frame.ensures.start) c.loop.invariant.before,
         stands,

@@ -1,0 +1,111 @@
+-- What a file that was read up to the sections of its frames says of its picture.
+use Rattle.std.proofs.Common.{◌≡◌, ap, if◌then◌else◌, ℕ, List, length, true, false, Bool, Option, Result, Ok, Err, Some, None, refl, sym, subst, ◌∙◌}
+use Rattle.std.specs.Prelude.{IfOk, MatchResult, string_bytes}
+use Rattle.jxl_coding.specs.Parse.{decoder_at}
+use Rattle.jxl_coding.specs.Tokens.{entropy}
+use Rattle.jxl_container.specs.Files.{stream_of}
+use Rattle.jxl_image_header.specs.Images.{Image, image_of}
+use Rattle.jxl_image_header.specs.declared.image.ImageHeader.{ImageHeader}
+use Rattle.jxl_image_header.specs.declared.size.Size.{Size}
+use Rattle.jxl_codestream.specs.Fronts.{FrontFails}
+use Rattle.jxl_codestream.specs.FrontParts.{AreFramesOf}
+use Rattle.jxl_codestream.specs.declared.error.FrontError.{FrontError}
+use Rattle.jxl_codestream.specs.declared.error.FrontError.TheVariants as fronts
+use Rattle.jxl_codestream.specs.declared.front.Frames.{Frames}
+use Rattle.jxl_info.specs.Headers.{HeadersOfFile, IsReason, IsSupported}
+use Rattle.jxl_info.specs.Reasons.{is_refusal}
+use Rattle.jxl_lossless.specs.Files.{IsReadOf, error_of, header_of, reason_of, upright}
+use Rattle.jxl_lossless.specs.Pictures.{FileFails, IsPictureOfFile}
+use Rattle.jxl_lossless.specs.declared.error.FileError.TheVariants as files
+use Rattle.jxl_lossless.specs.declared.file.JxlFile.{JxlFile}
+use Rattle.jxl_netpbm.specs.Formats.{suits, text_of, usual_whole}
+use Rattle.jxl_netpbm.specs.declared.format.Format.{Format}
+use Rattle.jxl_netpbm.specs.declared.format.Format.TheVariants.{Pgm, Ppm, Pam, Pfm, Text}
+use Rattle.jxl_picture.specs.declared.limits.Limits.{Limits}
+use Rattle.jxl_picture.specs.declared.picture.Picture.{Picture}
+use Rattle.jxldec.specs.Texts.{HasNoFormat, IsAboveLimits, IsTextOfFile, chosen}
+use Rattle.jxldec.specs.Warnings.{kinds_left_out}
+use Rattle.jxldec.specs.declared.failures.Failure.{Failure}
+use Rattle.jxldec.specs.declared.run.Output.{Output}
+
+module _ (limits : Limits) (bytes : List ℕ) (header : ImageHeader) where
+  supported : (frames : Result Frames FrontError) → MatchResult frames (AreFramesOf (entropy decoder_at) limits bytes header) (FrontFails (entropy decoder_at) limits bytes) →
+      error_of frames ≡ None → IsSupported (entropy decoder_at) limits bytes (image_of header)
+  supported (Ok frames) h e = record { saved = _; shown = _; stands = h.stand }
+  supported (Err error) h e = let bad : ⊥ = cc in absurd bad
+
+  refused : (frames : Result Frames FrontError) → MatchResult frames (AreFramesOf (entropy decoder_at) limits bytes header) (FrontFails (entropy decoder_at) limits bytes) →
+      (reason : FrontError) → error_of frames ≡ Some reason → FrontFails (entropy decoder_at) limits bytes reason
+  refused (Ok frames) h reason e = let bad : ⊥ = cc in absurd bad
+  refused (Err error) h reason e = let same : error ≡ reason = cc in subst (λ (r : FrontError). FrontFails (entropy decoder_at) limits bytes r) same h
+
+module _ (limits : Limits) (file : List ℕ) (read : JxlFile) (is : IsReadOf limits file read) where
+  -- its headers, and why it is not decoded
+  headers : (reason : Option FrontError) → IsReason (entropy decoder_at) limits (stream_of read.stream) (image_of (header_of read)) reason → HeadersOfFile (entropy decoder_at) limits file (image_of (header_of read)) reason
+  headers reason why = record {
+    bytes = stream_of read.stream;
+    codestream = is.found;
+    stand = record { end = is.front.end; header = is.front.header; is = why };
+  }
+
+  -- it is supported, and has no format
+  pub no_format : (asked : Option Format) → reason_of read ≡ None → chosen asked (image_of (header_of read)) ≡ None → HasNoFormat limits file asked
+  no_format asked reason none = record {
+    image = image_of (header_of read);
+    headers = headers None (supported limits (stream_of read.stream) (header_of read) read.front.frames is.front.frames reason);
+    none = none;
+  }
+
+  -- it is above the limits
+  pub too_large : reason_of read ≡ Some fronts.TooLarge → IsAboveLimits limits file (image_of (header_of read)).size (length (image_of (header_of read)).ec_info) limits
+  too_large reason = record {
+    image = image_of (header_of read);
+    headers = headers (Some fronts.TooLarge) (refl, refused limits (stream_of read.stream) (header_of read) read.front.frames is.front.frames fronts.TooLarge reason);
+    sides = refl;
+    channels = refl;
+    compared = refl;
+  }
+
+  -- it has this error before the sections of its frames
+  pub front_fails : (error : FrontError) → reason_of read ≡ Some error → FileFails limits file (files.Front error)
+  front_fails error reason = (stream_of read.stream, is.found, refused limits (stream_of read.stream) (header_of read) read.front.frames is.front.frames error reason)
+
+-- a format suits the picture as it is shown, too
+same_suits : (format : Format) (image : Image) → suits format (upright image) ≡ suits format image
+same_suits Pgm image = refl
+same_suits Ppm image = refl
+same_suits Pam image = refl
+same_suits Pfm image = refl
+same_suits Text image = refl
+
+-- the format is that of the picture as it is shown, too
+pub same_choice : (asked : Option Format) (image : Image) → chosen asked (upright image) ≡ chosen asked image
+same_choice None image = ap (λ (b : Bool). if suits Pfm image then Some Pfm else if b then Some (usual_whole image) else None) (same_suits (usual_whole image) image)
+same_choice (Some Pgm) image = refl
+same_choice (Some Ppm) image = refl
+same_choice (Some Pam) image = refl
+same_choice (Some Pfm) image = refl
+same_choice (Some Text) image = refl
+
+-- so a format that was chosen for the file is that of its picture
+pub choice_kept : (asked : Option Format) (image shown : Image) (format : Format) → chosen asked image ≡ Some format → shown ≡ upright image → chosen asked shown ≡ Some format
+choice_kept asked image shown format e same = subst (λ (i : Image). chosen asked i ≡ Some format) (sym same) (same_choice asked image ∙ e)
+
+-- what is written is the text of the file's picture
+pub text_of_file : (limits : Limits) (file : List ℕ) (asked : Option Format) (picture : Picture) (steps : ℕ) (format : Format) →
+    IsPictureOfFile limits file picture 0 steps → chosen asked (image_of picture.header) ≡ Some format → (result : Result Output Failure) →
+    IfOk result (λ o. o.text.items ≡ text_of format (image_of picture.header) picture.channels.items) →
+    IfOk result (λ o. string_bytes o.left_out.channels ≡ kinds_left_out format (image_of picture.header).ec_info) →
+    IfOk result (λ o. o.left_out.profile ≡ (image_of picture.header).shown.colour_encoding.want_icc) →
+    IfOk result (λ o. IsTextOfFile limits file asked o.text.items (string_bytes o.left_out.channels) o.left_out.profile)
+text_of_file limits file asked picture steps format is suited (Ok o) written without plain = record {
+  picture = picture;
+  steps = steps;
+  is = is;
+  format = format;
+  suited = suited;
+  written = written;
+  without = without;
+  plain = plain;
+}
+text_of_file limits file asked picture steps format is suited (Err e) written without plain = tt
