@@ -28,6 +28,7 @@ fn seen_of_files(alloc: Global, row: &Row<'_>) -> Option<String> {
         "file" => files::seen(alloc, row.asked),
         "cuts" => files::seen_of_cuts(alloc, row.asked),
         "written" => writing::seen(alloc, row.asked),
+        "small" => writing::seen_of_small_writer(alloc, row.asked),
         "info" => told::seen(alloc, row.asked),
         "image" => images::seen(alloc, row.asked),
         "frame" => frames::seen(alloc, row.asked),

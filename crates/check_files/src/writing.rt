@@ -1,10 +1,17 @@
 //! Pictures, and their text in the formats in which they are written.
 
+ghost use Rattle.std.specs.Prelude.{IsTrue};
+ghost use Rattle.jxl_image_header.specs.Images.{image_of};
+ghost use Rattle.jxl_netpbm.specs.Formats.{suits};
+ghost use Rattle.jxl_picture.specs.Pictures.{IsWhole};
+
 use crate::files::digits;
-use check_rows::{bytes, signed, word};
+use crate::streams::SmallWriter;
+use check_rows::{bytes, number, signed, word};
 use jxl_image_header::image::ImageHeader;
 use jxl_image_header::size::Size;
 use jxl_netpbm::format::Format;
+use jxl_netpbm::output::WriteError;
 use jxl_picture::picture::{Picture, colours};
 use jxlm_base::grid::AlignedGrid;
 use jxlm_bits::bits::Bitstream;
@@ -84,28 +91,77 @@ fn picture(alloc: Global, header: &[u8], samples: &[i32]) -> Option<Picture> {
     Some(Picture { header, channels })
 }
 
+/// A format, and a picture to be written in it.
+#[derive(Drop)]
+struct Asked {
+    format: Format,
+    picture: Picture,
+}
+
+impl Asked {
+    /// What a row asks: the format, the bytes of an image header, and after a bar the samples, channel by channel.
+    fn parse(alloc: Global, asked: &str) -> Option<Asked> {
+        let (name, rest) = word(asked);
+        let format = format(name)?;
+        let (header, samples) = rest.split_once(" | ")?;
+        let header = bytes(alloc, header)?;
+        let samples = signed(alloc, samples)?;
+        let picture = picture(alloc, &header, &samples)?;
+        if picture.is_whole() {
+            Some(Asked { format, picture })
+        } else {
+            None
+        }
+    }
+
+    /// Whether it can be written.
+    fn is_writable(&self) -> bool
+        ensures whole { IsTrue result → IsWhole (image_of self.now.picture.header) self.now.picture.channels.items }
+        ensures suits { IsTrue result → IsTrue (suits self.now.format (image_of self.now.picture.header)) }
+    {
+        self.picture.is_whole() && self.format.suits(&self.picture.header)
+    }
+}
+
 /// A row asks with a format, the bytes of an image header, and after a bar the samples, channel by channel. It gives the
 /// bytes of the text of that picture, or `unsuited`, and before it the format in which it is written by default.
 pub fn seen(alloc: Global, asked: &str) -> Option<String> {
-    let (name, rest) = word(asked);
-    let format = format(name)?;
-    let (header, samples) = rest.split_once(" | ")?;
-    let header = bytes(alloc, header)?;
-    let samples = signed(alloc, samples)?;
-    let picture = picture(alloc, &header, &samples)?;
-    if !picture.is_whole() {
-        return None;
-    }
+    let asked = Asked::parse(alloc, asked)?;
     let mut text = String::new(alloc);
-    match Format::usual(&picture.header) {
+    match Format::usual(&asked.picture.header) {
         Some(usual) => write!(text, "{usual:?} ").ok()?,
         None => write!(text, "none ").ok()?,
     }
-    if !format.suits(&picture.header) {
+    if !asked.is_writable() {
         write!(text, "unsuited").ok()?;
         return Some(text);
     }
-    let bytes = format.write(alloc, &picture).ok()?;
+    let mut bytes = Vec::new(alloc);
+    asked.format.write(alloc, &asked.picture, &mut bytes).ok()?;
     digits(&mut text, &bytes)?;
+    Some(text)
+}
+
+/// A row asks the same, and before it with a number of bytes that the writer takes, one in each call. It gives `all` or
+/// `failed`, and the bytes that were taken.
+pub fn seen_of_small_writer(alloc: Global, asked: &str) -> Option<String> {
+    let (room, asked) = word(asked);
+    let asked = Asked::parse(alloc, asked)?;
+    if !asked.is_writable() {
+        return None;
+    }
+    let mut output = SmallWriter {
+        taken: Vec::new(alloc),
+        room: number(room)? as usize,
+        flushes: true,
+    };
+    let ended = match asked.format.write(alloc, &asked.picture, &mut output) {
+        Ok(()) => "all",
+        Err(WriteError::Writer(_)) => "failed",
+        Err(WriteError::OutOfMemory) => return None,
+    };
+    let mut text = String::new(alloc);
+    write!(text, "{ended} ").ok()?;
+    digits(&mut text, &output.taken)?;
     Some(text)
 }

@@ -2,3 +2,4 @@ pub mod Growing
 pub mod Pieces
 pub mod LayerLaws
 pub mod Numbers
+pub mod Writing

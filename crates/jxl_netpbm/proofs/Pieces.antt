@@ -1,15 +1,16 @@
 -- The bytes of one more sample.
-use Rattle.std.proofs.Common.{◌≡◌, ℕ, ◌+◌, ◌<◌, ◌≤◌, ℤ, List, ◌++◌, length, get_or, take, Some, sym, ap, ◌∙◌, subst}
+use Rattle.std.proofs.Common.{◌≡◌, ℕ, ◌+◌, ◌*◌, ◌<◌, ◌≤◌, ℤ, pos, List, [], ◌∷◌, ◌++◌, length, get_or, take, Some, sym, ap, ◌∙◌, subst, append_assoc, append-nil, arith}
 use Rattle.std.specs.Int.{w32, cast_unsigned, to_le_bytes}
 use Rattle.std.specs.List.{flat_map}
 use Rattle.std.proofs.lemmas.List.{take_all}
+use Rattle.std.proofs.lemmas.List.Edits.{get_or-between}
 use Rattle.std.proofs.lemmas.List.Folds.{flat_map-map}
-use Rattle.jxlm_base.specs.Grid.{Grid, at, cell}
+use Rattle.jxlm_base.specs.Grid.{Grid, at, cell, row}
 use Rattle.jxlm_base.proofs.GridLaws.{at_from_cell}
-use Rattle.jxl_netpbm.specs.Rasters.{level, rescaled_sample, number_text, sample_text, pixel_text, float_text}
+use Rattle.jxl_netpbm.specs.Rasters.{level, rescaled_sample, number_text, sample_text, pixel_text, pixels_text, float_text}
 use Rattle.jxl_netpbm.specs.Inner.Layers.{layer_of, layers_of}
 use Rattle.jxl_netpbm.specs.declared.raster.Layer.{Layer as Held}
-use Rattle.jxl_netpbm.proofs.Growing.{take_piece}
+use Rattle.jxl_netpbm.proofs.Growing.{below_more, take_piece}
 
 pub float_piece : (channels : List (Grid ℤ)) (i x y : ℕ) (item : Grid ℤ) (v : ℤ) → i < length channels → item ≡ get_or channels i item → cell item x y ≡ Some v →
     flat_map (float_text x y) (take (i + 1) channels) ≡ flat_map (float_text x y) (take i channels) ++ to_le_bytes w32 (cast_unsigned w32 v)
@@ -31,3 +32,42 @@ pub all_samples : (most x y i : ℕ) (layers : List Held) (before after : List �
     after ≡ before ++ pixel_text most (layers_of layers) y x
 all_samples most x y i layers before after all e =
     e ∙ ap (λ t. before ++ t) (ap (flat_map (held_text most x y)) (take_all i layers all) ∙ sym (flat_map-map (sample_text most x y) layer_of layers))
+
+-- a sample that is read in its row
+pub at_row : (g : Grid ℤ) (x y : ℕ) (cells : List ℤ) → cells ≡ row g y → x < g.width → at g x y ≡ get_or cells x (pos 0)
+at_row g x y cells is less =
+    sym (get_or-between g.cells (y * g.width) (y * g.width + g.width) x (pos 0) (omega (arith, less))) ∙ sym (ap (λ (cs : List ℤ). get_or cs x (pos 0)) is)
+
+abbrev pub number_of : ℕ → Held → ℤ → List ℕ
+number_of most l v = number_text most (rescaled_sample l.own most (level l.own v))
+
+pub grey_piece : (most x y : ℕ) (l : Held) (v : ℤ) → at l.grid.now x y ≡ v →
+    pixels_text most (layers_of (l ∷ [])) y (x + 1) ≡ pixels_text most (layers_of (l ∷ [])) y x ++ number_of most l v
+grey_piece most x y l v e =
+    below_more (pixel_text most (layers_of (l ∷ [])) y) x ∙ ap (λ (t : List ℕ). pixels_text most (layers_of (l ∷ [])) y x ++ t) (append-nil (sample_text most x y (layer_of l)) ∙ ap (number_of most l) e)
+
+pub colours_piece : (most x y : ℕ) (r g b : Held) (u v w : ℤ) → at r.grid.now x y ≡ u → at g.grid.now x y ≡ v → at b.grid.now x y ≡ w →
+    pixels_text most (layers_of (r ∷ g ∷ b ∷ [])) y (x + 1) ≡ pixels_text most (layers_of (r ∷ g ∷ b ∷ [])) y x ++ (number_of most r u ++ (number_of most g v ++ number_of most b w))
+colours_piece most x y r g b u v w e f h =
+    below_more (pixel_text most (layers_of (r ∷ g ∷ b ∷ [])) y) x ∙ ap (λ (t : List ℕ). pixels_text most (layers_of (r ∷ g ∷ b ∷ [])) y x ++ t)
+    (ap (λ (t : List ℕ). sample_text most x y (layer_of r) ++ (sample_text most x y (layer_of g) ++ t)) (append-nil (sample_text most x y (layer_of b)))
+    ∙ ap (λ (n : ℤ). number_of most r n ++ (sample_text most x y (layer_of g) ++ sample_text most x y (layer_of b))) e
+    ∙ ap (λ (n : ℤ). number_of most r u ++ (number_of most g n ++ sample_text most x y (layer_of b))) f
+    ∙ ap (λ (n : ℤ). number_of most r u ++ (number_of most g v ++ number_of most b n)) h)
+
+-- three pieces one after the other
+pub three_joined : (before first second third a b c : List ℕ) → first ≡ before ++ a → second ≡ first ++ b → third ≡ second ++ c → third ≡ before ++ (a ++ (b ++ c))
+three_joined before first second third a b c e f g =
+    g ∙ ap (λ (t : List ℕ). t ++ c) (f ∙ ap (λ (t : List ℕ). t ++ b) e) ∙ append_assoc (before ++ a) b c ∙ append_assoc before a (b ++ c)
+
+pub one_layer : (ls : List Held) (l : Held) → length ls ≡ 1 → l ≡ get_or ls 0 l → ls ≡ l ∷ []
+one_layer [] l n e = let bad : ⊥ = omega (arith, n) in absurd bad
+one_layer (k ∷ []) l n e = ap (λ (h : Held). h ∷ []) (sym e)
+one_layer (k ∷ m ∷ ls) l n e = let bad : ⊥ = omega (arith, n) in absurd bad
+
+pub three_layers : (ls : List Held) (r g b : Held) → length ls ≡ 3 → r ≡ get_or ls 0 r → g ≡ get_or ls 1 g → b ≡ get_or ls 2 b → ls ≡ r ∷ g ∷ b ∷ []
+three_layers [] r g b n e f h = let bad : ⊥ = omega (arith, n) in absurd bad
+three_layers (k ∷ []) r g b n e f h = let bad : ⊥ = omega (arith, n) in absurd bad
+three_layers (k ∷ l ∷ []) r g b n e f h = let bad : ⊥ = omega (arith, n) in absurd bad
+three_layers (k ∷ l ∷ m ∷ []) r g b n e f h = ap (λ (z : Held). z ∷ l ∷ m ∷ []) (sym e) ∙ ap (λ (z : Held). r ∷ z ∷ m ∷ []) (sym f) ∙ ap (λ (z : Held). r ∷ g ∷ z ∷ []) (sym h)
+three_layers (k ∷ l ∷ m ∷ o ∷ ls) r g b n e f h = let bad : ⊥ = omega (arith, n) in absurd bad

@@ -96,10 +96,14 @@ pfm_head image = line (if is_grey image then codes "Pf" else codes "PF") ++ size
 abbrev pub raster_of : Image → List Layer → List ℕ
 raster_of image layers = raster_text (most_of image) layers image.size.width image.size.height
 
+-- the text of a picture of whole numbers without alpha, after this magic
+abbrev pub pnm_text : List ℕ → Image → List (Grid ℤ) → List ℕ
+pnm_text magic image channels = pnm_head magic image ++ raster_of image (colour_layers image channels)
+
 -- the text of a picture: a head, and its samples
 abbrev pub text_of : Format → Image → List (Grid ℤ) → List ℕ
-text_of Pgm image channels = pnm_head (codes "P5") image ++ raster_of image (colour_layers image channels)
-text_of Ppm image channels = pnm_head (pnm_magic image) image ++ raster_of image (colour_layers image channels)
+text_of Pgm image channels = pnm_text (codes "P5") image channels
+text_of Ppm image channels = pnm_text (pnm_magic image) image channels
 text_of Pam image channels = pam_head image ++ raster_of image (pam_layers image channels)
 text_of Pfm image channels =
     pfm_head image ++ float_rows (colours_of image channels) image.size.width image.size.height image.size.height

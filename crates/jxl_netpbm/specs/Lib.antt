@@ -1,3 +1,4 @@
 pub mod Rasters
 pub mod Formats
+pub mod Output
 pub mod Inner

@@ -1,5 +1,6 @@
-//! Pictures in other formats: the text of a picture in PGM, PPM, PAM and PFM, and in decimal numbers.
+//! Pictures in other formats: they are written in PGM, PPM, PAM and PFM, and in decimal numbers.
 #![tactic(auto)]
 
 pub mod format;
+pub mod output;
 mod raster;

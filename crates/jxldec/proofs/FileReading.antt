@@ -23,6 +23,7 @@ use Rattle.jxl_netpbm.specs.declared.format.Format.{Format}
 use Rattle.jxl_netpbm.specs.declared.format.Format.TheVariants.{Pgm, Ppm, Pam, Pfm, Text}
 use Rattle.jxl_picture.specs.declared.limits.Limits.{Limits}
 use Rattle.jxl_picture.specs.declared.picture.Picture.{Picture}
+use Rattle.jxldec.specs.Contents.{content_text}
 use Rattle.jxldec.specs.Texts.{HasNoFormat, IsAboveLimits, IsTextOfFile, chosen}
 use Rattle.jxldec.specs.Warnings.{kinds_left_out}
 use Rattle.jxldec.specs.declared.failures.Failure.{Failure}
@@ -94,10 +95,10 @@ choice_kept asked image shown format e same = subst (λ (i : Image). chosen aske
 -- what is written is the text of the file's picture
 pub text_of_file : (limits : Limits) (file : List ℕ) (asked : Option Format) (picture : Picture) (steps : ℕ) (format : Format) →
     IsPictureOfFile limits file picture 0 steps → chosen asked (image_of picture.header) ≡ Some format → (result : Result Output Failure) →
-    IfOk result (λ o. o.text.items ≡ text_of format (image_of picture.header) picture.channels.items) →
+    IfOk result (λ o. content_text o.content ≡ text_of format (image_of picture.header) picture.channels.items) →
     IfOk result (λ o. string_bytes o.left_out.channels ≡ kinds_left_out format (image_of picture.header).ec_info) →
     IfOk result (λ o. o.left_out.profile ≡ (image_of picture.header).shown.colour_encoding.want_icc) →
-    IfOk result (λ o. IsTextOfFile limits file asked o.text.items (string_bytes o.left_out.channels) o.left_out.profile)
+    IfOk result (λ o. IsTextOfFile limits file asked (content_text o.content) (string_bytes o.left_out.channels) o.left_out.profile)
 text_of_file limits file asked picture steps format is suited (Ok o) written without plain = record {
   picture = picture;
   steps = steps;

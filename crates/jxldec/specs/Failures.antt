@@ -30,6 +30,11 @@ IsOfWriting (failures.Unwritable error) = Unit {0}
 IsOfWriting failures.Closed = Unit {0}
 IsOfWriting failure = ⊥
 
+-- the output cannot be written, or it is out of memory for that
+abbrev pub IsOfContent : Failure → Type 0
+IsOfContent failures.OutOfMemory = Unit {0}
+IsOfContent failure = IsOfWriting failure
+
 -- the name of what fails: of the file or of the output
 abbrev pub subject : List ℕ → List ℕ → Failure → List ℕ
 subject input output failure = if is_of_output failure then output else input

@@ -5,6 +5,7 @@ use Rattle.jxl_coding.specs.Parse.{decoder_at}
 use Rattle.jxl_coding.specs.Tokens.{entropy}
 use Rattle.jxl_image_header.specs.Images.{Image, image_of}
 use Rattle.jxl_netpbm.specs.Formats.{suits, text_of, usual}
+use Rattle.jxl_netpbm.specs.Output.{AppendsBeginning}
 use Rattle.jxl_netpbm.specs.declared.format.Format.{Format}
 use Rattle.jxl_picture.specs.declared.limits.Limits.{Limits}
 use Rattle.jxl_picture.specs.declared.picture.Picture.{Picture}
@@ -81,20 +82,22 @@ pub record IsReadWhole (left rest : Option (List ℕ)) (holds : List ℕ → Typ
   pub ended : IsAtEnd rest
   pub held : holds file
 
--- The text is what is asked of a file.
-pub record IsMade (info : Bool) (limits : Limits) (asked : Option Format) (file : List ℕ) : Type 0 where
+-- The text is what is asked of a file, and the output, which held `held`, holds after it a beginning of the text.
+pub record IsBegun (info : Bool) (limits : Limits) (asked : Option Format) (held holds : Option (List ℕ)) (file : List ℕ) : Type 0 where
   pub text : List ℕ
   pub others : List ℕ
   pub profile : Bool
   pub is : IsAsked info limits asked file text others profile
+  pub begun : AppendsBeginning held holds text
 
--- what each failure says of the input, from left to rest: it was read to its end, but where it cannot be read; and what is
--- asked of it was made before the output was written
-abbrev pub InputFails : Bool → Limits → Option Format → Option (List ℕ) → Option (List ℕ) → Failure → Type 0
-InputFails info limits asked left rest (failures.Unreadable error) = Unit {0}
-InputFails info limits asked left rest (failures.Unwritable error) = IsReadWhole left rest (IsMade info limits asked)
-InputFails info limits asked left rest failures.Closed = IsReadWhole left rest (IsMade info limits asked)
-InputFails info limits asked left rest failure = IsReadWhole left rest (λ file. AskedFails info limits asked file failure)
+-- what each failure says of the input, from left to rest, and of the output, which held `held`: the input was read to its
+-- end, but where it cannot be read; what is asked of it was made before the output was written, and the output holds a
+-- beginning of that
+abbrev pub InputFails : Bool → Limits → Option Format → Option (List ℕ) → Option (List ℕ) → Option (List ℕ) → Option (List ℕ) → Failure → Type 0
+InputFails info limits asked left rest held holds (failures.Unreadable error) = Unit {0}
+InputFails info limits asked left rest held holds (failures.Unwritable error) = IsReadWhole left rest (IsBegun info limits asked held holds)
+InputFails info limits asked left rest held holds failures.Closed = IsReadWhole left rest (IsBegun info limits asked held holds)
+InputFails info limits asked left rest held holds failure = IsReadWhole left rest (λ file. AskedFails info limits asked file failure)
 
 -- The input was read to its end, from left to rest, and the output, which held `held`, holds after it what was asked of
 -- what was read.
@@ -122,8 +125,8 @@ pub record IsDone (info quiet : Bool) (limits : Limits) (asked : Option Format) 
 
 -- What is asked for is not done, by this failure; the output stays as it was, unless it is what fails; standard error gets
 -- the line of the failure, about the input or the output.
-pub record IsFailed (info : Bool) (limits : Limits) (asked : Option Format) (input output : List ℕ) (left rest : Option (List ℕ)) (Stays : Type 0) (Gets : Option (List ℕ) → Type 0) : Type 0 where
+pub record IsFailed (info : Bool) (limits : Limits) (asked : Option Format) (input output : List ℕ) (left rest held holds : Option (List ℕ)) (Stays : Type 0) (Gets : Option (List ℕ) → Type 0) : Type 0 where
   pub failure : Failure
-  pub why : InputFails info limits asked left rest failure
+  pub why : InputFails info limits asked left rest held holds failure
   pub kept : is_of_output failure ≡ false → Stays
   pub gets : Gets (failure_line (subject input output failure) failure)

@@ -1,12 +1,14 @@
 //! The program over a reader and two writers.
 
-ghost use Rattle.std.specs.Prelude.{◌≡◌, ◌≤◌, ℕ, List, [], length, true, false, IfErr, IfOk, IfSome, IsTrue, OnOk, Some, string_bytes};
+ghost use Rattle.std.specs.Prelude.{◌≡◌, ◌≤◌, ℕ, List, [], length, true, false, IfErr, IfOk, IfSome, IsTrue, OnErr, OnOk, Some, string_bytes};
 ghost use Rattle.std.specs.Io.KnownBytes.{Appends};
 ghost use Rattle.jxl_image_header.specs.Images.{image_of};
 ghost use Rattle.jxl_lossless.specs.Files.{IsReadOf, header_of};
 ghost use Rattle.jxl_netpbm.specs.Formats.{suits, text_of};
+ghost use Rattle.jxl_netpbm.specs.Output.{AppendsBeginning};
 ghost use Rattle.jxl_picture.specs.Pictures.{IsWhole};
-ghost use Rattle.jxldec.specs.Failures.{IsOfWriting, failure_line, is_of_output};
+ghost use Rattle.jxldec.specs.Contents.{IsWritable, content_text};
+ghost use Rattle.jxldec.specs.Failures.{IsOfContent, failure_line, is_of_output};
 ghost use Rattle.jxldec.specs.Texts.{AskedFails, InfoFails, InputFails, IsAsked, IsDone, IsFailed, IsInfo, IsTextOfFile, IsReported, IsWritten, TextFails, chosen};
 ghost use Rattle.jxldec.specs.Warnings.{kinds_left_out, warnings};
 
@@ -22,13 +24,23 @@ use jxl_info::headers::{Headers, HeadersError, is_boxed};
 use jxl_info::text::info_text;
 use jxl_lossless::{FileError, JxlFile, Limits, Picture, Steps};
 use jxl_netpbm::format::Format;
+use jxl_netpbm::output::{WriteError, write_whole};
 use std::alloc::Global;
 use std::io::{Read, Write};
 
-/// What is asked of a file, and what it leaves out.
+/// What is written of a file.
+#[derive(Drop)]
+pub enum Content {
+    /// What its headers tell.
+    Headers(Vec<u8>),
+    /// Its picture, in a format that suits it.
+    Picture { picture: Picture, format: Format },
+}
+
+/// What is written of a file, and what that leaves out.
 #[derive(Drop)]
 pub struct Output {
-    pub text: Vec<u8>,
+    pub content: Content,
     pub left_out: LeftOut,
 }
 
@@ -59,14 +71,15 @@ fn format_for(asked: Option<Format>, header: &ImageHeader) -> Option<Format>
 
 // What the headers of a file tell.
 fn info_of_file(alloc: Global, file: &[u8], limits: &Limits) -> Result<Output, Failure>
-    ensures text { IfOk result (λ o. IsInfo limits.now file.now o.text.items (string_bytes o.left_out.channels)
-        o.left_out.profile) }
+    ensures text { IfOk result (λ o. IsInfo limits.now file.now (content_text o.content)
+        (string_bytes o.left_out.channels) o.left_out.profile) }
+    ensures writable { IfOk result (λ o. IsWritable o.content) }
     ensures err { IfErr result (InfoFails limits.now file.now) }
 {
     match Headers::read::<EntropyDecoder>(alloc, file, limits) {
         Ok(headers) => match info_text(alloc, is_boxed(file), &headers.image, headers.reason) {
             Ok(text) => Ok(Output {
-                text: text.into_bytes(),
+                content: Content::Headers(text.into_bytes()),
                 left_out: LeftOut::nothing(alloc),
             }),
             Err(_) => Err(Failure::OutOfMemory),
@@ -108,38 +121,40 @@ fn format_of_file(
     }
 }
 
-// The text of a picture in a format that suits it.
-fn write_picture(alloc: Global, picture: &Picture, format: Format) -> Result<Output, Failure>
-    requires whole { IsWhole (image_of picture.now.header) picture.now.channels.items }
-    requires suits { suits format (image_of picture.now.header) ≡ true }
-    ensures text { IfOk result (λ o. o.text.items
-        ≡ text_of format (image_of picture.now.header) picture.now.channels.items) }
+// A picture with a format that suits it, and what that leaves out.
+fn output_of(alloc: Global, picture: Picture, format: Format) -> Result<Output, Failure>
+    requires whole { IsWhole (image_of picture.header) picture.channels.items }
+    requires suits { suits format (image_of picture.header) ≡ true }
+    ensures text { IfOk result (λ o. content_text o.content
+        ≡ text_of format (image_of picture.header) picture.channels.items) }
+    ensures writable { IfOk result (λ o. IsWritable o.content) }
     ensures channels { IfOk result (λ o. string_bytes o.left_out.channels
-        ≡ kinds_left_out format (image_of picture.now.header).ec_info) }
+        ≡ kinds_left_out format (image_of picture.header).ec_info) }
     ensures profile { IfOk result (λ o. o.left_out.profile
-        ≡ (image_of picture.now.header).shown.colour_encoding.want_icc) }
+        ≡ (image_of picture.header).shown.colour_encoding.want_icc) }
     ensures err { IfErr result (λ failure. failure ≡ Failure.OutOfMemory) }
 {
-    let Ok(left_out) = LeftOut::of(alloc, format, &picture.header) else {
-        return Err(Failure::OutOfMemory);
-    };
-    match format.write(alloc, picture) {
-        Ok(text) => Ok(Output { text, left_out }),
+    match LeftOut::of(alloc, format, &picture.header) {
+        Ok(left_out) => Ok(Output {
+            content: Content::Picture { picture, format },
+            left_out,
+        }),
         Err(_) => Err(Failure::OutOfMemory),
     }
 }
 
-/// The text of the picture of a file, in the format that is asked for, or in that of its kind. Where the headers stand
-/// and there is no such format, or the picture is above the limits, no sample is decoded.
-pub fn picture_text<P: Line>(
+/// The picture of a file, with the format that is asked for, or that of its kind. If the headers stand and there is no
+/// such format, or the picture is above the limits, no sample is decoded.
+pub fn picture_of_file<P: Line>(
     alloc: Global,
     file: &[u8],
     asked: Option<Format>,
     limits: &Limits,
     progress: &mut P,
 ) -> Result<Output, Failure>
-    ensures text { IfOk result (λ o. IsTextOfFile limits.now file.now asked o.text.items
+    ensures text { IfOk result (λ o. IsTextOfFile limits.now file.now asked (content_text o.content)
         (string_bytes o.left_out.channels) o.left_out.profile) }
+    ensures writable { IfOk result (λ o. IsWritable o.content) }
     ensures err { IfErr result (TextFails limits.now file.now asked) }
 {
     let read = match JxlFile::read(alloc, file, limits) {
@@ -149,38 +164,63 @@ pub fn picture_text<P: Line>(
     let format = format_of_file(&read, asked, limits)?;
     let mut steps = Steps::new();
     match read.decode(alloc, &mut steps, progress) {
-        Ok(picture) => write_picture(alloc, &picture, format),
+        Ok(picture) => output_of(alloc, picture, format),
         Err(error) => Err(Failure::File(error)),
     }
 }
 
 // What is asked of the file: what its headers tell, or its picture.
-fn text_asked<P: Line>(
+fn output_asked<P: Line>(
     alloc: Global,
     file: &[u8],
     options: &Options<'_>,
     progress: &mut P,
 ) -> Result<Output, Failure>
-    ensures ok { IfOk result (λ o. IsAsked options.now.info options.now.limits options.now.format file.now o.text.items
-        (string_bytes o.left_out.channels) o.left_out.profile) }
+    ensures ok { IfOk result (λ o. IsAsked options.now.info options.now.limits options.now.format file.now
+        (content_text o.content) (string_bytes o.left_out.channels) o.left_out.profile) }
+    ensures writable { IfOk result (λ o. IsWritable o.content) }
     ensures err { IfErr result (AskedFails options.now.info options.now.limits options.now.format file.now) }
 {
     if options.info {
         info_of_file(alloc, file, &options.limits)
     } else {
-        picture_text(alloc, file, options.format, &options.limits, progress)
+        picture_of_file(alloc, file, options.format, &options.limits, progress)
     }
 }
 
-// Writes the bytes and passes them on.
-fn write_bytes<W: Flush>(output: &mut W, bytes: &[u8]) -> Result<(), Failure>
-    ensures ok { OnOk result (Appends (W.contents output.old) (W.contents output.new) bytes.now) }
-    ensures flushed { OnOk result (W.is_flushed output.new) }
-    ensures err { IfErr result IsOfWriting }
+// Writes the content, a piece at a time. Out of memory, it has written nothing.
+fn write_content<W: Flush>(alloc: Global, output: &mut W, content: &Content) -> Result<(), Failure>
+    requires { IsWritable content.now }
+    ensures ok { OnOk result (Appends (W.contents output.old) (W.contents output.new) (content_text content.now)) }
+    ensures begun { OnErr result (AppendsBeginning (W.contents output.old) (W.contents output.new)
+        (content_text content.now)) }
+    ensures kept { IfErr result (λ failure. failure ≡ Failure.OutOfMemory → output.new ≡ output.old) }
+    ensures err { IfErr result IsOfContent }
 {
-    if let Err(error) = output.write_all(bytes) {
-        return Err(Failure::of_write(error));
+    match content {
+        Content::Headers(text) => match write_whole(output, text) {
+            Ok(()) => Ok(()),
+            Err(error) => Err(Failure::of_write(error)),
+        },
+        Content::Picture { picture, format } => match format.write(alloc, picture, output) {
+            Ok(()) => Ok(()),
+            Err(WriteError::OutOfMemory) => Err(Failure::OutOfMemory),
+            Err(WriteError::Writer(error)) => Err(Failure::of_write(error)),
+        },
     }
+}
+
+// Writes the content and passes it on.
+fn pass_on<W: Flush>(alloc: Global, output: &mut W, content: &Content) -> Result<(), Failure>
+    requires { IsWritable content.now }
+    ensures ok { OnOk result (Appends (W.contents output.old) (W.contents output.new) (content_text content.now)) }
+    ensures flushed { OnOk result (W.is_flushed output.new) }
+    ensures begun { OnErr result (AppendsBeginning (W.contents output.old) (W.contents output.new)
+        (content_text content.now)) }
+    ensures kept { IfErr result (λ failure. failure ≡ Failure.OutOfMemory → output.new ≡ output.old) }
+    ensures err { IfErr result IsOfContent }
+{
+    write_content(alloc, output, content)?;
     match output.flush_all() {
         Ok(()) => Ok(()),
         Err(error) => Err(Failure::of_write(error)),
@@ -199,7 +239,7 @@ fn carry_out<R: Read, W: Flush, P: Line>(
         (R.remaining input.old) (R.remaining input.new) (W.contents output.old) (W.contents output.new)
         (string_bytes l.channels) l.profile) }
     ensures failed { IfErr result (InputFails options.now.info options.now.limits options.now.format
-        (R.remaining input.old) (R.remaining input.new)) }
+        (R.remaining input.old) (R.remaining input.new) (W.contents output.old) (W.contents output.new)) }
     ensures flushed { OnOk result (W.is_flushed output.new) }
     ensures kept { IfErr result (λ failure. is_of_output failure ≡ false → output.new ≡ output.old) }
 {
@@ -207,10 +247,10 @@ fn carry_out<R: Read, W: Flush, P: Line>(
     if let Err(error) = input.read_to_end(&mut file) {
         return Err(Failure::Unreadable(error));
     }
-    let made = text_asked(alloc, &file, options, progress);
+    let made = output_asked(alloc, &file, options, progress);
     progress.clear();
     let asked = made?;
-    match write_bytes(output, &asked.text) {
+    match pass_on(alloc, output, &asked.content) {
         Ok(()) => Ok(asked.left_out),
         Err(failure) => Err(failure),
     }
@@ -254,7 +294,8 @@ fn succeed<E: Write>(errors: &mut E, options: &Options<'_>, left_out: &LeftOut) 
 /// Reads a file from `input`, and writes to `output` what its headers tell, or its picture in a netpbm format or in
 /// decimal numbers. It returns the status to end with: 0 where the output got that text, alone and whole; else 1, and
 /// `errors` got the line of a failure that holds of the file, unless the output is a pipe that was closed. Nothing is
-/// written to the output unless the whole picture was decoded. With status 0 `errors` got nothing but the lines that warn
+/// written to the output unless the whole picture was decoded, and after a failed write it holds a beginning of that
+/// text. With status 0 `errors` got nothing but the lines that warn
 /// of what is left out. `progress` is called after each section.
 pub fn run<R: Read, W: Flush, E: Write, P: Line>(
     alloc: Global,
@@ -272,7 +313,7 @@ pub fn run<R: Read, W: Flush, E: Write, P: Line>(
     ensures flushed { result.status ≡ 0 → W.is_flushed output.new }
     ensures failed { result.status ≡ 1 → IsFailed options.entry.info options.entry.limits options.entry.format
         options.entry.input.now options.entry.output_name.now (R.remaining input.old) (R.remaining input.new)
-        (output.new ≡ output.old)
+        (W.contents output.old) (W.contents output.new) (output.new ≡ output.old)
         (λ line. IfSome line (IsReported result.reported (E.contents errors.old) (E.contents errors.new))) }
 {
     match carry_out(alloc, &options, input, output, progress) {

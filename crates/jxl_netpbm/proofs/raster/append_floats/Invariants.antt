@@ -1,8 +1,0 @@
-use Rattle.std.proofs.Common.{◌≡◌, ◌++◌, take}
-use Rattle.std.specs.List.{flat_map}
-use Rattle.jxl_netpbm.specs.Rasters.{float_text}
-use Rattle.jxl_netpbm.proofs.raster.append_floats.Given as goal
-
-abbrev pub invariant-loop-channel : goal.invariant-loop-channel
-invariant-loop-channel l =
-    l.bytes.items ≡ l.initial.bytes.items ++ flat_map (float_text l.x l.y) (take l.channel-index l.channels)

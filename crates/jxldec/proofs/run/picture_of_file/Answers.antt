@@ -1,0 +1,23 @@
+use Rattle.std.proofs.Common.{◌≡◌, ℕ, Some, subst}
+use Rattle.jxl_lossless.specs.Pictures.{IsPictureOfFile}
+use Rattle.jxl_image_header.specs.Images.{image_of}
+use Rattle.jxl_lossless.specs.Files.{header_of}
+use Rattle.jxldec.specs.Texts.{chosen}
+use Rattle.jxldec.proofs.FileReading.{choice_kept, text_of_file}
+use Rattle.jxldec.proofs.Texts.{chosen_suits}
+use Rattle.jxldec.proofs.run.picture_of_file.Goals as goal
+
+pub output_of-requires-clause-suits : goal.output_of-requires-clause-suits
+output_of-requires-clause-suits g c =
+    let suited : chosen c.args.asked (image_of c.in-Ok-decode.picture.header) ≡ Some c.in_ok-format.format =
+    choice_kept c.args.asked (image_of (header_of c.in-Ok.read)) (image_of c.in-Ok-decode.picture.header) c.in_ok-format.format c.in_ok-format.ensures.ok c.in-Ok-decode.ensures.header in
+    chosen_suits c.args.asked (image_of c.in-Ok-decode.picture.header) c.in_ok-format.format suited
+
+pub returns-in-Ok-decode-clause-text : goal.returns-in-Ok-decode-clause-text
+returns-in-Ok-decode-clause-text g c =
+    let suited : chosen c.args.asked (image_of c.in-Ok-decode.picture.header) ≡ Some c.in_ok-format.format =
+    choice_kept c.args.asked (image_of (header_of c.in-Ok.read)) (image_of c.in-Ok-decode.picture.header) c.in_ok-format.format c.in_ok-format.ensures.ok c.in-Ok-decode.ensures.header in
+    text_of_file c.args.limits.now c.args.file.now c.args.asked c.in-Ok-decode.picture c.decode.new.steps c.in_ok-format.format
+    (subst (λ (n : ℕ). IsPictureOfFile c.args.limits.now c.args.file.now c.in-Ok-decode.picture n c.decode.new.steps) c.new-steps.ensures
+    (c.in-Ok-decode.ensures.picture c.args.limits.now c.args.file.now c.in-Ok.ensures.ok))
+    suited c.output_of.result c.output_of.ensures.text c.output_of.ensures.channels c.output_of.ensures.profile
