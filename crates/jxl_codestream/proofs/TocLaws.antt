@@ -1,5 +1,5 @@
 -- Tables of contents and profiles are read exactly: the parser returns exactly what the bits at its position code.
-use Rattle.std.proofs.Common.{◌≡◌, ℕ, ◌+◌, ◌*◌, ◌/◌, ◌%◌, Bool, true, false, List, [], ◌∷◌, ◌++◌, length, Ok, Err, Some, None, Result, refl, ap, sym}
+use Rattle.std.proofs.Common.{◌≡◌, ℕ, ◌+◌, ◌*◌, ◌/◌, ◌%◌, Bool, true, false, List, [], ◌∷◌, ◌++◌, length, Ok, Err, Some, Result, refl, ap, sym}
 use Rattle.std.specs.Prelude.{nat_lt, nat_le, codes, if◌then◌else◌}
 use Rattle.std.proofs.lemmas.Bool.{ltb-false, le-ltb}
 use Rattle.jxlm_bits.specs.Decoding.{Found, Meaning}

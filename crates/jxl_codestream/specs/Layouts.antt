@@ -1,5 +1,7 @@
 -- The groups of a frame, its sections and the streams of their parts (ISO/IEC 18181-1, table of contents, stream index).
-use Rattle.std.specs.Prelude.{ℕ, ◌+◌, ◌-◌, ◌*◌, ◌/◌, ◌==◌, ◌&&◌, ◌<◌, ◌≤◌, nat_le, if◌then◌else◌, Option, Some, None}
+use Rattle.std.specs.Prelude.{ℕ, ◌+◌, ◌-◌, ◌*◌, ◌/◌, ◌==◌, ◌&&◌, ◌<◌, ◌≤◌, nat_le, nat_lt, if◌then◌else◌, Bool, true, Option, Some, None}
+use Rattle.jxlm_groups.specs.declared.part.SectionPart.{SectionPart}
+use Rattle.jxlm_groups.specs.declared.part.SectionPart.TheVariants as parts
 use Rattle.jxl_image_header.specs.declared.size.Size.{Size}
 
 -- how many groups of this side a frame is cut into; the last of a row and of a column may be smaller
@@ -20,19 +22,24 @@ layout_of size dim passes = record { groups = groups_of size dim; lf_groups = gr
 abbrev pub section_count_of : Layout → ℕ
 section_count_of l = if (l.groups == 1) && (l.passes == 1) then 1 else 2 + l.lf_groups + l.passes * l.groups
 
--- the number of the section of a group of low frequencies, and of a group of a pass, where there is more than one section
-abbrev pub lf_section_of : ℕ → ℕ
-lf_section_of group = 1 + group
+-- a frame that is cut in this way has this part
+abbrev pub has_part : Layout → SectionPart → Bool
+has_part l parts.Global = true
+has_part l (parts.Lf group) = nat_lt group l.lf_groups
+has_part l (parts.Pass pass group) = nat_lt pass l.passes && nat_lt group l.groups
 
-abbrev pub pass_section_of : Layout → ℕ → ℕ → ℕ
-pass_section_of l pass group = 2 + l.lf_groups + pass * l.groups + group
+-- the number of the section of a part, where there is more than one section: behind the global part come the groups of low
+-- frequencies, the global part of high frequencies, and the passes, group by group
+abbrev pub section_number : Layout → SectionPart → ℕ
+section_number l parts.Global = 0
+section_number l (parts.Lf group) = 1 + group
+section_number l (parts.Pass pass group) = 2 + l.lf_groups + pass * l.groups + group
 
--- the stream indices of their samples; that of the global part is 0
-abbrev pub lf_stream_of : Layout → ℕ → ℕ
-lf_stream_of l group = 1 + l.lf_groups + group
-
-abbrev pub pass_stream_of : Layout → ℕ → ℕ → ℕ
-pass_stream_of l pass group = 18 + 3 * l.lf_groups + pass * l.groups + group
+-- the stream index of the samples of a part
+abbrev pub stream_index : Layout → SectionPart → ℕ
+stream_index l parts.Global = 0
+stream_index l (parts.Lf group) = 1 + l.lf_groups + group
+stream_index l (parts.Pass pass group) = 18 + 3 * l.lf_groups + pass * l.groups + group
 
 -- the most sections that are supported
 abbrev pub max_sections : ℕ

@@ -1,10 +1,11 @@
 //! The groups of a frame, and which section and which stream holds which part.
 
-ghost use Rattle.std.specs.Prelude.{◌≡◌, ◌+◌, ◌-◌, ◌/◌, ◌<◌, ◌≤◌, ◌^◌, nat_le};
+ghost use Rattle.std.specs.Prelude.{◌≡◌, ◌+◌, ◌-◌, ◌/◌, ◌<◌, ◌≤◌, ◌^◌, nat_le, true};
 ghost use Rattle.std.specs.Option.{option_map};
-ghost use Rattle.jxl_codestream.specs.Layouts.{groups_of as the_groups_of, lf_section_of, pass_section_of, lf_stream_of, pass_stream_of, section_count_of, layout_of, layout_if, IsLayout, max_sections};
+ghost use Rattle.jxl_codestream.specs.Layouts.{groups_of as the_groups_of, has_part, section_number, stream_index, section_count_of, layout_of, layout_if, IsLayout, max_sections};
 
 use jxl_image_header::size::Size;
+use jxlm_groups::part::SectionPart;
 
 /// What a frame is cut into: groups, groups of low frequencies, which are 8 times as wide and as high, and passes.
 ///
@@ -76,27 +77,6 @@ impl Layout {
         }
     }
 
-    /// How many groups there are.
-    pub fn groups(&self) -> u32
-        ensures { result ≡ (parts_of self.now).groups }
-    {
-        self.groups
-    }
-
-    /// How many groups of low frequencies there are.
-    pub fn lf_groups(&self) -> u32
-        ensures { result ≡ (parts_of self.now).lf_groups }
-    {
-        self.lf_groups
-    }
-
-    /// How many passes there are.
-    pub fn passes(&self) -> u32
-        ensures { result ≡ (parts_of self.now).passes }
-    {
-        self.passes
-    }
-
     /// How many sections there are, at most 16,777,216.
     pub fn section_count(&self) -> u32
         ensures count { result ≡ section_count_of (parts_of self.now) }
@@ -109,37 +89,42 @@ impl Layout {
         }
     }
 
-    /// The number of the section of this group of low frequencies, where there is more than one section.
-    pub fn lf_section(&self, group: u32) -> u32
-        requires { group < (parts_of self.now).lf_groups }
-        ensures { result ≡ lf_section_of group }
+    /// Whether the frame has this part.
+    pub fn has(&self, part: SectionPart) -> bool
+        ensures { result ≡ has_part (parts_of self.now) part }
     {
-        1 + group
+        match part {
+            SectionPart::Global => true,
+            SectionPart::Lf(group) => group < u64::from(self.lf_groups),
+            SectionPart::Pass(pass, group) => pass < self.passes && group < u64::from(self.groups),
+        }
     }
 
-    /// The number of the section of this group of this pass, where there is more than one section.
-    pub fn pass_section(&self, pass: u32, group: u32) -> u32
-        requires pass { pass < (parts_of self.now).passes }
-        requires group { group < (parts_of self.now).groups }
-        ensures { result ≡ pass_section_of (parts_of self.now) pass group }
+    /// The number of the section of a part that the frame has, where there is more than one section.
+    pub fn section(&self, part: SectionPart) -> u32
+        requires { has_part (parts_of self.now) part ≡ true }
+        ensures { result ≡ section_number (parts_of self.now) part }
     {
-        2 + self.lf_groups + pass * self.groups + group
+        match part {
+            SectionPart::Global => 0,
+            SectionPart::Lf(group) => 1 + group as u32,
+            SectionPart::Pass(pass, group) => {
+                2 + self.lf_groups + pass * self.groups + group as u32
+            }
+        }
     }
 
-    /// The stream index of the samples of this group of low frequencies; that of the global part is 0.
-    pub fn lf_stream(&self, group: u32) -> u32
-        requires { group < (parts_of self.now).lf_groups }
-        ensures { result ≡ lf_stream_of (parts_of self.now) group }
+    /// The stream index of the samples of a part that the frame has.
+    pub fn stream(&self, part: SectionPart) -> u32
+        requires { has_part (parts_of self.now) part ≡ true }
+        ensures { result ≡ stream_index (parts_of self.now) part }
     {
-        1 + self.lf_groups + group
-    }
-
-    /// The stream index of the samples of this group of this pass.
-    pub fn pass_stream(&self, pass: u32, group: u32) -> u32
-        requires pass { pass < (parts_of self.now).passes }
-        requires group { group < (parts_of self.now).groups }
-        ensures { result ≡ pass_stream_of (parts_of self.now) pass group }
-    {
-        18 + 3 * self.lf_groups + pass * self.groups + group
+        match part {
+            SectionPart::Global => 0,
+            SectionPart::Lf(group) => 1 + self.lf_groups + group as u32,
+            SectionPart::Pass(pass, group) => {
+                18 + 3 * self.lf_groups + pass * self.groups + group as u32
+            }
+        }
     }
 }

@@ -7,7 +7,7 @@ use Rattle.std.proofs.lemmas.List.Elements.{All-nil, All-cons, All-append}
 use Rattle.jxlm_groups.specs.declared.part.SectionPart.{SectionPart}
 use Rattle.jxl_modular.specs.declared.sections.Section.{Section}
 use Rattle.jxlm_section_split.proofs.PartLists.{IsAmong, among_filter, among_range}
-use Rattle.jxl_lossless.specs.Places.{held}
+use Rattle.jxl_lossless.specs.Places.{section_at}
 use Rattle.jxl_lossless.specs.Inner.Listing.{AddingFails, AreAdded, IsOfGroup, IsPlaced, Lacks}
 use Rattle.jxl_lossless.specs.declared.still.error.FrameError.{FrameError}
 use Rattle.jxl_lossless.specs.declared.still.error.FrameError.TheVariants as errors
@@ -79,5 +79,5 @@ pub pushed : (x : Places) (part : SectionPart) (before after : List Section) (s 
 pushed x part before after s placed e = one_added x part before after s placed e
 
 -- one part that has no section
-pub lacks_one : (x : Places) (part : SectionPart) → held x part ≡ None → Lacks x (part ∷ [])
+pub lacks_one : (x : Places) (part : SectionPart) → section_at x part ≡ None → Lacks x (part ∷ [])
 lacks_one x part none = record { part = part; asked = any_of part (part ∷ []) (inl refl); none = none }

@@ -26,7 +26,7 @@ use Rattle.jxl_patches.specs.Errors.{patch_kind}
 use Rattle.jxl_patches.specs.declared.error.PatchError.{PatchError}
 use Rattle.jxl_picture.specs.Limits.{channel_count}
 use Rattle.jxl_lossless.specs.Sections.{section_of, sections_in}
-use Rattle.jxl_patches.specs.Slots.{Slots, optional_patches}
+use Rattle.jxl_patches.specs.Slots.{Slots, optional_patches, sizes_of}
 use Rattle.jxl_lossless.specs.Frames.{FrameFails, HasPatches, HasTree, IsFrame, SharedTree, channels_given}
 use Rattle.jxl_lossless.specs.Inner.Coded.{BeginsWith, CodedFails, IsMade, MadeFails}
 use Rattle.jxl_lossless.specs.declared.error.FileError.{FileError}
@@ -45,16 +45,16 @@ module _ {D : Type 0} (d : Meaning D) (image : Image) (slots : Slots) (frame : F
   made_fails patches begin stands (errors.Front e) h = absurd h
 
   module _ (size : Size) (extra : ℕ) (sizes : List (Option Size)) (bytes : List ℕ) (p q : ℕ) (is_size : size ≡ frame_size image.size frame) (is_extra : extra ≡ length image.ec_info)
-      (are : sizes ≡ slots.sizes) (lies : bytes ≡ first) (start : p ≡ 0) where
+      (are : sizes ≡ (sizes_of slots)) (lies : bytes ≡ first) (start : p ≡ 0) where
     -- what was read is what stands at the begin of the first section
     read_there : (optional_patches d frame.coding.flags.patches size extra sizes).read bytes p ≡
-        (optional_patches d frame.coding.flags.patches (frame_size image.size frame) (length image.ec_info) slots.sizes).read first 0
+        (optional_patches d frame.coding.flags.patches (frame_size image.size frame) (length image.ec_info) (sizes_of slots)).read first 0
     read_there =
         ap (λ (z : Size). (optional_patches d frame.coding.flags.patches z extra sizes).read bytes p) is_size
         ∙ ap (λ n. (optional_patches d frame.coding.flags.patches (frame_size image.size frame) n sizes).read bytes p) is_extra
         ∙ ap (λ (zs : List (Option Size)). (optional_patches d frame.coding.flags.patches (frame_size image.size frame) (length image.ec_info) zs).read bytes p) are
-        ∙ ap (λ (b : List ℕ). (optional_patches d frame.coding.flags.patches (frame_size image.size frame) (length image.ec_info) slots.sizes).read b p) lies
-        ∙ ap (λ n. (optional_patches d frame.coding.flags.patches (frame_size image.size frame) (length image.ec_info) slots.sizes).read first n) start
+        ∙ ap (λ (b : List ℕ). (optional_patches d frame.coding.flags.patches (frame_size image.size frame) (length image.ec_info) (sizes_of slots)).read b p) lies
+        ∙ ap (λ n. (optional_patches d frame.coding.flags.patches (frame_size image.size frame) (length image.ec_info) (sizes_of slots)).read first n) start
 
     pub begins : (patches : Option Patches) → (optional_patches d frame.coding.flags.patches size extra sizes).read bytes p ≡ Ok (record { value = patches; position = q }) →
         BeginsWith d image slots frame first patches q

@@ -3,15 +3,15 @@ pub mod Listings
 pub mod Headers
 pub mod Stills
 pub mod Passes
+pub mod Places
 pub mod Order
 pub mod Weighted
 pub mod Alike
 pub mod Complete
 pub mod Channels
 pub mod Cuts
-pub mod Places
-pub mod FrameSections
 pub mod Frames
+pub mod FrameSections
 pub mod Holding
 pub mod SavedFrames
 pub mod Trees

@@ -1,19 +1,22 @@
 -- Lists in which each element comes before all later ones, and groups in the order of their sections.
-use Rattle.std.proofs.Common.{◌≡◌, ◌≢◌, ℕ, zero, suc, ◌+◌, ◌*◌, ◌<◌, ◌⊎◌, inl, inr, Bool, true, false, cond, List, [], ◌∷◌, ◌++◌, length, map, get_or, nat_lt, if◌then◌else◌, Option, Some, None, refl, ap, arith}
-use Rattle.std.specs.Prelude.{slice_get}
-use Rattle.std.specs.Borrow.{Bor}
+use Rattle.std.proofs.Common.{◌≡◌, ◌≢◌, ℕ, zero, suc, ◌+◌, ◌*◌, ◌<◌, ◌⊎◌, inl, inr, Bool, true, false, cond, List, [], ◌∷◌, ◌++◌, map, get_or, nat_lt, if◌then◌else◌, Option, Some, None, refl, sym, ap, arith}
+use Rattle.std.specs.Prelude.{◌&&◌, slice_get}
+use Rattle.std.specs.Option.{option_map, option_map_or}
 use Rattle.std.specs.List.{All, AllPairs, filter, flat_map, range_with_len}
 use Rattle.std.proofs.lemmas.List.Elements.{All-head, All-tail, All-append, All-filter}
 use Rattle.std.proofs.lemmas.List.Kept.{AllPairs-cons}
 use Rattle.std.proofs.lemmas.Bool.{ltb-true}
-use Rattle.jxlm_groups.proofs.Parts.{get_of}
 use Rattle.jxlm_groups.specs.declared.part.SectionPart.{SectionPart}
 use Rattle.jxlm_groups.specs.declared.part.SectionPart.TheVariants as parts
 use Rattle.jxl_modular.specs.declared.sections.Section.{Section}
 use Rattle.jxlm_section_split.proofs.PartLists.{each_of_range, each_section}
+use Rattle.jxlm_bits.specs.Bits.{bytes_of}
+use Rattle.jxl_codestream.specs.Layouts.{Layout, has_part, section_number, stream_index}
+use Rattle.jxl_codestream.specs.LayoutParts.{parts_of}
 use Rattle.jxl_lossless.proofs.Passes.{all_passes}
+use Rattle.jxl_lossless.proofs.Places.{has_section}
 use Rattle.jxl_lossless.specs.Inner.Listing.{IsOfGroup}
-use Rattle.jxl_lossless.specs.Places.{held, place_of, stream_of}
+use Rattle.jxl_lossless.specs.Places.{lent}
 use Rattle.jxl_lossless.specs.declared.still.places.Places.{Places}
 
 module _ {X : Type 0} (R : X → X → Type 0) where
@@ -81,43 +84,60 @@ pub sections_ordered : (ss : List Section) → Ordered Before (map (λ s. s.part
 sections_ordered [] a = λ i j d lt within. absurd (omega (arith, within))
 sections_ordered (s ∷ ss) a = AllPairs-cons (λ s t. Before s.part t.part) s ss (each_section (Before s.part) ss a.0) (sections_ordered ss a.1)
 
-module _ (x : Places) where
-  none_is : {y : Bor (List ℕ)} → ◌≡◌ {A = Option (Bor (List ℕ))} None (Some y) → ⊥
-  none_is e = cc
+later_pass : (n p q j k : ℕ) → p < q → j < n → p * n + j < q * n + k
+later_pass n p zero j k lt low = absurd (omega (arith, lt))
+later_pass n zero (suc q) j k lt low = omega (arith, low)
+later_pass n (suc p) (suc q) j k lt low = let rest = later_pass n p q j k (omega (arith, lt)) low in omega (arith, rest)
 
-  -- a group of a pass that has a section is one of as many as a pass has
-  within_pass : (p k : ℕ) (y : Bor (List ℕ)) → held x (parts.Pass p k) ≡ Some y → k < x.each
-  within_pass p k y e = by (nat_lt k x.each) refl e where
-    by : (b : Bool) → nat_lt k x.each ≡ b → (if b then slice_get x.groups.now (place_of x p k) else None) ≡ Some y → k < x.each
-    by true is e = ltb-true k x.each is
-    by false is e = absurd (none_is e)
+module _ (l : Layout) where
+  group_below : (b c : Bool) → (b && c) ≡ true → c ≡ true
+  group_below true c e = e
+  group_below false c e = cc
 
-  later_pass : (n p q j k : ℕ) → p < q → j < n → p * n + j < q * n + k
-  later_pass n p zero j k lt low = absurd (omega (arith, lt))
-  later_pass n zero (suc q) j k lt low = omega (arith, low)
-  later_pass n (suc p) (suc q) j k lt low = let rest = later_pass n p q j k (omega (arith, lt)) low in omega (arith, rest)
-
-  -- where two parts have sections, the index of the stream of the earlier one is smaller
-  rises : (a b : SectionPart) (y z : Bor (List ℕ)) → held x a ≡ Some y → held x b ≡ Some z → Before a b → stream_of x a < stream_of x b
-  rises parts.Global b y z one other h = absurd (none_is one)
-  rises (parts.Lf j) parts.Global y z one other h = absurd h
-  rises (parts.Lf j) (parts.Lf k) y z one other h = omega (arith, h)
-  rises (parts.Lf j) (parts.Pass p k) y z one other h =
-      let lt : j < length x.low.now = (get_of x.low.now j y y one).0 in
+  -- the index of the stream of an earlier part that the frame has is smaller
+  rises : (a b : SectionPart) → has_part l a ≡ true → Before a b → stream_index l a < stream_index l b
+  rises parts.Global parts.Global has h = absurd h
+  rises parts.Global (parts.Lf k) has h = omega arith
+  rises parts.Global (parts.Pass p k) has h = omega arith
+  rises (parts.Lf j) parts.Global has h = absurd h
+  rises (parts.Lf j) (parts.Lf k) has h = omega (arith, h)
+  rises (parts.Lf j) (parts.Pass p k) has h =
+      let lt : j < l.lf_groups = ltb-true j l.lf_groups has in
       omega (arith, lt)
-  rises (parts.Pass p j) parts.Global y z one other h = absurd h
-  rises (parts.Pass p j) (parts.Lf k) y z one other h = absurd h
-  rises (parts.Pass p j) (parts.Pass q k) y z one other (inl lt) = let rest = later_pass x.each p q j k lt (within_pass p j y one) in omega (arith, rest)
-  rises (parts.Pass p j) (parts.Pass q k) y z one other (inr h) =
-      let same : p * x.each ≡ q * x.each = ap (λ n. n * x.each) h.0 in
+  rises (parts.Pass p j) parts.Global has h = absurd h
+  rises (parts.Pass p j) (parts.Lf k) has h = absurd h
+  rises (parts.Pass p j) (parts.Pass q k) has (inl lt) =
+      let below : j < l.groups = ltb-true j l.groups (group_below (nat_lt p l.passes) (nat_lt j l.groups) has) in
+      let rest = later_pass l.groups p q j k lt below in
+      omega (arith, rest)
+  rises (parts.Pass p j) (parts.Pass q k) has (inr h) =
+      let same : p * l.groups ≡ q * l.groups = ap (λ n. n * l.groups) h.0 in
       let lt = h.1 in
       omega (arith, same, lt)
 
+-- the index that is found is the one that is looked for
+with_index : (n m : ℕ) (bytes : List ℕ) (found : Option (List ℕ)) → option_map {U = List ℕ × ℕ} (λ (b : List ℕ). (b, n)) found ≡ Some (bytes, m) → m ≡ n
+with_index n m bytes None e = cc
+with_index n m bytes (Some b) e = sym (ap (λ (o : Option (List ℕ × ℕ)). option_map_or (λ (p : List ℕ × ℕ). p.1) o n) e)
+
+module _ (x : Places) where
+  abbrev cut : Layout
+  cut = parts_of x.layout.now
+
+  -- a section has the index of the stream of its part
+  its_stream : (s : Section) → IsOfGroup x s → s.stream_index ≡ stream_index cut s.part
+  its_stream s of = by (has_part cut s.part) refl of.there where
+    by : (b : Bool) → has_part cut s.part ≡ b →
+        (if b then option_map {U = List ℕ × ℕ} (λ (bytes : List ℕ). (bytes, stream_index cut s.part)) (slice_get (lent x.sections.now) (section_number cut s.part)) else None) ≡ Some (bytes_of s.bits, s.stream_index) →
+        s.stream_index ≡ stream_index cut s.part
+    by true is e = with_index (stream_index cut s.part) s.stream_index (bytes_of s.bits) (slice_get (lent x.sections.now) (section_number cut s.part)) e
+    by false is e = cc
+
   stream_rises : (s t : Section) → IsOfGroup x s → IsOfGroup x t → Before s.part t.part → s.stream_index < t.stream_index
   stream_rises s t one other h =
-      let lt = rises s.part t.part one.section other.section one.there other.there h in
-      let a = one.stream in
-      let b = other.stream in
+      let lt = rises cut s.part t.part (has_section cut (lent x.sections.now) s.part (bytes_of s.bits, s.stream_index) one.there) h in
+      let a = its_stream s one in
+      let b = its_stream t other in
       omega (arith, lt, a, b)
 
   -- sections of groups in order come by rising index of their streams

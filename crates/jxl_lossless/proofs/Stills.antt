@@ -1,9 +1,7 @@
 -- A frame from the sections that were listed, or why there is none.
 use Rattle.std.proofs.Common.{◌≡◌, IsTrue, ℕ, Bool, true, false, ℤ, List, [], ◌∷◌, get_or, Option, Some, is_some, Result, Ok, sym, ap, ◌∙◌, subst}
 use Rattle.std.specs.Int.{Width}
-use Rattle.std.specs.Option.{option_map}
 use Rattle.std.specs.Prelude.{◌&&◌, ◌||◌, ◌↔◌, ◌<◌, Any, IsFalse}
-use Rattle.std.specs.Borrow.{Bor}
 use Rattle.std.specs.List.{All, list_any}
 use Rattle.jxlm_bits.specs.Bits.{bytes_of, position_of}
 use Rattle.jxlm_bits.specs.Decoding.{Meaning}
@@ -32,7 +30,7 @@ use Rattle.jxlm_section_split.proofs.Openings.{opened_steps}
 use Rattle.jxlm_section_split.proofs.Pictures.{still_picture}
 use Rattle.jxlm_section_split.proofs.Whole.{all_whole}
 use Rattle.jxlm_groups.specs.declared.pass.Pass.{Pass}
-use Rattle.jxl_lossless.specs.Places.{own_passes, section_at, stream_of}
+use Rattle.jxl_lossless.specs.Places.{own_passes, section_at}
 use Rattle.jxl_lossless.proofs.Complete.{all_ones, complete, each_one, exist, sections_in_order, unlike}
 use Rattle.jxl_lossless.proofs.Order.{streams_rise}
 use Rattle.jxl_lossless.proofs.Weighted.{all_plain, none_there, some_weighted, stands_there}
@@ -88,20 +86,9 @@ module _ {S D : Type 0} (d : Meaning D) (w : Width) (to_int : S → ℤ) (zero :
       let (k, part, lt, at, same) = lacks.asked in
       subst P (at ∙ same) (all k part lt)
 
-  -- the bytes of a section with the index of a stream
-  abbrev with_stream : ℕ → Option (Bor (List ℕ)) → Option (List ℕ × ℕ)
-  with_stream n found = option_map {U = List ℕ × ℕ} (λ (b : Bor (List ℕ)). (b.now, n)) found
-
-  abbrev both : List ℕ → ℕ → Option (List ℕ × ℕ)
-  both section n = Some (section, n)
-
   -- a section that was found is that of a group
   of_group : (s : Section) → IsOfGroup places s → (section_at places s.part ≡ Some (bytes_of s.bits, s.stream_index)) × (position_of s.bits ≡ 0) × (s.nested ≡ true)
-  of_group s g = (
-    ap (with_stream (stream_of places s.part)) g.there ∙ ap (λ b. both b (stream_of places s.part)) (sym g.lies) ∙ ap (both (bytes_of s.bits)) (sym g.stream),
-    g.begins,
-    g.nested,
-  )
+  of_group s g = (g.there, g.begins, g.nested)
 
   -- opening the image fails
   pub open_fails : (e : FrameError) → OpenFails d global given bytes p e → Fails e
@@ -132,7 +119,7 @@ module _ {S D : Type 0} (d : Meaning D) (w : Width) (to_int : S → ℤ) (zero :
       subst (λ n. IsTrue (can_cut n (coded_list image))) dim_is cut,
       lacks.part,
       of_lacking (λ part. (part ≡ parts.Global → ⊥) × (0 < cell_count (channels_in image passes part))) (groups_in_order image passes) (all_ones image passes) lacks,
-      ap (with_stream (stream_of places lacks.part)) lacks.none,
+      lacks.none,
     )
     list_fails errors.OutOfMemory h = tt
     list_fails (errors.Header e) h = absurd h

@@ -20,7 +20,7 @@ use Rattle.jxl_frame_header.specs.Passes.{shifts_held}
 use Rattle.jxl_codestream.specs.Starts.{section_start, tree_limit}
 use Rattle.jxl_patches.specs.Errors.{patch_kind}
 use Rattle.jxl_patches.specs.Patches.{Patches}
-use Rattle.jxl_patches.specs.Slots.{ArePut, Slots, optional_patches}
+use Rattle.jxl_patches.specs.Slots.{ArePut, Slots, optional_patches, sizes_of}
 use Rattle.jxl_picture.specs.Limits.{channel_count}
 use Rattle.jxl_picture.specs.Pictures.{colour_count, shifts_of}
 use Rattle.jxl_lossless.specs.Stills.{IsStill, StillFails}
@@ -72,7 +72,7 @@ module _ {D : Type 0} (d : Meaning D) (image : Image) (slots : Slots) (bytes : L
 
   -- what its first section begins with: patches of the frames that the slots hold, or none
   abbrev pub dictionary : Grammar (Option Patches)
-  dictionary = optional_patches d frame.header.coding.flags.patches sides (length image.ec_info) slots.sizes
+  dictionary = optional_patches d frame.header.coding.flags.patches sides (length image.ec_info) (sizes_of slots)
 
   -- The bits code them,
   pub record HasPatches : Type 0 where

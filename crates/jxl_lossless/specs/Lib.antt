@@ -1,6 +1,6 @@
+pub mod Sections
 pub mod Places
 pub mod Stills
-pub mod Sections
 pub mod Frames
 pub mod Saved
 pub mod Pictures

@@ -1,21 +1,19 @@
 -- The frames of a codestream that are saved for others, and the frame after them (ISO/IEC 18181-1, frame header: saving).
-use Rattle.std.specs.Prelude.{◌≡◌, ℕ, ℤ, List, [], ◌∷◌, ◌++◌, length, get_or, Some, None}
+use Rattle.std.specs.Prelude.{◌≡◌, ℕ, ℤ, List, [], ◌∷◌, ◌++◌, get_or, Some, None}
 use Rattle.jxlm_bits.specs.Decoding.{Meaning}
 use Rattle.jxlm_base.specs.Grid.{Grid}
 use Rattle.jxl_image_header.specs.Images.{Image}
-use Rattle.jxl_image_header.specs.declared.size.Size.{Size}
 use Rattle.jxl_frame_header.specs.Frames.{frame_size}
 use Rattle.jxl_picture.specs.Pictures.{AreChannels}
 use Rattle.jxl_codestream.specs.Fronts.{FrameAt}
-use Rattle.jxl_patches.specs.Slots.{Slots, no_slots, saved_in}
+use Rattle.jxl_patches.specs.Slots.{Saved, Slots, no_slots, saved_in}
 use Rattle.jxl_lossless.specs.Frames.{FrameFails, IsFrame}
 use Rattle.jxl_lossless.specs.declared.error.FileError.{FileError}
 use Rattle.jxl_lossless.specs.declared.error.FileError.TheVariants as errors
 
--- there are as many sizes as frames, and each frame has all channels of an image, of its size
-pub record HoldChannels (image : Image) (slots : Slots) : Type 0 where
-  pub count : length slots.frames ≡ length slots.sizes
-  pub held : (k : ℕ) (size : Size) → get_or slots.sizes k None ≡ Some size → AreChannels image size (get_or slots.frames k [])
+-- each frame that a slot holds has all channels of an image, of its size
+abbrev pub HoldChannels : Image → Slots → Type 0
+HoldChannels image slots = (k : ℕ) (f : Saved) → get_or slots k None ≡ Some f → AreChannels image f.size f.channels
 
 module _ {D : Type 0} (d : Meaning D) (bytes : List ℕ) (image : Image) where
   -- These frames are decoded one after another, with patches of what the slots hold then, and the channels of each are saved

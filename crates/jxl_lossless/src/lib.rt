@@ -1,11 +1,11 @@
 //! Lossless pictures of JPEG XL files (ISO/IEC 18181-1, 18181-2): the container, the headers, and the frames.
 #![tactic(auto)]
 
+mod codestream;
 pub mod error;
 mod file;
 mod frame;
 mod picture;
-mod saved;
 mod sections;
 pub mod still;
 mod tree;

@@ -1,6 +1,5 @@
 -- What patches make of a frame's samples (ISO/IEC 18181-1, frame: patches).
-use Rattle.std.specs.Prelude.{◌≡◌, ℕ, zero, suc, ◌+◌, ◌-◌, ◌*◌, ◌<◌, ◌≤◌, ◌&&◌, nat_lt, nat_le, Bool, true, false, if◌then◌else◌, List, [], length, get_or, map, ℤ, ◌+ℤ◌, Option, Some, None}
-use Rattle.std.specs.Global.{Vec}
+use Rattle.std.specs.Prelude.{◌≡◌, ℕ, zero, suc, ◌+◌, ◌-◌, ◌*◌, ◌<◌, ◌≤◌, ◌&&◌, nat_lt, nat_le, Bool, true, false, if◌then◌else◌, List, [], length, get_or, ℤ, ◌+ℤ◌, Option, Some, None}
 use Rattle.std.specs.Int.{int_wrap, w32}
 use Rattle.jxlm_base.specs.Grid.{Grid, grid, at}
 use Rattle.jxl_image_header.specs.declared.size.Size.{Size}
@@ -19,10 +18,6 @@ abbrev pub mixed_sample : PatchMode → ℤ → ℤ → ℤ
 mixed_sample Keep v r = v
 mixed_sample Replace v r = r
 mixed_sample Add v r = int_wrap w32 (v +ℤ r)
-
--- the channels of each slot
-abbrev pub frames_of : List (Vec (Grid ℤ)) → List (List (Grid ℤ))
-frames_of slots = map (λ v. v.items) slots
 
 -- a channel of the frame that a slot holds; a grid of no cells where there is none
 abbrev pub channel_of : List (List (Grid ℤ)) → ℕ → ℕ → Grid ℤ

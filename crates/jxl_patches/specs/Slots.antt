@@ -1,35 +1,46 @@
 -- What the four slots hold, and the patches that a frame has of it (ISO/IEC 18181-1, frame: saving, patches).
-use Rattle.std.specs.Prelude.{◌≡◌, ℕ, ◌+◌, ◌*◌, ℤ, List, [], length, replicate, set, Bool, Option, Some, None}
+use Rattle.std.specs.Prelude.{◌≡◌, ℕ, ◌+◌, ◌*◌, ℤ, List, [], length, get_or, map, replicate, set, Bool, Option, Some, None}
+use Rattle.std.specs.Option.{option_map, option_map_or}
 use Rattle.jxlm_bits.specs.Decoding.{Meaning}
 use Rattle.jxlm_bits.specs.Grammar.{Grammar, give, ◌>>=◌}
 use Rattle.jxlm_base.specs.Grid.{Grid}
 use Rattle.jxl_image_header.specs.Fields.{when}
 use Rattle.jxl_image_header.specs.declared.size.Size.{Size}
 use Rattle.jxl_patches.specs.Patches.{Patches, dictionary}
-use Rattle.jxl_patches.specs.Patched.{ArePatched, AreSaved, HaveSides}
+use Rattle.jxl_patches.specs.Patched.{ArePatched, HaveSides}
 
--- of each slot the size of the frame that it holds, or none, and the channels of that frame
-pub record Slots : Type 0 where
-  pub sizes : List (Option Size)
-  pub frames : List (List (Grid ℤ))
+-- a frame that is saved: how large it is, and its channels
+pub record Saved : Type 0 where
+  pub size : Size
+  pub channels : List (Grid ℤ)
+
+-- of each slot the frame that it holds, or none
+abbrev pub Slots : Type 0
+Slots = List (Option Saved)
+
+-- how large these frames are, and their channels; no frame has none
+abbrev pub sizes_of : Slots → List (Option Size)
+sizes_of slots = map (option_map (λ f. f.size)) slots
+
+abbrev pub frames_of : Slots → List (List (Grid ℤ))
+frames_of slots = map (λ held. option_map_or (λ f. f.channels) held []) slots
 
 -- before the first frame no slot holds one
 abbrev pub no_slots : Slots
-no_slots = record { sizes = replicate 4 None; frames = replicate 4 [] }
+no_slots = replicate 4 None
 
 -- a frame of this size is saved in slot k, in place of the one that it held
 abbrev pub saved_in : Slots → ℕ → Size → List (Grid ℤ) → Slots
-saved_in slots k size grids = record { sizes = set slots.sizes k (Some size); frames = set slots.frames k grids }
-
--- there are as many sizes as frames, and each frame has n channels of its size
-pub record HoldFrames (n : ℕ) (slots : Slots) : Type 0 where
-  pub count : length slots.frames ≡ length slots.sizes
-  pub held : AreSaved slots.sizes n slots.frames
+saved_in slots k size grids = set slots k (Some (record { size = size; channels = grids }))
 
 -- these are n channels of this size
 pub record AreOfSize (n : ℕ) (size : Size) (grids : List (Grid ℤ)) : Type 0 where
   pub count : length grids ≡ n
   pub sides : HaveSides size grids
+
+-- each frame that a slot holds has n channels of its size
+abbrev pub HoldFrames : ℕ → Slots → Type 0
+HoldFrames n slots = (k : ℕ) (f : Saved) → get_or slots k None ≡ Some f → AreOfSize n f.size f.channels
 
 -- the dictionary of patches, if its header says that there is one, of a frame of this size with this number of extra channels;
 -- they may put, with repetitions, four times its cells, and 4096
@@ -39,4 +50,4 @@ optional_patches d there size extra sizes = when there (dictionary d size extra 
 -- Patches, if there are any, are put into channels, of which this number are colours.
 abbrev pub ArePut : Slots → ℕ → Option Patches → List (Grid ℤ) → List (Grid ℤ) → Type 0
 ArePut slots colours None old new = new ≡ old
-ArePut slots colours (Some patches) old new = ArePatched slots.frames colours patches old new
+ArePut slots colours (Some patches) old new = ArePatched (frames_of slots) colours patches old new

@@ -4,10 +4,12 @@ ghost use Rattle.std.specs.Prelude.{◌≡◌, ℕ, ◌+◌, ◌<◌, ◌≤◌,
 ghost use Rattle.std.specs.Int.{int_wrap, w32};
 ghost use Rattle.jxlm_base.specs.Grid.{at};
 ghost use Rattle.jxl_patches.specs.Dictionaries.{patches_of, place_at};
-ghost use Rattle.jxl_patches.specs.Patched.{channel_of, frames_of, mode_at, kinds_of as the_kinds_of, PlaceFits, Fits, ArePatched};
+ghost use Rattle.jxl_patches.specs.Patched.{mode_at, kinds_of as the_kinds_of, PlaceFits, Fits, ArePatched};
+ghost use Rattle.jxl_patches.specs.SavedParts.{frames_in};
 ghost use Rattle.jxl_patches.specs.Inner.Rows.{IsRowMixed, IsPut, FitsChannel, IsPatched, kind_of as the_kind_of};
 
 use crate::dictionary::{Dictionary, PatchMode, Place};
+use crate::slots::SavedFrames;
 use jxlm_base::grid::AlignedGrid;
 
 // Writes these over a part of a row.
@@ -95,21 +97,6 @@ fn kind_of(colours: usize, channel: usize) -> usize
     }
 }
 
-// A channel of the frame that a slot holds.
-fn reference_of(
-    references: &[Vec<AlignedGrid<i32>>],
-    slot: u32,
-    channel: usize,
-) -> &AlignedGrid<i32>
-    requires slot { slot < length references.now }
-    requires channel { channel < length (get_or (frames_of references.now) slot []) }
-    ensures { result.now ≡ channel_of (frames_of references.now) slot channel }
-{
-    let frame = &references[slot as usize];
-    prove!(channel < frame.len());
-    &frame[channel]
-}
-
 // How many modes a place has.
 fn kinds_of(colours: usize, channels: usize) -> usize
     requires { channels < 2 ^ 63 }
@@ -142,16 +129,16 @@ impl Dictionary {
         kinds: usize,
         kind: usize,
         channel: usize,
-        references: &[Vec<AlignedGrid<i32>>],
+        slots: &SavedFrames,
         grid: &mut AlignedGrid<i32>,
     )
-        requires { FitsChannel (frames_of references.now) (patches_of self.now) kinds kind channel grid.old }
-        ensures { IsPatched (frames_of references.now) (patches_of self.now) kinds kind channel grid.old grid.new }
+        requires { FitsChannel (frames_in slots.now) (patches_of self.now) kinds kind channel grid.old }
+        ensures { IsPatched (frames_in slots.now) (patches_of self.now) kinds kind channel grid.old grid.new }
     {
         for n in 0..self.places.len() {
             let place = self.nth_place(n);
             let mode = self.nth_mode(n, kinds, kind);
-            let source = reference_of(references, place.source.slot, channel);
+            let source = slots.channel(place.source.slot, channel);
             put(source, place, mode, grid);
         }
     }
@@ -161,20 +148,15 @@ impl Dictionary {
     /// taken modulo 2^32. No channel changes its size, and no cell changes that no place covers.
     ///
     /// It takes time for each cell of each place, in each channel: `parse` bounds them by its limit.
-    pub fn apply(
-        &self,
-        colours: usize,
-        channels: &mut [AlignedGrid<i32>],
-        references: &[Vec<AlignedGrid<i32>>],
-    )
-        requires { Fits (frames_of references.now) colours (patches_of self.now) channels.old }
-        ensures { ArePatched (frames_of references.now) colours (patches_of self.now) channels.old channels.new }
+    pub fn apply(&self, colours: usize, channels: &mut [AlignedGrid<i32>], slots: &SavedFrames)
+        requires { Fits (frames_in slots.now) colours (patches_of self.now) channels.old }
+        ensures { ArePatched (frames_in slots.now) colours (patches_of self.now) channels.old channels.new }
     {
         let kinds = kinds_of(colours, channels.len());
         for channel in 0..channels.len() {
             let kind = kind_of(colours, channel);
             let grid = &mut channels[channel];
-            self.apply_to(kinds, kind, channel, references, grid);
+            self.apply_to(kinds, kind, channel, slots, grid);
         }
     }
 }

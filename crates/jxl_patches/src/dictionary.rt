@@ -7,10 +7,12 @@ ghost use Rattle.jxlm_bits.specs.Turns.{chain};
 ghost use Rattle.jxl_patches.specs.Reading.{PatchesRead};
 ghost use Rattle.jxl_patches.specs.Patches.{one_rectangle as the_one_rectangle, dictionary as the_dictionary};
 ghost use Rattle.jxl_patches.specs.Inner.Steps.{StepRead};
+ghost use Rattle.jxl_patches.specs.SavedParts.{sizes_in};
 ghost use Rattle.jxl_patches.specs.Dictionaries.{AreWithin, area, patches_of};
 
 use crate::error::Result;
 use crate::place::places;
+use crate::slots::SavedFrames;
 use crate::source::{place_count, rectangle_count, source};
 use crate::token::decoder;
 use jxl_image_header::size::Size;
@@ -65,7 +67,7 @@ fn one_rectangle<D: Decoder>(
     bits: &mut Bitstream<'_>,
     size: Size,
     kinds: usize,
-    slots: &[Option<Size>],
+    slots: &SavedFrames,
     limit: u64,
     cells: u64,
     growing: &mut Dictionary,
@@ -73,7 +75,7 @@ fn one_rectangle<D: Decoder>(
     requires clusters { length (D.meaning.cluster_map decoder.old) ≡ 10 }
     requires counted { cells ≡ sum_by area growing.old.places.items }
     ensures gives { StepRead result decoder.new growing.new (position_of bits.new)
-        ((the_one_rectangle D.meaning size kinds slots.now limit (patches_of growing.old) decoder.old).read
+        ((the_one_rectangle D.meaning size kinds (sizes_in slots.now) limit (patches_of growing.old) decoder.old).read
         (bytes_of bits.old) (position_of bits.old)) }
     ensures counted { IfOk result (λ n. n ≡ sum_by area growing.new.places.items) }
     ensures clusters { IfOk result (λ _. length (D.meaning.cluster_map decoder.new) ≡ 10) }
@@ -101,7 +103,7 @@ fn rectangles<D: Decoder>(
     bits: &mut Bitstream<'_>,
     size: Size,
     kinds: usize,
-    slots: &[Option<Size>],
+    slots: &SavedFrames,
     limit: u64,
     count: u32,
     growing: &mut Dictionary,
@@ -109,8 +111,8 @@ fn rectangles<D: Decoder>(
     requires clusters { length (D.meaning.cluster_map decoder.old) ≡ 10 }
     requires none { sum_by area growing.old.places.items ≡ 0 }
     ensures gives { StepRead result decoder.new growing.new (position_of bits.new)
-        ((chain (the_one_rectangle D.meaning size kinds slots.now limit) count (patches_of growing.old) decoder.old).read
-        (bytes_of bits.old) (position_of bits.old)) }
+        ((chain (the_one_rectangle D.meaning size kinds (sizes_in slots.now) limit) count (patches_of growing.old)
+        decoder.old).read (bytes_of bits.old) (position_of bits.old)) }
     ensures bytes { bytes_of bits.new ≡ bytes_of bits.old }
 {
     let mut cells = 0;
@@ -126,12 +128,13 @@ fn read<D: Decoder>(
     bits: &mut Bitstream<'_>,
     size: Size,
     extra: usize,
-    slots: &[Option<Size>],
+    slots: &SavedFrames,
     limit: u64,
 ) -> Result<Dictionary>
     requires { extra < 2 ^ 63 }
     ensures gives { PatchesRead patches_of result (position_of bits.new)
-        ((the_dictionary D.meaning size extra slots.now limit).read (bytes_of bits.old) (position_of bits.old)) }
+        ((the_dictionary D.meaning size extra (sizes_in slots.now) limit).read (bytes_of bits.old)
+        (position_of bits.old)) }
     ensures bytes { bytes_of bits.new ≡ bytes_of bits.old }
 {
     let mut decoder: D = decoder(alloc, bits, 10)?;
@@ -157,7 +160,7 @@ fn read<D: Decoder>(
 
 impl Dictionary {
     /// The dictionary of patches of a frame of this size with this number of extra channels, which stands at the
-    /// reader's position. Each of the four slots holds a saved frame of its size, or none. At most this number of cells
+    /// reader's position. Each of the four slots holds a saved frame, or none. At most this number of cells
     /// are put, counted with their repetitions and once for all channels: `apply` takes this many steps for each
     /// channel, and those of a place besides.
     ///
@@ -173,13 +176,14 @@ impl Dictionary {
         bits: &mut Bitstream<'_>,
         size: Size,
         extra: usize,
-        slots: &[Option<Size>],
+        slots: &SavedFrames,
         limit: u64,
     ) -> Result<Dictionary>
         requires { extra < 2 ^ 63 }
         ensures gives { PatchesRead patches_of result (position_of bits.new)
-            ((the_dictionary D.meaning size extra slots.now limit).read (bytes_of bits.old) (position_of bits.old)) }
-        ensures fits { IfOk result (λ d. AreWithin size extra slots.now (patches_of d)) }
+            ((the_dictionary D.meaning size extra (sizes_in slots.now) limit).read (bytes_of bits.old)
+            (position_of bits.old)) }
+        ensures fits { IfOk result (λ d. AreWithin size extra (sizes_in slots.now) (patches_of d)) }
         ensures bounded { IfOk result (λ d. sum_by area d.places.items ≤ limit) }
         ensures bytes { bytes_of bits.new ≡ bytes_of bits.old }
     {

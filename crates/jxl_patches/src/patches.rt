@@ -6,7 +6,7 @@ ghost use Rattle.jxlm_bits.specs.Bits.{bytes_of, position_of};
 ghost use Rattle.jxl_patches.specs.Dictionaries.{AreWithin, patches_of};
 ghost use Rattle.jxl_patches.specs.Reading.{PatchesRead};
 ghost use Rattle.jxl_patches.specs.Slots.{ArePut, AreOfSize, HoldFrames, optional_patches};
-ghost use Rattle.jxl_patches.specs.SavedParts.{slots_of};
+ghost use Rattle.jxl_patches.specs.SavedParts.{sizes_in, slots_of};
 
 use crate::dictionary::Dictionary;
 use crate::error::PatchError;
@@ -26,29 +26,30 @@ fn patch_limit(size: Size) -> u64
     4096 + 4 * (u64::from(size.width) * u64::from(size.height))
 }
 
-/// The dictionary of patches, if there is one, of a frame of this size with this number of extra channels. Slots hold
-/// frames of these sizes.
+/// The dictionary of patches, if there is one, of a frame of this size with this number of extra channels, which takes
+/// rectangles of the frames that slots hold.
 pub fn read_patches<D: Decoder>(
     alloc: Global,
     bits: &mut Bitstream<'_>,
     there: bool,
     size: Size,
     extra: usize,
-    sizes: &[Option<Size>],
+    slots: &SavedFrames,
 ) -> Result<Option<Dictionary>, PatchError>
     requires wide { size.width ≤ 2 ^ 30 }
     requires high { size.height ≤ 2 ^ 30 }
     requires extra { extra < 2 ^ 63 }
     ensures gives { PatchesRead (option_map patches_of) result (position_of bits.new)
-        ((optional_patches D.meaning there size extra sizes.now).read (bytes_of bits.old) (position_of bits.old)) }
-    ensures fits { IfOk result (λ p. IfSome p (λ d. AreWithin size extra sizes.now (patches_of d))) }
+        ((optional_patches D.meaning there size extra (sizes_in slots.now)).read (bytes_of bits.old)
+        (position_of bits.old)) }
+    ensures fits { IfOk result (λ p. IfSome p (λ d. AreWithin size extra (sizes_in slots.now) (patches_of d))) }
     ensures bytes { bytes_of bits.new ≡ bytes_of bits.old }
 {
     if !there {
         return Ok(None);
     }
     let limit = patch_limit(size);
-    let dictionary = Dictionary::parse::<D>(alloc, bits, size, extra, sizes, limit)?;
+    let dictionary = Dictionary::parse::<D>(alloc, bits, size, extra, slots, limit)?;
     Ok(Some(dictionary))
 }
 
@@ -61,13 +62,13 @@ pub fn put_patches(
     slots: &SavedFrames,
     channels: &mut [AlignedGrid<i32>],
 )
-    requires fits { IfSome patches.now (λ d. AreWithin size extra (slots_of slots.now).sizes (patches_of d)) }
+    requires fits { IfSome patches.now (λ d. AreWithin size extra (sizes_in slots.now) (patches_of d)) }
     requires held { HoldFrames (colours + extra) (slots_of slots.now) }
     requires sides { AreOfSize (colours + extra) size channels.old }
     ensures put { ArePut (slots_of slots.now) colours (option_map patches_of patches.now) channels.old channels.new }
     ensures sides { AreOfSize (colours + extra) size channels.new }
 {
     if let Some(dictionary) = patches {
-        dictionary.apply(colours, channels, &slots.frames);
+        dictionary.apply(colours, channels, slots);
     }
 }

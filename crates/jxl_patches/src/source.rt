@@ -1,13 +1,15 @@
 //! The rectangles that patches take, and how often.
 
-ghost use Rattle.std.specs.Prelude.{◌≡◌, ◌+◌, ◌*◌, ◌/◌, ◌<◌, ◌≤◌, ◌^◌, length, get_or, None, Ok, Err, IfOk, MatchResult, is_some, nat_le, if◌then◌else◌, Some};
+ghost use Rattle.std.specs.Prelude.{◌≡◌, ◌+◌, ◌*◌, ◌/◌, ◌<◌, ◌≤◌, ◌^◌, length, None, Ok, Err, IfOk, MatchResult, is_some, nat_le, if◌then◌else◌, Some};
 ghost use Rattle.jxlm_bits.specs.Bits.{bytes_of, position_of};
 ghost use Rattle.jxl_patches.specs.Errors.{patch_kind};
 ghost use Rattle.jxl_patches.specs.Patches.{most_rectangles, source as the_source};
+ghost use Rattle.jxl_patches.specs.SavedParts.{sizes_in};
 ghost use Rattle.jxl_patches.specs.Inner.Steps.{TokenRead, Checks, slot as the_slot, rectangle_count as the_rectangle_count, rectangle_within as the_rectangle_within, count_within as the_count_within, place_count as the_place_count};
 
 use crate::dictionary::Rectangle;
 use crate::error::{PatchError, Result};
+use crate::slots::SavedFrames;
 use crate::token::token;
 use jxl_image_header::size::Size;
 use jxlm_bits::bits::Bitstream;
@@ -43,29 +45,15 @@ pub fn rectangle_count<D: Decoder>(
     }
 }
 
-// The size of the frame that a slot holds.
-fn held(slots: &[Option<Size>], slot: u32) -> Option<Size>
-    ensures { result ≡ get_or slots.now slot None }
-{
-    if let Some(Some(size)) = slots.get(slot as usize) {
-        return Some(*size);
-    }
-    None
-}
-
-fn slot<D: Decoder>(
-    decoder: &mut D,
-    bits: &mut Bitstream<'_>,
-    slots: &[Option<Size>],
-) -> Result<u32>
+fn slot<D: Decoder>(decoder: &mut D, bits: &mut Bitstream<'_>, slots: &SavedFrames) -> Result<u32>
     requires { length (D.meaning.cluster_map decoder.old) ≡ 10 }
     ensures gives { TokenRead (λ v. v) result decoder.new (position_of bits.new)
-        ((the_slot D.meaning slots.now decoder.old).read (bytes_of bits.old) (position_of bits.old)) }
+        ((the_slot D.meaning (sizes_in slots.now) decoder.old).read (bytes_of bits.old) (position_of bits.old)) }
     ensures clusters { IfOk result (λ _. D.meaning.cluster_map decoder.new ≡ D.meaning.cluster_map decoder.old) }
     ensures bytes { bytes_of bits.new ≡ bytes_of bits.old }
 {
     let value = token(decoder, bits, 1)?;
-    if held(slots, value).is_some() {
+    if slots.size(value).is_some() {
         Ok(value)
     } else {
         let name = "slot of a patch";
@@ -75,17 +63,17 @@ fn slot<D: Decoder>(
 
 // The rectangle at this corner of the frame that a slot holds, whose sides are coded less one.
 fn rectangle_within(
-    slots: &[Option<Size>],
+    slots: &SavedFrames,
     slot: u32,
     x0: u32,
     y0: u32,
     w: u32,
     h: u32,
 ) -> Result<Rectangle>
-    ensures { Checks result (the_rectangle_within slots.now slot x0 y0 w h) }
+    ensures { Checks result (the_rectangle_within (sizes_in slots.now) slot x0 y0 w h) }
 {
     let name = "rectangle of a patch";
-    let Some(frame) = held(slots, slot) else {
+    let Some(frame) = slots.size(slot) else {
         return Err(PatchError::Invalid { name, value: slot });
     };
     let wide = u64::from(x0) + u64::from(w) < u64::from(frame.width);
@@ -107,11 +95,11 @@ fn rectangle_within(
 pub fn source<D: Decoder>(
     decoder: &mut D,
     bits: &mut Bitstream<'_>,
-    slots: &[Option<Size>],
+    slots: &SavedFrames,
 ) -> Result<Rectangle>
     requires { length (D.meaning.cluster_map decoder.old) ≡ 10 }
     ensures gives { TokenRead (λ v. v) result decoder.new (position_of bits.new)
-        ((the_source D.meaning slots.now decoder.old).read (bytes_of bits.old) (position_of bits.old)) }
+        ((the_source D.meaning (sizes_in slots.now) decoder.old).read (bytes_of bits.old) (position_of bits.old)) }
     ensures clusters { IfOk result (λ _. D.meaning.cluster_map decoder.new ≡ D.meaning.cluster_map decoder.old) }
     ensures bytes { bytes_of bits.new ≡ bytes_of bits.old }
 {

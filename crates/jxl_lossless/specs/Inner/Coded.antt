@@ -11,7 +11,7 @@ use Rattle.jxl_frame_header.specs.Frames.{Frame, frame_size}
 use Rattle.jxl_codestream.specs.Starts.{section_start}
 use Rattle.jxl_patches.specs.Errors.{patch_kind}
 use Rattle.jxl_patches.specs.Patches.{Patches}
-use Rattle.jxl_patches.specs.Slots.{ArePut, Slots, optional_patches}
+use Rattle.jxl_patches.specs.Slots.{ArePut, Slots, optional_patches, sizes_of}
 use Rattle.jxl_picture.specs.Limits.{channel_count}
 use Rattle.jxl_picture.specs.Pictures.{colour_count}
 use Rattle.jxl_lossless.specs.Places.{own_passes, section_at}
@@ -58,7 +58,7 @@ module _ {D : Type 0} (d : Meaning D) (image : Image) (slots : Slots) where
   -- The first section of a frame begins with these patches of the frames that the slots hold, or with none, up to bit q.
   abbrev pub BeginsWith : Frame → List ℕ → Option Patches → ℕ → Type 0
   BeginsWith frame first patches q =
-      StandsAt (optional_patches d frame.coding.flags.patches (frame_size image.size frame) (length image.ec_info) slots.sizes) first 0 patches q
+      StandsAt (optional_patches d frame.coding.flags.patches (frame_size image.size frame) (length image.ec_info) (sizes_of slots)) first 0 patches q
 
   -- These are the channels of a frame by its first section and those of its groups: with samples of 32 bits, into which its
   -- patches are put.
@@ -80,6 +80,6 @@ module _ {D : Type 0} (d : Meaning D) (image : Image) (slots : Slots) where
   -- what each error says of a frame by its first section and those of its groups
   abbrev pub MadeFails : Frame → List ℕ → Places → FileError → Type 0
   MadeFails frame first places (errors.Patches e) = UnlessMemory (patch_kind e)
-      (FailsAt (optional_patches d frame.coding.flags.patches (frame_size image.size frame) (length image.ec_info) slots.sizes) first 0 (patch_kind e))
+      (FailsAt (optional_patches d frame.coding.flags.patches (frame_size image.size frame) (length image.ec_info) (sizes_of slots)) first 0 (patch_kind e))
   MadeFails frame first places errors.OutOfMemory = Unit {0}
   MadeFails frame first places e = FailsAfter frame first places e

@@ -1,6 +1,5 @@
 -- Sections that were found.
 use Rattle.std.specs.Prelude.{◌≡◌, ℕ, ℤ, List, [], ◌∷◌, ◌++◌, map, Any, true, false, IsFalse, IsTrue, Option, None, Some}
-use Rattle.std.specs.Borrow.{Bor}
 use Rattle.std.specs.Int.{Width}
 use Rattle.jxlm_bits.specs.Bits.{bytes_of, position_of}
 use Rattle.jxlm_bits.specs.Decoding.{Meaning}
@@ -16,18 +15,15 @@ use Rattle.jxlm_groups.specs.declared.pass.Pass.{Pass}
 use Rattle.jxl_modular.specs.Image.{Image, coded_list}
 use Rattle.jxl_modular.specs.declared.sections.Section.{Section}
 use Rattle.jxl_lossless.specs.Inner.Parts.{groups_in_order}
-use Rattle.jxl_lossless.specs.Places.{held, own_passes, stream_of}
+use Rattle.jxl_lossless.specs.Places.{own_passes, section_at}
 use Rattle.jxl_lossless.specs.declared.still.error.FrameError.{FrameError}
 use Rattle.jxl_lossless.specs.declared.still.error.FrameError.TheVariants as errors
 use Rattle.jxl_lossless.specs.declared.still.places.Places.{Places}
 
--- The section is that of a group: it holds the bytes that the frame has for its part, and begins with a header of its own.
+-- The section is that of a group: it has the bytes and the stream that the frame has for its part, and a header of its own.
 pub record IsOfGroup (x : Places) (s : Section) : Type 0 where
-  pub section : Bor (List ℕ)
-  pub there : held x s.part ≡ Some section
-  pub lies : bytes_of s.bits ≡ section.now
+  pub there : section_at x s.part ≡ Some (bytes_of s.bits, s.stream_index)
   pub begins : position_of s.bits ≡ 0
-  pub stream : s.stream_index ≡ stream_of x s.part
   pub nested : s.nested ≡ true
 
 -- the section is that of this part
@@ -46,7 +42,7 @@ pub record AreAdded (x : Places) (ps : List SectionPart) (before after : List Se
 pub record Lacks (x : Places) (ps : List SectionPart) : Type 0 where
   pub part : SectionPart
   pub asked : Any (λ q. q ≡ part) ps
-  pub none : held x part ≡ None
+  pub none : section_at x part ≡ None
 
 abbrev pub AddingFails : Places → List SectionPart → FrameError → Type 0
 AddingFails x ps errors.NoSection = Lacks x ps

@@ -5,12 +5,12 @@ ghost use Rattle.std.specs.Option.{IfSome, option_copied};
 ghost use Rattle.jxlm_bits.specs.Bits.{bytes_of, position_of};
 ghost use Rattle.jxlm_transform.specs.Channels.{AreGridsOf, image_list};
 ghost use Rattle.jxlm_transform.specs.Params.{IsValidParams};
-ghost use Rattle.jxlm_groups.specs.Passes.{one_picture, passes_of};
+ghost use Rattle.jxlm_groups.specs.Passes.{can_group, one_picture, passes_of};
 ghost use Rattle.jxl_modular.specs.Image.{image_grids};
 ghost use Rattle.jxl_modular.specs.SameButCells.{SameButCells};
 ghost use Rattle.jxl_modular.specs.Sections.{AreDecoded, IsComplete, SectionsFit};
 ghost use Rattle.jxl_lossless.specs.Stills.{IsStill, StillFails};
-ghost use Rattle.jxl_lossless.specs.Places.{AreUsable, own_passes, section_at};
+ghost use Rattle.jxl_lossless.specs.Places.{own_passes, section_at};
 ghost use Rattle.jxl_lossless.specs.Inner.Listing.{SamplesStop};
 
 use crate::still::error::FrameError;
@@ -61,13 +61,12 @@ fn decode_all<S: Sample, D: Decoder, P: Progress>(
 /// stands, and those of its groups (ISO/IEC 18181-1, frame: sections, LF global, groups).
 ///
 /// A header that uses a global tree has the one of the parameters. Each group with samples has a section, which begins
-/// with a header of its own; the others are not looked at. The indices of streams are 0 for the global part, 1 and the
-/// number of LF groups and its own number for an LF group, and 18 and three times the number of LF groups and its place
-/// for a group of a pass, of all groups of all passes, pass after pass. `progress` is called after each section. It
-/// returns the image, whose transforms are undone; with no channels there is none.
+/// with a header of its own; the others are not looked at. Which section and which stream a part has is said by the
+/// [`Layout`](jxl_codestream::layout::Layout). `progress` is called after each section. It returns the image, whose
+/// transforms are undone; with no channels there is none.
 ///
-/// The parameters are valid, and their channels are of one picture; there are at most 2^24 groups of each kind, and
-/// each shift below 3 has its pass ([`Places::are_usable`]).
+/// The parameters are valid, and their channels are of one picture; each shift below 3 has its pass, so that the passes
+/// can cut an image ([`can_group`](jxlm_groups::pass::can_group)).
 ///
 /// # Errors
 ///
@@ -86,7 +85,7 @@ pub fn decode_frame<'a, S: Sample, D: Decoder, P: Progress>(
 ) -> Result<Option<ModularImageDestination<S, D>>, FrameError>
     requires valid { IsValidParams params }
     requires alike { IsTrue (one_picture (image_list params.channels.items).channels) }
-    requires usable { AreUsable places }
+    requires usable { IsTrue (can_group (own_passes places) []) }
     ensures none { (result ≡ Ok None) ↔ (params.entry.channels.items ≡ []) }
     ensures still { IfOk result (λ made. IfSome made (λ image. IsStill D.meaning S.width S.to_int (S.from_int (pos 0))
         (option_copied params.entry.ma_config) (image_list params.entry.channels.items) params.entry.group_dim

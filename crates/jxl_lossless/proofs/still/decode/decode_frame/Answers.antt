@@ -38,7 +38,7 @@ list-requires-clause-possible g c κs within =
     let q = position_of c.open_image.new.bits in
     let o = at_some (λ (i : Image g.row.S.Denot g.row.D.Denot). Opens g.D.Decoder.meaning global (image_list c.args.params.channels.items) bytes place zero c.args.params.group_dim c.args.params.bit_depth i q)
     c.in_ok-opened.opened image c.in-Some.is c.in_ok-opened.ensures.ok in
-    groups_possible g.D.Decoder.meaning g.S.Sealed.width g.S.Sealed.to_int zero global c.args.params.channels.items c.args.params.group_dim c.args.params.bit_depth bytes place c.args.places image q o c.requires.usable.passes c.requires.alike
+    groups_possible g.D.Decoder.meaning g.S.Sealed.width g.S.Sealed.to_int zero global c.args.params.channels.items c.args.params.group_dim c.args.params.bit_depth bytes place c.args.places image q o c.requires.usable c.requires.alike
 
 pub returns-in_err-sections-clause-err : goal.returns-in_err-sections-clause-err
 returns-in_err-sections-clause-err g c =
@@ -68,7 +68,7 @@ returns-then-weighted-clause-err g c =
     c.in_ok-opened.opened image c.in-Some.is c.in_ok-opened.ensures.ok in
     let sections = c.in_ok-sections.sections.items in
     weighted_fail g.D.Decoder.meaning g.S.Sealed.width g.S.Sealed.to_int zero global c.args.params.channels.items c.args.params.group_dim c.args.params.bit_depth bytes place c.args.places image q o
-    c.open_image.new.bits c.in_ok-opened.ensures.bytes refl sections c.in_ok-sections.ensures.listed c.in_ok-sections.ensures.cut.cells c.requires.usable.passes c.requires.valid.channels c.requires.alike
+    c.open_image.new.bits c.in_ok-opened.ensures.bytes refl sections c.in_ok-sections.ensures.listed c.in_ok-sections.ensures.cut.cells c.requires.usable c.requires.valid.channels c.requires.alike
     (ap (list_any section_is_weighted) (sym c.deref.ensures.value) ∙ sym c.in_ok-weighted.ensures ∙ c.if-weighted.true)
 
 pub decode_all-requires-clause-fit : goal.decode_all-requires-clause-fit
@@ -84,7 +84,7 @@ decode_all-requires-clause-fit g c κs within =
     let sections = c.in_ok-sections.sections.items in
     let fits : SectionsFit image (own_passes c.args.places) sections =
     fit g.D.Decoder.meaning g.S.Sealed.width g.S.Sealed.to_int zero global c.args.params.channels.items c.args.params.group_dim c.args.params.bit_depth bytes place c.args.places image q o
-    c.open_image.new.bits c.in_ok-opened.ensures.bytes refl sections c.in_ok-sections.ensures.listed c.in_ok-sections.ensures.cut.cells c.requires.usable.passes c.requires.alike in
+    c.open_image.new.bits c.in_ok-opened.ensures.bytes refl sections c.in_ok-sections.ensures.listed c.in_ok-sections.ensures.cut.cells c.requires.usable c.requires.alike in
     subst (λ (i : Image g.row.S.Denot g.row.D.Denot). SectionsFit i (own_passes c.args.places) c.deref-2.result.now) (sym c.in_ok-sections.ensures.unchanged)
     (subst (λ (ss : List Section). SectionsFit image (own_passes c.args.places) ss) (sym c.deref-2.ensures.value) fits)
 
@@ -101,7 +101,7 @@ decode_all-requires-clause-complete g c κs within =
     let sections = c.in_ok-sections.sections.items in
     let there : IsComplete image (own_passes c.args.places) sections =
     all_there g.D.Decoder.meaning g.S.Sealed.width g.S.Sealed.to_int zero global c.args.params.channels.items c.args.params.group_dim c.args.params.bit_depth bytes place c.args.places image q o
-    c.open_image.new.bits c.in_ok-opened.ensures.bytes refl sections c.in_ok-sections.ensures.listed c.in_ok-sections.ensures.cut.cells c.requires.usable.passes c.requires.valid.channels c.requires.alike in
+    c.open_image.new.bits c.in_ok-opened.ensures.bytes refl sections c.in_ok-sections.ensures.listed c.in_ok-sections.ensures.cut.cells c.requires.usable c.requires.valid.channels c.requires.alike in
     subst (λ (i : Image g.row.S.Denot g.row.D.Denot). IsComplete i (own_passes c.args.places) c.deref-2.result.now) (sym c.in_ok-sections.ensures.unchanged)
     (subst (λ (ss : List Section). IsComplete image (own_passes c.args.places) ss) (sym c.deref-2.ensures.value) there)
 
@@ -122,7 +122,7 @@ returns-in_err-decode_all-clause-err g c =
     (subst (λ (i : Image g.row.S.Denot g.row.D.Denot). SamplesStop g.D.Decoder.meaning g.S.Sealed.width g.S.Sealed.to_int zero i (own_passes c.args.places) global c.deref-2.result.now e) c.in_ok-sections.ensures.unchanged c.in_err-decode_all.ensures.err) in
     let fails : StillFails g.D.Decoder.meaning g.S.Sealed.width g.S.Sealed.to_int zero global (image_list c.args.params.channels.items) c.args.params.group_dim c.args.params.bit_depth bytes place (own_passes c.args.places) (section_at c.args.places) e =
     samples_fail g.D.Decoder.meaning g.S.Sealed.width g.S.Sealed.to_int zero global c.args.params.channels.items c.args.params.group_dim c.args.params.bit_depth bytes place c.args.places image q o
-    c.open_image.new.bits c.in_ok-opened.ensures.bytes refl sections c.in_ok-sections.ensures.listed c.in_ok-sections.ensures.cut.cells c.requires.usable.passes c.requires.valid.channels c.requires.alike e (ap (list_any section_is_weighted) (sym c.deref.ensures.value) ∙ sym c.in_ok-weighted.ensures ∙ c.if-weighted.false) stops in
+    c.open_image.new.bits c.in_ok-opened.ensures.bytes refl sections c.in_ok-sections.ensures.listed c.in_ok-sections.ensures.cut.cells c.requires.usable c.requires.valid.channels c.requires.alike e (ap (list_any section_is_weighted) (sym c.deref.ensures.value) ∙ sym c.in_ok-weighted.ensures ∙ c.if-weighted.false) stops in
     let p = err_from_is_err_and c.from_residual-in_err-decode_all.result c.from_residual-in_err-decode_all.ensures.1 in
     rw (p.1, p.2) fails
 
@@ -144,7 +144,7 @@ returns-clause-still g c =
     subst (λ (ss : List Section). AreDecoded g.D.Decoder.meaning g.S.Sealed.width g.S.Sealed.to_int zero image (own_passes c.args.places) global ss grids before after) c.deref-2.ensures.value
     (subst (λ (i : Image g.row.S.Denot g.row.D.Denot). AreDecoded g.D.Decoder.meaning g.S.Sealed.width g.S.Sealed.to_int zero i (own_passes c.args.places) global c.deref-2.result.now grids before after) c.in_ok-sections.ensures.unchanged c.in_ok-decode_all.ensures.ok) in
     made g.D.Decoder.meaning g.S.Sealed.width g.S.Sealed.to_int zero global c.args.params.channels.items c.args.params.group_dim c.args.params.bit_depth bytes place c.args.places image q o
-    c.open_image.new.bits c.in_ok-opened.ensures.bytes refl sections c.in_ok-sections.ensures.listed c.in_ok-sections.ensures.cut.cells c.requires.usable.passes c.requires.valid.channels c.requires.alike (ap (list_any section_is_weighted) (sym c.deref.ensures.value) ∙ sym c.in_ok-weighted.ensures ∙ c.if-weighted.false) grids before after done
+    c.open_image.new.bits c.in_ok-opened.ensures.bytes refl sections c.in_ok-sections.ensures.listed c.in_ok-sections.ensures.cut.cells c.requires.usable c.requires.valid.channels c.requires.alike (ap (list_any section_is_weighted) (sym c.deref.ensures.value) ∙ sym c.in_ok-weighted.ensures ∙ c.if-weighted.false) grids before after done
 
 pub returns-clause-sides : goal.returns-clause-sides
 returns-clause-sides g c =

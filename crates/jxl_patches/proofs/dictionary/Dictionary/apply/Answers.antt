@@ -2,8 +2,9 @@ use Rattle.std.proofs.Common.{◌≡◌, ℕ, ℤ, ◌<◌, [], length, get_or, 
 use Rattle.std.proofs.lemmas.List.{get_or_default, length-set}
 use Rattle.jxlm_base.specs.Grid.{Grid, grid}
 use Rattle.jxl_patches.specs.Dictionaries.{patches_of}
-use Rattle.jxl_patches.specs.Patched.{frames_of, kinds_of}
+use Rattle.jxl_patches.specs.Patched.{kinds_of}
 use Rattle.jxl_patches.specs.Inner.Rows.{kind_of, IsPatched}
+use Rattle.jxl_patches.specs.SavedParts.{frames_in}
 use Rattle.jxl_patches.proofs.Channels.{channels_more, channels_left, kind_below}
 use Rattle.jxl_patches.proofs.dictionary.Dictionary.apply.Goals as goal
 
@@ -37,12 +38,12 @@ loop-channel-preserved c =
     let lt : k < length old = omega (arith, c.loop-channel-test.true, i.count) in
     let within : k < length now = omega (arith, lt, i.count) in
     let same : get_or now k c.index-channels-channel.result ≡ get_or old k none = get_or_default now k c.index-channels-channel.result none within ∙ i.left k (omega arith) in
-    let here : IsPatched (frames_of c.args.references.now) (patches_of c.args.self.now) (kinds_of c.args.colours (length old)) (kind_of c.args.colours k) k (get_or old k none) new =
+    let here : IsPatched (frames_in c.args.slots.now) (patches_of c.args.self.now) (kinds_of c.args.colours (length old)) (kind_of c.args.colours k) k (get_or old k none) new =
     rw (same, c.kind_of-kind.ensures, c.kinds_of-kinds.ensures) at c.apply_to.ensures in
     record {
       count = length-set now k new ∙ i.count;
       done = channels_more old now k new none
-          (λ (n : ℕ) (g h : Grid ℤ). IsPatched (frames_of c.args.references.now) (patches_of c.args.self.now) (kinds_of c.args.colours (length old)) (kind_of c.args.colours n) n g h) within i.done here;
+          (λ (n : ℕ) (g h : Grid ℤ). IsPatched (frames_in c.args.slots.now) (patches_of c.args.self.now) (kinds_of c.args.colours (length old)) (kind_of c.args.colours n) n g h) within i.done here;
       left = channels_left old now k new none i.left;
     }
 

@@ -11,7 +11,7 @@ use Rattle.jxl_lossless.specs.Inner.Parts.{with_samples}
 use Rattle.jxl_lossless.specs.Inner.Listing.{AddingFails}
 use Rattle.jxl_lossless.proofs.Adding.{added_then, among_first, fails_among, none_added}
 use Rattle.jxl_lossless.proofs.still.places.Places.add_all_low.Goals as goal
-use Rattle.jxl_lossless.proofs.still.places.Places.add_all_low.Goals.{then-not-is_empty+in_ok-add_low, else-not-is_empty}
+use Rattle.jxl_lossless.proofs.still.places.Places.add_all_low.Goals.{then-not-is_empty+in_ok-add, else-not-is_empty}
 
 pub loop-group-init : goal.loop-group-init
 loop-group-init g c = none_added c.args.self.now c.args.list.now.items
@@ -23,18 +23,18 @@ loop-group-preserved g c =
     let here = λ (part : SectionPart). nat_lt 0 (cell_count (channels_in x (passes_in c.args.groups.now) part)) in
     let count = cell_count (channels_in x (passes_in c.args.groups.now) (name c.loop-group.group)) in
     elim c.if-not-is_empty.branch [
-      | then-not-is_empty+in_ok-add_low w ↦
+      | then-not-is_empty+in_ok-add w ↦
           let some : here (name c.loop-group.group) ≡ true = has_some c.is_empty.result _ count c.is_empty.ensures refl w.if-not-is_empty.true in
           rw (w.list-is, taken here name c.loop-group.group some)
           (added_then c.args.self.now (with_samples x (passes_in c.args.groups.now) (lf_groups c.loop-group.group)) (name c.loop-group.group ∷ []) c.args.list.now.items
-          c.loop-group.list.items w.add_low.new.list.items c.loop-group.invariant w.in_ok-add_low.ensures.ok)
+          c.loop-group.list.items w.add.new.list.items c.loop-group.invariant w.in_ok-add.ensures.ok)
       | else-not-is_empty w ↦
           let none : here (name c.loop-group.group) ≡ false = has_none c.is_empty.result _ count c.is_empty.ensures refl w.if-not-is_empty.false in
           rw (w.list-is, passed_over here name c.loop-group.group none) c.loop-group.invariant
     ]
 
-pub returns-in_err-add_low-clause-err : goal.returns-in_err-add_low-clause-err
-returns-in_err-add_low-clause-err g c =
+pub returns-in_err-add-clause-err : goal.returns-in_err-add-clause-err
+returns-in_err-add-clause-err g c =
     let x = image_of c.args.groups.now in
     let name = λ (k : ℕ). parts.Lf k in
     let here = λ (part : SectionPart). nat_lt 0 (cell_count (channels_in x (passes_in c.args.groups.now) part)) in
@@ -43,7 +43,7 @@ returns-in_err-add_low-clause-err g c =
     let count = cell_count (channels_in x (passes_in c.args.groups.now) (name k)) in
     let some : here (name k) ≡ true = has_some c.is_empty.result _ count c.is_empty.ensures refl c.if-not-is_empty.true in
     let below : k < n = search rules in
-    let e = c.in_err-add_low.field-0.0 in
+    let e = c.in_err-add.field-0.0 in
     let fails : AddingFails c.args.self.now (with_samples x (passes_in c.args.groups.now) (lf_groups n)) e =
-    fails_among c.args.self.now (name k) (with_samples x (passes_in c.args.groups.now) (lf_groups n)) (among_first here name n k below some) e c.in_err-add_low.ensures.err in
+    fails_among c.args.self.now (name k) (with_samples x (passes_in c.args.groups.now) (lf_groups n)) (among_first here name n k below some) e c.in_err-add.ensures.err in
     search rules
