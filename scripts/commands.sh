@@ -148,6 +148,37 @@ expect 0 - spot.jxl -q
 expect 0 - spot.jxl --format text
 expect 0 - spot.jxl --info
 
+# Boxes after the codestream that have an error: the picture, and a warning. One before it is an error.
+boxed() {
+    printf '\0\0\0\014JXL \r\n\207\n\0\0\0\024ftypjxl \0\0\0\0jxl '
+}
+whole() {
+    printf '\0\0\0\050jxlc'
+    cat colours.jxl
+}
+{ boxed; whole; } > whole.jxl
+{ boxed; whole; printf '\0\0\0\024Exifabc'; } > cut.jxl
+{ boxed; whole; whole; } > twice.jxl
+{ boxed; whole; printf '\0\0\0\010jbrd'; } > jbrd.jxl
+{ boxed; printf '\0\0\0\010jbrd'; whole; } > first.jxl
+expect 0 - whole.jxl -o whole.ppm
+for name in cut twice jbrd; do
+    case $name in
+        cut) reason='a box that passes the end of the file' ;;
+        twice) reason='a second codestream' ;;
+        jbrd) reason='not supported: a JPEG file to be rebuilt' ;;
+    esac
+    expect 0 "jxldec: $name.jxl: ignored after the codestream: $reason" $name.jxl -o $name.ppm
+    cmp -s $name.ppm whole.ppm
+    judge $? "$name.jxl is not what it is without its last box"
+    expect 0 "jxldec: $name.jxl: ignored after the codestream: $reason" $name.jxl --info
+    begins out 'JPEG XL file format container'
+    expect 0 - $name.jxl -q -o $name.ppm
+    expect 0 - $name.jxl -q --info
+done
+expect 1 'jxldec: first.jxl: not supported: a JPEG file to be rebuilt' first.jxl -o first.ppm
+absent first.ppm
+
 # Files that cannot be read or decoded: an output that exists keeps its contents.
 printf 'kept' > b.pgm
 expect 1 'jxldec: none.jxl: cannot read: No such file or directory (os error 2)' none.jxl -o b.pgm

@@ -1,7 +1,7 @@
 //! Files, and the codestreams that lie in them.
 
 use check_rows::bytes;
-use jxl_container::codestream::{Codestream, find_codestream};
+use jxl_container::codestream::{Codestream, Found, find_codestream};
 use std::alloc::Global;
 
 /// Adds the digits of bytes, two for each.
@@ -12,22 +12,30 @@ pub fn digits(text: &mut String, bytes: &[u8]) -> Option<()> {
     Some(())
 }
 
-/// Adds where the codestream lies, `slice` or `joined`, and its bytes; or the name of the error.
+/// Adds where the codestream lies, `slice` or `joined`, and its bytes; and after them the name of the error of the boxes
+/// after it, if they have one.
+fn tell_found(text: &mut String, found: &Found<'_>) -> Option<()> {
+    match &found.codestream {
+        Codestream::Slice(_) => write!(text, "slice ").ok()?,
+        Codestream::Joined(_) => write!(text, "joined ").ok()?,
+    }
+    digits(text, found.codestream.bytes())?;
+    match found.later_error {
+        Some(error) => write!(text, " then {error:?}").ok(),
+        None => Some(()),
+    }
+}
+
+/// Adds where the codestream lies, or the name of the error.
 fn tell(alloc: Global, text: &mut String, file: &[u8]) -> Option<()> {
     match find_codestream(alloc, file) {
-        Ok(Codestream::Slice(bytes)) => {
-            write!(text, "slice ").ok()?;
-            digits(text, bytes)
-        }
-        Ok(Codestream::Joined(bytes)) => {
-            write!(text, "joined ").ok()?;
-            digits(text, &bytes)
-        }
+        Ok(found) => tell_found(text, &found),
         Err(error) => write!(text, "{error:?}").ok(),
     }
 }
 
-/// A row asks with the bytes of a file. It gives where its codestream lies, and its bytes, or the name of the error.
+/// A row asks with the bytes of a file. It gives where its codestream lies, and its bytes, and after `then` the name of the
+/// error of the boxes after it, if they have one; or the name of the error.
 pub fn seen(alloc: Global, asked: &str) -> Option<String> {
     let file = bytes(alloc, asked)?;
     let mut text = String::new(alloc);

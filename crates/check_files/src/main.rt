@@ -37,6 +37,7 @@ fn seen_of_files(alloc: Global, row: &Row<'_>) -> Option<String> {
         "damaged" => damaged::sum_of_damaged(alloc, row.asked),
         "decoded" => pictures::seen(alloc, row.asked),
         "sections" => pictures::seen_of_sections(alloc, row.asked),
+        "later" => pictures::seen_of_later_error(alloc, row.asked),
         "beginnings" => pictures::seen_of_beginnings(alloc, row.asked),
         "maximum" => pictures::seen_of_maximum(alloc, row.asked),
         _ => None,

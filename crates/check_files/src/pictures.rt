@@ -3,7 +3,7 @@
 use crate::example::maximum_of_grey;
 use check_rows::{bytes, listed};
 use jxl_image_header::size::Size;
-use jxl_lossless::{Limits, Progress, Steps, decode_lossless, decode_lossless_with};
+use jxl_lossless::{JxlFile, Limits, Progress, Steps, decode_lossless, decode_lossless_with};
 use jxl_picture::picture::Picture;
 use jxlm_base::grid::AlignedGrid;
 use std::alloc::Global;
@@ -47,6 +47,19 @@ pub fn seen(alloc: Global, asked: &str) -> Option<String> {
         Err(error) => write!(text, "{error}").ok()?,
     }
     Some(text)
+}
+
+/// A row asks with the bytes of a file. It gives what the error of the boxes after its codestream prints, or `none`; or
+/// after `error:` why the file is not read.
+pub fn seen_of_later_error(alloc: Global, asked: &str) -> Option<String> {
+    let file = bytes(alloc, asked)?;
+    match JxlFile::read(alloc, &file, &Limits::usual()) {
+        Ok(read) => match read.later_error() {
+            Some(error) => format!(in alloc; "{error}").ok(),
+            None => format!(in alloc; "none").ok(),
+        },
+        Err(error) => format!(in alloc; "error: {error}").ok(),
+    }
 }
 
 /// A row asks with the bytes of a file. It gives how many beginnings it has that are not the whole, and how many of them

@@ -1,5 +1,5 @@
--- The codestream of a file (ISO/IEC 18181-2): the file itself, or the contents of its boxes.
-use Rattle.std.specs.Prelude.{◌≡◌, ℕ, ◌+◌, ◌%◌, List, [], ◌∷◌, ◌++◌, length, slice_range, find, count_by, nat_eq, nat_lt, nat_le, ◌==◌, ◌&&◌, ◌||◌, not, Bool, if◌then◌else◌, MatchBool, Option, Some, None, Result, Ok, Err}
+-- The codestream of a file (ISO/IEC 18181-2): the file itself, or the contents of its boxes; and the error of those after it.
+use Rattle.std.specs.Prelude.{◌≡◌, ℕ, ◌+◌, ◌%◌, List, [], ◌∷◌, ◌++◌, length, slice_range, find, count_by, nat_eq, nat_lt, nat_le, ◌==◌, ◌&&◌, ◌||◌, not, Bool, if◌then◌else◌, MatchBool, true, Option, Some, None, unwrap_or, Result, Ok, Err, is_ok}
 use Rattle.std.specs.Option.{option_map_or}
 use Rattle.std.specs.List.{list_any, flat_map, filter, starts_with}
 use Rattle.jxl_container.specs.Boxes.{word_at, box_from, first_of, outside}
@@ -37,26 +37,38 @@ fault bytes before b =
     ((b.kind == 0x62726F62) && ((head == 0x6A786C63) || (head == 0x6A786C70)), CompressedCodestream) ∷
     (b.kind == 0x6A627264, JpegReconstruction) ∷ [])
 
--- the codestream of boxes: the contents of the whole one, or of all parts after their numbers, where the last is there
-unfoldable pub contents : List ℕ → List FileBox → Result (List ℕ) FileError
-contents bytes boxes = option_map_or (λ b. Ok (slice_range bytes b.body b.end)) (find is_whole boxes) (
+-- the codestream of boxes, after which comes this error, or the end of the file: the contents of the whole one, or of all parts
+-- after their numbers, where the last is there; else there is none by that error, or by what is missing at the end
+unfoldable pub contents : List ℕ → List FileBox → Option FileError → Result (List ℕ) FileError
+contents bytes boxes error = option_map_or (λ b. Ok (slice_range bytes b.body b.end)) (find is_whole boxes) (
     if list_any (is_last bytes) boxes then Ok (flat_map (λ b. slice_range bytes (b.body + 4) b.end) (filter is_part boxes)) else
-    Err (if list_any is_part boxes then NoLastPart else NoCodestream))
+    Err (unwrap_or error (if list_any is_part boxes then NoLastPart else NoCodestream)))
 
--- These boxes follow one another from p on, after others, and the file has this: the codestream of all, where they reach
--- to its end, or the fault of what stands next.
-abbrev pub Follow : List ℕ → List FileBox → ℕ → List FileBox → Result (List ℕ) FileError → Type 0
-Follow bytes before p (b ∷ boxes) result = (b ≡ box_from bytes p) × (fault bytes before b ≡ None) × Follow bytes (before ++ b ∷ []) b.end boxes result
-Follow bytes before p [] result = MatchBool (p == length bytes) (result ≡ contents bytes before)
-    ((e : FileError) × (fault bytes before (box_from bytes p) ≡ Some e) × (result ≡ Err e))
+-- These boxes follow one another from p on, after others, up to the end of the file, or to the first error: the fault of what
+-- stands next.
+abbrev pub Follow : List ℕ → List FileBox → ℕ → List FileBox → Option FileError → Type 0
+Follow bytes before p (b ∷ boxes) error = (b ≡ box_from bytes p) × (fault bytes before b ≡ None) × Follow bytes (before ++ b ∷ []) b.end boxes error
+Follow bytes before p [] error = MatchBool (p == length bytes) (error ≡ None)
+    ((e : FileError) × (fault bytes before (box_from bytes p) ≡ Some e) × (error ≡ Some e))
 
--- the codestream of a file: itself, where it begins as one; or, where it begins with the box that each file in boxes has,
--- that of the boxes from byte 12 on; or why there is none
+-- the file begins as a codestream
+abbrev pub is_bare : List ℕ → Bool
+is_bare bytes = starts_with nat_eq bytes (255 ∷ 10 ∷ [])
+
+-- the file begins with the signature box
+abbrev pub has_signature : List ℕ → Bool
+has_signature bytes = starts_with nat_eq bytes (0 ∷ 0 ∷ 0 ∷ 12 ∷ 74 ∷ 88 ∷ 76 ∷ 32 ∷ 13 ∷ 10 ∷ 135 ∷ 10 ∷ [])
+
+-- the codestream of a file: itself, or that of the boxes from byte 12 on; or why there is none
 abbrev pub HasCodestream : List ℕ → Result (List ℕ) FileError → Type 0
 HasCodestream bytes result =
-    MatchBool (starts_with nat_eq bytes (255 ∷ 10 ∷ [])) (result ≡ Ok bytes)
-    (MatchBool (starts_with nat_eq bytes (0 ∷ 0 ∷ 0 ∷ 12 ∷ 74 ∷ 88 ∷ 76 ∷ 32 ∷ 13 ∷ 10 ∷ 135 ∷ 10 ∷ []))
-    ((boxes : List FileBox) × Follow bytes [] 12 boxes result) (result ≡ Err NotJpegXl))
+    MatchBool (is_bare bytes) (result ≡ Ok bytes) (MatchBool (has_signature bytes)
+    ((boxes : List FileBox) × (error : Option FileError) × Follow bytes [] 12 boxes error × (result ≡ contents bytes boxes error)) (result ≡ Err NotJpegXl))
+
+-- the first error after the codestream of a file, if there is one: that of the boxes, among which the codestream is
+abbrev pub HasLaterError : List ℕ → Option FileError → Type 0
+HasLaterError bytes error = MatchBool (is_bare bytes) (error ≡ None)
+    ((boxes : List FileBox) × Follow bytes [] 12 boxes error × (is_ok (contents bytes boxes error) ≡ true))
 
 -- the bytes of a codestream that was found
 abbrev pub stream_of : Codestream → List ℕ
@@ -67,8 +79,3 @@ stream_of (Joined v) = v.items
 abbrev pub UnlessMemory : FileError → Type 0 → Type 0
 UnlessMemory OutOfMemory P = Unit {0}
 UnlessMemory e P = P
-
--- what was returned is such a result
-abbrev pub ReturnsOf : (Result (List ℕ) FileError → Type 0) → Result Codestream FileError → Type 0
-ReturnsOf Is (Ok c) = Is (Ok (stream_of c))
-ReturnsOf Is (Err e) = UnlessMemory e (Is (Err e))

@@ -1,6 +1,7 @@
-//! Why a file has no codestream that is read.
+//! Why a file has no codestream that is read, or what is wrong with the boxes after it.
 
-/// Why a file has no codestream that is read. The first reason in the order of the bytes is returned.
+/// Why a file has no codestream that is read, or what is wrong with the boxes after it: the first error in the order of the
+/// bytes.
 #[derive(Clone, Copy, Debug, PartialEq, Eq, thiserror::Error)]
 pub enum FileError {
     /// It begins neither as a codestream nor as boxes of JPEG XL.

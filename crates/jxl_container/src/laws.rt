@@ -1,11 +1,16 @@
 //! Laws of files, each the contract of a function that does nothing.
 
-ghost use Rattle.std.specs.Prelude.{◌≡◌, ℕ, List, Result};
-ghost use Rattle.jxl_container.specs.Files.{HasCodestream};
+ghost use Rattle.std.specs.Prelude.{◌≡◌, ℕ, List, Option, Result};
+ghost use Rattle.jxl_container.specs.Files.{HasCodestream, HasLaterError};
 ghost use Rattle.jxl_container.specs.declared.error.FileError.{FileError};
 
 /// A file has one codestream, or one reason why it has none: the boxes up to a place are the only ones.
 pub fn each_file_has_one_codestream()
     ensures { (bytes : List ℕ) (r s : Result (List ℕ) FileError) → HasCodestream bytes r → HasCodestream bytes s
         → r ≡ s }
+{}
+
+/// The codestream of a file has one first error after it, or none.
+pub fn each_file_has_one_later_error()
+    ensures { (bytes : List ℕ) (e f : Option FileError) → HasLaterError bytes e → HasLaterError bytes f → e ≡ f }
 {}

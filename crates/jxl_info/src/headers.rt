@@ -1,6 +1,7 @@
 //! The headers of a file.
 
 ghost use Rattle.std.specs.Prelude.{◌≡◌, IfErr, IfOk};
+ghost use Rattle.jxl_container.specs.Files.{HasLaterError};
 ghost use Rattle.jxl_image_header.specs.Images.{image_of};
 ghost use Rattle.jxl_codestream.specs.Fronts.{FrontFails};
 ghost use Rattle.jxl_info.specs.Reasons.{is_refusal as the_is_refusal};
@@ -23,6 +24,8 @@ pub struct Headers {
     pub image: ImageHeader,
     /// Why the file is not decoded; none where all that comes before the sections of its frames is supported.
     pub reason: Option<FrontError>,
+    /// The first error of the boxes after the codestream, if there is one.
+    pub later_error: Option<FileError>,
 }
 
 /// Why the headers of a file cannot be told.
@@ -41,29 +44,23 @@ pub fn is_boxed(file: &[u8]) -> bool
     !file.starts_with(&[255, 10])
 }
 
-// The headers of a codestream.
+// The image header of a codestream, and why it is not decoded.
 fn read_codestream<D: Decoder>(
     alloc: Global,
     bytes: &[u8],
     limits: &Limits,
-) -> Result<Headers, FrontError>
-    ensures ok { IfOk result (λ h. HeadersStand D.meaning limits.now bytes.now (image_of h.image) h.reason) }
+) -> Result<(ImageHeader, Option<FrontError>), FrontError>
+    ensures ok { IfOk result (λ h. HeadersStand D.meaning limits.now bytes.now (image_of h.0) h.1) }
     ensures err { IfErr result (FrontFails D.meaning limits.now bytes.now) }
 {
     match Front::read::<D>(alloc, bytes, limits) {
         Ok(front) => {
             let image = front.image;
             match front.frames {
-                Ok(_) => Ok(Headers {
-                    image,
-                    reason: None,
-                }),
+                Ok(_) => Ok((image, None)),
                 Err(error) => {
                     if is_refusal(error) {
-                        Ok(Headers {
-                            image,
-                            reason: Some(error),
-                        })
+                        Ok((image, Some(error)))
                     } else {
                         Err(error)
                     }
@@ -89,11 +86,16 @@ impl Headers {
         limits: &Limits,
     ) -> Result<Headers, HeadersError>
         ensures ok { IfOk result (λ h. HeadersOfFile D.meaning limits.now file.now (image_of h.image) h.reason) }
+        ensures later { IfOk result (λ h. HasLaterError file.now h.later_error) }
         ensures err { IfErr result (HeadersFail D.meaning limits.now file.now) }
     {
         match find_codestream(alloc, file) {
-            Ok(stream) => match read_codestream::<D>(alloc, stream.bytes(), limits) {
-                Ok(headers) => Ok(headers),
+            Ok(found) => match read_codestream::<D>(alloc, found.codestream.bytes(), limits) {
+                Ok((image, reason)) => Ok(Headers {
+                    image,
+                    reason,
+                    later_error: found.later_error,
+                }),
                 Err(error) => Err(HeadersError::Front(error)),
             },
             Err(error) => Err(HeadersError::File(error)),

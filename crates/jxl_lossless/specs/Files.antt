@@ -2,7 +2,8 @@
 use Rattle.std.specs.Prelude.{◌≡◌, ℕ, List, Bool, true, false, Option, Some, None, Result, Ok, Err}
 use Rattle.jxl_coding.specs.Parse.{decoder_at}
 use Rattle.jxl_coding.specs.Tokens.{entropy}
-use Rattle.jxl_container.specs.Files.{HasCodestream, stream_of}
+use Rattle.jxl_container.specs.declared.error.FileError.{FileError as BoxError}
+use Rattle.jxl_container.specs.Files.{HasCodestream, HasLaterError, stream_of}
 use Rattle.jxl_image_header.specs.Images.{Image}
 use Rattle.jxl_image_header.specs.declared.image.ImageHeader.{ImageHeader}
 use Rattle.jxl_codestream.specs.FrontParts.{IsFrontOf, IsReady, is_of_header}
@@ -14,10 +15,11 @@ use Rattle.jxl_lossless.specs.declared.error.FileError.{FileError}
 use Rattle.jxl_lossless.specs.declared.error.FileError.TheVariants as errors
 use Rattle.jxl_lossless.specs.declared.file.JxlFile.{JxlFile}
 
--- This is what a file has before the sections of its frames: its codestream, and of that the image header and the frames, or
--- why these are not decoded.
+-- This is what a file has before the sections of its frames: its codestream, and the error after it, if there is one; and of the
+-- codestream the image header and the frames, or why these are not decoded.
 pub record IsReadOf (limits : Limits) (file : List ℕ) (read : JxlFile) : Type 0 where
   pub found : HasCodestream file (Ok (stream_of read.stream))
+  pub later : HasLaterError file read.later_error
   pub front : IsFrontOf (entropy decoder_at) limits (stream_of read.stream) read.front
 
 -- the frames of a file that was read can be decoded, if they were read
@@ -36,6 +38,10 @@ error_of (Err error) = Some error
 -- why its frames are not decoded, where there is a reason before their sections
 abbrev pub reason_of : JxlFile → Option FrontError
 reason_of read = error_of read.front.frames
+
+-- the first error of its boxes after the codestream, if there is one
+abbrev pub later_error_of : JxlFile → Option BoxError
+later_error_of read = read.later_error
 
 -- the error comes before the frames: it is one of the boxes or of the image header
 abbrev pub is_before_frames : FileError → Bool

@@ -13,6 +13,7 @@ use jxl_codestream::error::FrontError;
 use jxl_codestream::front::Front;
 use jxl_coding::decoder::EntropyDecoder;
 use jxl_container::codestream::{Codestream, find_codestream};
+use jxl_container::error::FileError as BoxError;
 use jxl_image_header::image::ImageHeader;
 use jxl_modular::sections::Progress;
 use jxl_picture::limits::Limits;
@@ -20,25 +21,28 @@ use jxl_picture::picture::Picture;
 use jxlm_tree::flat::Steps;
 use std::alloc::Global;
 
-/// A JPEG XL file that was read up to the sections of its frames: the codestream, the image header, and the headers and
-/// tables of contents of the frames, or why these are not decoded.
+/// A JPEG XL file that was read up to the sections of its frames: the codestream, and the first error of the boxes after
+/// it; the image header, and the headers and tables of contents of the frames, or why these are not decoded.
 #[derive(Drop)]
 pub struct JxlFile<'a> {
     stream: Codestream<'a>,
+    later_error: Option<BoxError>,
     front: Front,
 }
 
 impl<'a> JxlFile<'a> {
     ghost use Rattle.jxl_picture.specs.declared.limits.Limits.{Limits as TheLimits};
-    ghost use Rattle.jxl_lossless.specs.Files.{IsReadOf, IsReadyFile, header_of, is_before_frames, reason_of, upright};
+    ghost use Rattle.jxl_lossless.specs.Files.{IsReadOf, IsReadyFile, header_of, is_before_frames, later_error_of, reason_of, upright};
 
     /// Reads a file, bare or in boxes, up to the sections of its frames. No sample is decoded, and no memory is taken for
     /// samples.
     ///
     /// # Errors
     ///
-    /// Those of the boxes, or of the image header ([`Front::read`](jxl_codestream::front::Front::read)): what is wrong
-    /// with the frames, or not supported, is the file's [`reason`](JxlFile::reason).
+    /// Those of the boxes up to the end of the codestream, or of the image header
+    /// ([`Front::read`](jxl_codestream::front::Front::read)): what is wrong with the frames, or not supported, is the
+    /// file's [`reason`](JxlFile::reason), and what is wrong with the boxes after the codestream its
+    /// [`later_error`](JxlFile::later_error).
     pub fn read(alloc: Global, file: &'a [u8], limits: &Limits) -> Result<JxlFile<'a>, FileError>
         ensures ok { IfOk result (IsReadOf limits.now file.now) }
         ensures ready { IfOk result IsReadyFile }
@@ -46,10 +50,16 @@ impl<'a> JxlFile<'a> {
         ensures first { IfErr result (λ e. is_before_frames e ≡ true) }
     {
         match find_codestream(alloc, file) {
-            Ok(stream) => match Front::read::<EntropyDecoder>(alloc, stream.bytes(), limits) {
-                Ok(front) => Ok(JxlFile { stream, front }),
-                Err(error) => Err(FileError::Front(error)),
-            },
+            Ok(found) => {
+                match Front::read::<EntropyDecoder>(alloc, found.codestream.bytes(), limits) {
+                    Ok(front) => Ok(JxlFile {
+                        stream: found.codestream,
+                        later_error: found.later_error,
+                        front,
+                    }),
+                    Err(error) => Err(FileError::Front(error)),
+                }
+            }
             Err(error) => Err(FileError::File(error)),
         }
     }
@@ -71,6 +81,13 @@ impl<'a> JxlFile<'a> {
         }
     }
 
+    /// The first error of the boxes after the codestream, if there is one. The picture is decoded whatever they hold.
+    pub fn later_error(&self) -> Option<BoxError>
+        ensures { result ≡ later_error_of self.now }
+    {
+        self.later_error
+    }
+
     /// The picture of the file, as [`decode_lossless_with`] gives it: by whichever limits it was read. Its header is the
     /// file's, but with the sides of what is shown, and orientation 1.
     pub fn decode<P: Progress>(
@@ -87,7 +104,7 @@ impl<'a> JxlFile<'a> {
         ensures err { (limits : TheLimits) (file : List ℕ) → IsReadOf limits file self.entry
             → IfErr result (FileFails limits file) }
     {
-        let JxlFile { stream, front } = self;
+        let JxlFile { stream, front, .. } = self;
         let Front { image, frames } = front;
         let frames = match frames {
             Ok(frames) => frames,
@@ -112,7 +129,8 @@ impl<'a> JxlFile<'a> {
 ///
 /// The first in the order of the bits, but that what is not supported comes before what is wrong with samples, and by
 /// its name (docs/FILES.md); and `OutOfMemory` at any time. Nothing is left behind. Sizes are compared with the limits
-/// before memory is taken for samples.
+/// before memory is taken for samples. What is wrong with boxes after the codestream is no error here:
+/// [`JxlFile::later_error`] returns it.
 pub fn decode_lossless(
     alloc: Global,
     file: &[u8],

@@ -14,7 +14,7 @@ use Rattle.jxl_lossless.specs.declared.error.FileError.{FileError}
 use Rattle.jxl_lossless.specs.declared.error.FileError.TheVariants as files
 use Rattle.jxldec.specs.Causes.{decoder_text, error_text}
 
--- why a file has no codestream that is read
+-- why a file has no codestream that is read, or what is wrong after it
 unfoldable pub box_text : BoxError → List ℕ
 box_text boxes.NotJpegXl = codes "not a JPEG XL file"
 box_text boxes.TruncatedBox = codes "a box that passes the end of the file"

@@ -3,6 +3,8 @@ use Rattle.std.specs.Prelude.{◌≡◌, ℕ, List, [], length, Bool, true, fals
 use Rattle.std.specs.Io.KnownBytes.{Appends, Consumes, IsAtEnd}
 use Rattle.jxl_coding.specs.Parse.{decoder_at}
 use Rattle.jxl_coding.specs.Tokens.{entropy}
+use Rattle.jxl_container.specs.Files.{HasLaterError}
+use Rattle.jxl_container.specs.declared.error.FileError.{FileError as BoxError}
 use Rattle.jxl_image_header.specs.Images.{Image, image_of}
 use Rattle.jxl_netpbm.specs.Formats.{suits, text_of, usual}
 use Rattle.jxl_netpbm.specs.Output.{AppendsBeginning}
@@ -100,28 +102,30 @@ InputFails info limits asked left rest held holds failures.Closed = IsReadWhole 
 InputFails info limits asked left rest held holds failure = IsReadWhole left rest (λ file. AskedFails info limits asked file failure)
 
 -- The input was read to its end, from left to rest, and the output, which held `held`, holds after it what was asked of
--- what was read.
-pub record IsWritten (info : Bool) (limits : Limits) (asked : Option Format) (left rest held holds : Option (List ℕ)) (others : List ℕ) (profile : Bool) : Type 0 where
+-- what was read, which has this error after its codestream, or none.
+pub record IsWritten (info : Bool) (limits : Limits) (asked : Option Format) (left rest held holds : Option (List ℕ)) (others : List ℕ) (profile : Bool) (error : Option BoxError) : Type 0 where
   pub file : List ℕ
   pub text : List ℕ
   pub read : Consumes left rest file
   pub ended : IsAtEnd rest
   pub is : IsAsked info limits asked file text others profile
+  pub later : HasLaterError file error
   pub written : Appends held holds text
 
 -- if standard error, which held `held`, took the text, it holds that after it
 abbrev pub IsReported : Bool → Option (List ℕ) → Option (List ℕ) → List ℕ → Type 0
 IsReported reported held holds text = IsTrue reported → Appends held holds text
 
--- So it is, and standard error gets the lines that warn of what is left out, unless nothing but errors is to be printed;
--- it gets nothing then, nor where nothing is left out.
+-- So it is, and standard error gets the lines that warn of what is left out, and of the error after the codestream, unless
+-- nothing but errors is to be printed; it gets nothing then, nor where there is nothing to warn of.
 pub record IsDone (info quiet : Bool) (limits : Limits) (asked : Option Format) (name : List ℕ) (left rest held holds : Option (List ℕ)) (Gets : List ℕ → Type 0) (Silent : Type 0) : Type 0 where
   pub others : List ℕ
   pub profile : Bool
-  pub written : IsWritten info limits asked left rest held holds others profile
-  pub gets : Gets (warnings quiet name others profile)
+  pub error : Option BoxError
+  pub written : IsWritten info limits asked left rest held holds others profile error
+  pub gets : Gets (warnings quiet name others profile error)
   pub kept : quiet ≡ true → Silent
-  pub none : others ≡ [] → profile ≡ false → Silent
+  pub none : others ≡ [] → profile ≡ false → error ≡ None → Silent
 
 -- What is asked for is not done, by this failure; the output stays as it was, unless it is what fails; standard error gets
 -- the line of the failure, about the input or the output.

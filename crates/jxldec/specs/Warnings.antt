@@ -1,12 +1,14 @@
--- What the text of a picture leaves out, and the lines that warn of it.
-use Rattle.std.specs.Prelude.{ℕ, ◌==◌, List, [], ◌++◌, ◌∷◌, Bool, length, if◌then◌else◌, codes}
+-- What the output leaves out of a file, and the lines that warn of it.
+use Rattle.std.specs.Prelude.{ℕ, ◌==◌, List, [], ◌++◌, ◌∷◌, Bool, length, if◌then◌else◌, Option, Some, None, codes}
 use Rattle.std.specs.List.{flat_map}
+use Rattle.jxl_container.specs.declared.error.FileError.{FileError as BoxError}
 use Rattle.jxl_image_header.specs.declared.channel.ExtraChannel.{ExtraChannel}
 use Rattle.jxl_info.specs.Names.{kind_name}
 use Rattle.jxl_picture.specs.Pictures.{is_full_alpha}
 use Rattle.jxl_netpbm.specs.declared.format.Format.{Format}
 use Rattle.jxl_netpbm.specs.declared.format.Format.TheVariants as formats
 use Rattle.jxldec.specs.Failures.{line_about}
+use Rattle.jxldec.specs.Reasons.{box_text}
 
 -- the kinds of channels, each after a space
 abbrev pub kinds : List ExtraChannel → List ℕ
@@ -31,10 +33,20 @@ channel_line name others = if length others == 0 then [] else line_about name (c
 unfoldable pub profile_line : List ℕ → Bool → List ℕ
 profile_line name profile = if profile then line_about name (codes "colour profile left out") else []
 
--- what is written on standard error beside a picture, of which these channels and perhaps a profile are left out
-unfoldable pub warning_lines : List ℕ → List ℕ → Bool → List ℕ
-warning_lines name others profile = channel_line name others ++ profile_line name profile
+-- the lines on what is left out of a picture: these channels, and perhaps a profile
+unfoldable pub left_out_lines : List ℕ → List ℕ → Bool → List ℕ
+left_out_lines name others profile = channel_line name others ++ profile_line name profile
+
+-- the line on the error of the boxes after the codestream, if they have one
+unfoldable pub later_line : List ℕ → Option BoxError → List ℕ
+later_line name (Some error) = line_about name (codes "ignored after the codestream: " ++ box_text error)
+later_line name None = []
+
+-- what is written on standard error beside the output, if these channels and perhaps a profile are left out of it, and this error
+-- comes after the codestream
+abbrev pub warning_lines : List ℕ → List ℕ → Bool → Option BoxError → List ℕ
+warning_lines name others profile later = left_out_lines name others profile ++ later_line name later
 
 -- so it is, unless nothing but errors is to be printed
-abbrev pub warnings : Bool → List ℕ → List ℕ → Bool → List ℕ
-warnings quiet name others profile = if quiet then [] else warning_lines name others profile
+abbrev pub warnings : Bool → List ℕ → List ℕ → Bool → Option BoxError → List ℕ
+warnings quiet name others profile later = if quiet then [] else warning_lines name others profile later

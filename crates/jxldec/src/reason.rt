@@ -12,9 +12,9 @@ use jxl_lossless::{FileError, FrameError};
 use jxl_patches::error::PatchError;
 use std::fmt;
 
-// Why a file has no codestream that is read.
+/// Why a file has no codestream that is read, or what is wrong after it.
 #[tactic(auto, unfolding(crate::specs::Reasons::box_text))]
-fn box_text(error: BoxError) -> &'static str
+pub fn box_text(error: BoxError) -> &'static str
     ensures { result.now ≡ the_box_text error }
 {
     match error {

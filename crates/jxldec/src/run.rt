@@ -1,7 +1,8 @@
 //! The program over a reader and two writers.
 
-ghost use Rattle.std.specs.Prelude.{◌≡◌, ◌≤◌, ℕ, List, [], length, true, false, IfErr, IfOk, IfSome, IsTrue, OnErr, OnOk, Some, string_bytes};
+ghost use Rattle.std.specs.Prelude.{◌≡◌, ◌≤◌, ℕ, List, [], length, true, false, IfErr, IfOk, IfSome, IsTrue, None, OnErr, OnOk, Some, string_bytes};
 ghost use Rattle.std.specs.Io.KnownBytes.{Appends};
+ghost use Rattle.jxl_container.specs.Files.{HasLaterError};
 ghost use Rattle.jxl_image_header.specs.Images.{image_of};
 ghost use Rattle.jxl_lossless.specs.Files.{IsReadOf, header_of};
 ghost use Rattle.jxl_netpbm.specs.Formats.{suits, text_of};
@@ -19,6 +20,7 @@ use crate::output::Flush;
 use crate::warning::{LeftOut, warn};
 use jxl_codestream::error::FrontError;
 use jxl_coding::decoder::EntropyDecoder;
+use jxl_container::error::FileError as BoxError;
 use jxl_image_header::image::ImageHeader;
 use jxl_info::headers::{Headers, HeadersError, is_boxed};
 use jxl_info::text::info_text;
@@ -74,13 +76,14 @@ fn info_of_file(alloc: Global, file: &[u8], limits: &Limits) -> Result<Output, F
     ensures text { IfOk result (λ o. IsInfo limits.now file.now (content_text o.content)
         (string_bytes o.left_out.channels) o.left_out.profile) }
     ensures writable { IfOk result (λ o. IsWritable o.content) }
+    ensures later { IfOk result (λ o. HasLaterError file.now o.left_out.later_error) }
     ensures err { IfErr result (InfoFails limits.now file.now) }
 {
     match Headers::read::<EntropyDecoder>(alloc, file, limits) {
         Ok(headers) => match info_text(alloc, is_boxed(file), &headers.image, headers.reason) {
             Ok(text) => Ok(Output {
                 content: Content::Headers(text.into_bytes()),
-                left_out: LeftOut::nothing(alloc),
+                left_out: LeftOut::boxes(alloc, headers.later_error),
             }),
             Err(_) => Err(Failure::OutOfMemory),
         },
@@ -121,8 +124,13 @@ fn format_of_file(
     }
 }
 
-// A picture with a format that suits it, and what that leaves out.
-fn output_of(alloc: Global, picture: Picture, format: Format) -> Result<Output, Failure>
+// A picture with a format that suits it, and what that leaves out, from a file with this error after its codestream.
+fn output_of(
+    alloc: Global,
+    picture: Picture,
+    format: Format,
+    later_error: Option<BoxError>,
+) -> Result<Output, Failure>
     requires whole { IsWhole (image_of picture.header) picture.channels.items }
     requires suits { suits format (image_of picture.header) ≡ true }
     ensures text { IfOk result (λ o. content_text o.content
@@ -132,9 +140,10 @@ fn output_of(alloc: Global, picture: Picture, format: Format) -> Result<Output, 
         ≡ kinds_left_out format (image_of picture.header).ec_info) }
     ensures profile { IfOk result (λ o. o.left_out.profile
         ≡ (image_of picture.header).shown.colour_encoding.want_icc) }
+    ensures later { IfOk result (λ o. o.left_out.later_error ≡ later_error) }
     ensures err { IfErr result (λ failure. failure ≡ Failure.OutOfMemory) }
 {
-    match LeftOut::of(alloc, format, &picture.header) {
+    match LeftOut::of(alloc, format, &picture.header, later_error) {
         Ok(left_out) => Ok(Output {
             content: Content::Picture { picture, format },
             left_out,
@@ -155,6 +164,7 @@ pub fn picture_of_file<P: Line>(
     ensures text { IfOk result (λ o. IsTextOfFile limits.now file.now asked (content_text o.content)
         (string_bytes o.left_out.channels) o.left_out.profile) }
     ensures writable { IfOk result (λ o. IsWritable o.content) }
+    ensures later { IfOk result (λ o. HasLaterError file.now o.left_out.later_error) }
     ensures err { IfErr result (TextFails limits.now file.now asked) }
 {
     let read = match JxlFile::read(alloc, file, limits) {
@@ -162,9 +172,10 @@ pub fn picture_of_file<P: Line>(
         Err(error) => return Err(Failure::File(error)),
     };
     let format = format_of_file(&read, asked, limits)?;
+    let later_error = read.later_error();
     let mut steps = Steps::new();
     match read.decode(alloc, &mut steps, progress) {
-        Ok(picture) => output_of(alloc, picture, format),
+        Ok(picture) => output_of(alloc, picture, format, later_error),
         Err(error) => Err(Failure::File(error)),
     }
 }
@@ -179,6 +190,7 @@ fn output_asked<P: Line>(
     ensures ok { IfOk result (λ o. IsAsked options.now.info options.now.limits options.now.format file.now
         (content_text o.content) (string_bytes o.left_out.channels) o.left_out.profile) }
     ensures writable { IfOk result (λ o. IsWritable o.content) }
+    ensures later { IfOk result (λ o. HasLaterError file.now o.left_out.later_error) }
     ensures err { IfErr result (AskedFails options.now.info options.now.limits options.now.format file.now) }
 {
     if options.info {
@@ -237,7 +249,7 @@ fn carry_out<R: Read, W: Flush, P: Line>(
 ) -> Result<LeftOut, Failure>
     ensures done { IfOk result (λ l. IsWritten options.now.info options.now.limits options.now.format
         (R.remaining input.old) (R.remaining input.new) (W.contents output.old) (W.contents output.new)
-        (string_bytes l.channels) l.profile) }
+        (string_bytes l.channels) l.profile l.later_error) }
     ensures failed { IfErr result (InputFails options.now.info options.now.limits options.now.format
         (R.remaining input.old) (R.remaining input.new) (W.contents output.old) (W.contents output.new)) }
     ensures flushed { OnOk result (W.is_flushed output.new) }
@@ -279,10 +291,11 @@ pub fn report<E: Write>(errors: &mut E, name: &str, failure: Failure) -> End
 fn succeed<E: Write>(errors: &mut E, options: &Options<'_>, left_out: &LeftOut) -> End
     ensures status { result.status ≡ 0 }
     ensures lines { IsTrue result.reported → Appends (E.contents errors.old) (E.contents errors.new)
-        (warnings options.now.quiet options.now.input.now (string_bytes left_out.now.channels) left_out.now.profile) }
+        (warnings options.now.quiet options.now.input.now (string_bytes left_out.now.channels) left_out.now.profile
+        left_out.now.later_error) }
     ensures quiet { options.now.quiet ≡ true → errors.new ≡ errors.old }
     ensures none { string_bytes left_out.now.channels ≡ [] → left_out.now.profile ≡ false
-        → errors.new ≡ errors.old }
+        → left_out.now.later_error ≡ None → errors.new ≡ errors.old }
 {
     let reported = !options.quiet && warn(errors, options.input, left_out);
     End {
@@ -295,8 +308,8 @@ fn succeed<E: Write>(errors: &mut E, options: &Options<'_>, left_out: &LeftOut) 
 /// decimal numbers. It returns the status to end with: 0 where the output got that text, alone and whole; else 1, and
 /// `errors` got the line of a failure that holds of the file, unless the output is a pipe that was closed. Nothing is
 /// written to the output unless the whole picture was decoded, and after a failed write it holds a beginning of that
-/// text. With status 0 `errors` got nothing but the lines that warn
-/// of what is left out. `progress` is called after each section.
+/// text. With status 0 `errors` got nothing but the lines that warn of what is left out, and of the error of the boxes
+/// after the codestream. `progress` is called after each section.
 pub fn run<R: Read, W: Flush, E: Write, P: Line>(
     alloc: Global,
     options: Options<'_>,

@@ -1,12 +1,14 @@
-//! What the text of a picture leaves out.
+//! What the output leaves out of a file.
 
-ghost use Rattle.std.specs.Prelude.{◌≡◌, ◌++◌, IfOk, OnOk, IsTrue, false, [], string_bytes};
+ghost use Rattle.std.specs.Prelude.{◌≡◌, ◌++◌, IfOk, None, OnOk, IsTrue, false, [], string_bytes};
 ghost use Rattle.std.specs.Io.KnownBytes.{Appends};
 ghost use Rattle.jxl_image_header.specs.Images.{image_of};
 ghost use Rattle.jxl_picture.specs.Pictures.{is_full_alpha as the_full_alpha};
-ghost use Rattle.jxldec.specs.Warnings.{kinds_left_out, warning_lines};
+ghost use Rattle.jxldec.specs.Warnings.{kinds_left_out, later_line, left_out_lines, warning_lines};
 ghost use Rattle.jxldec.specs.Inner.Kinds.{rest_kinds};
 
+use crate::reason::box_text;
+use jxl_container::error::FileError as BoxError;
 use jxl_image_header::channel::ExtraChannel;
 use jxl_image_header::image::ImageHeader;
 use jxl_info::names::kind_name;
@@ -16,13 +18,15 @@ use std::alloc::Global;
 use std::io::Write;
 use std::{fmt, io};
 
-/// What the text of a picture leaves out.
+/// What the output leaves out of a file: of the picture, and of the boxes after the codestream.
 #[derive(Drop)]
 pub struct LeftOut {
     /// The kinds of the channels that are left out, each after a space.
     pub channels: String,
     /// Whether a profile says what colours mean, which no format holds.
     pub profile: bool,
+    /// The first error of the boxes after the codestream, if there is one: from there on they are left out.
+    pub later_error: Option<BoxError>,
 }
 
 // Whether a channel is alpha that is as large as the picture.
@@ -49,11 +53,17 @@ fn append_kinds(text: &mut String, all: bool, extra: &[ExtraChannel]) -> Result<
 }
 
 impl LeftOut {
-    /// What the text of a picture leaves out in this format.
-    pub fn of(alloc: Global, format: Format, header: &ImageHeader) -> Result<LeftOut, OutOfMemory>
+    /// What the text of a picture leaves out in this format, and the boxes from this error on.
+    pub fn of(
+        alloc: Global,
+        format: Format,
+        header: &ImageHeader,
+        later_error: Option<BoxError>,
+    ) -> Result<LeftOut, OutOfMemory>
         ensures channels { IfOk result (λ l. string_bytes l.channels
             ≡ kinds_left_out format (image_of header.now).ec_info) }
         ensures profile { IfOk result (λ l. l.profile ≡ (image_of header.now).shown.colour_encoding.want_icc) }
+        ensures later { IfOk result (λ l. l.later_error ≡ later_error) }
     {
         let mut channels = String::new(alloc);
         match format {
@@ -64,22 +74,25 @@ impl LeftOut {
         Ok(LeftOut {
             channels,
             profile: header.shown.colour_encoding.want_icc,
+            later_error,
         })
     }
 
-    /// Nothing.
-    pub fn nothing(alloc: Global) -> LeftOut
+    /// Nothing of a picture, and the boxes from this error on.
+    pub fn boxes(alloc: Global, later_error: Option<BoxError>) -> LeftOut
         ensures channels { string_bytes result.channels ≡ [] }
         ensures profile { result.profile ≡ false }
+        ensures later { result.later_error ≡ later_error }
     {
         LeftOut {
             channels: String::new(alloc),
             profile: false,
+            later_error,
         }
     }
 }
 
-// The lines that warn of what is left out of a file of this name.
+// The lines that warn of what is left out of the picture of a file of this name.
 #[derive(Clone, Copy)]
 struct Warnings<'a> {
     name: &'a str,
@@ -90,9 +103,9 @@ struct Warnings<'a> {
 impl fmt::Display for Warnings<'_> {
     ghost use Rattle.std.specs.Prelude.{Some};
 
-    ghost output = { λ w. Some (warning_lines w.name.now w.channels.now w.profile) };
+    ghost output = { λ w. Some (left_out_lines w.name.now w.channels.now w.profile) };
 
-    #[tactic(auto, unfolding(crate::specs::Warnings::warning_lines, crate::specs::Warnings::channel_line, crate::specs::Warnings::profile_line))]
+    #[tactic(auto, unfolding(crate::specs::Warnings::left_out_lines, crate::specs::Warnings::channel_line, crate::specs::Warnings::profile_line))]
     fn fmt<W: fmt::Write>(&self, f: &mut fmt::Formatter<W>) -> fmt::Result {
         let (name, channels) = (self.name, self.channels);
         if !channels.is_empty() {
@@ -105,16 +118,40 @@ impl fmt::Display for Warnings<'_> {
     }
 }
 
-/// Writes a line on channels that were left out, if there are any, and one on a profile, as far as they can be written.
-/// It returns whether lines were written.
+// The line on the error of the boxes after the codestream of a file of this name, if they have one.
+#[derive(Clone, Copy)]
+struct LaterError<'a> {
+    name: &'a str,
+    error: Option<BoxError>,
+}
+
+impl fmt::Display for LaterError<'_> {
+    ghost use Rattle.std.specs.Prelude.{Some};
+
+    ghost output = { λ later. Some (later_line later.name.now later.error) };
+
+    #[tactic(auto, unfolding(crate::specs::Warnings::later_line))]
+    fn fmt<W: fmt::Write>(&self, f: &mut fmt::Formatter<W>) -> fmt::Result {
+        let name = self.name;
+        if let Some(error) = self.error {
+            let reason = box_text(error);
+            writeln!(f, "jxldec: {name}: ignored after the codestream: {reason}")?;
+        }
+        Ok(())
+    }
+}
+
+/// Writes a line on channels that were left out, if there are any, one on a profile, and one on the error of the boxes after
+/// the codestream, as far as they can be written. It returns whether lines were written.
 pub fn warn<E: Write>(errors: &mut E, name: &str, left_out: &LeftOut) -> bool
     ensures lines { IsTrue result → Appends (E.contents errors.old) (E.contents errors.new)
-        (warning_lines name.now (string_bytes left_out.now.channels) left_out.now.profile) }
+        (warning_lines name.now (string_bytes left_out.now.channels) left_out.now.profile left_out.now.later_error) }
     ensures none { string_bytes left_out.now.channels ≡ [] → left_out.now.profile ≡ false
-        → errors.new ≡ errors.old }
+        → left_out.now.later_error ≡ None → errors.new ≡ errors.old }
 {
     let (channels, profile) = (left_out.channels.as_str(), left_out.profile);
-    if channels.is_empty() && !profile {
+    let later_error = left_out.later_error;
+    if channels.is_empty() && !profile && later_error.is_none() {
         return false;
     }
     let warnings = Warnings {
@@ -122,5 +159,9 @@ pub fn warn<E: Write>(errors: &mut E, name: &str, left_out: &LeftOut) -> bool
         channels,
         profile,
     };
-    write!(errors, "{warnings}").is_ok()
+    let later = LaterError {
+        name,
+        error: later_error,
+    };
+    write!(errors, "{warnings}{later}").is_ok()
 }

@@ -1,13 +1,13 @@
 -- How far the boxes of a file were walked, and what those before a place have.
-use Rattle.std.specs.Prelude.{◌≡◌, ◌≤◌, ℕ, ◌+◌, ◌*◌, ◌%◌, List, [], ◌∷◌, ◌++◌, length, slice_range, find, count_by, nat_lt, ◌==◌, ◌&&◌, ◌||◌, not, if◌then◌else◌, Option, Some, None, IfSome, is_some, false, Result, Ok, Err}
+use Rattle.std.specs.Prelude.{◌≡◌, ◌≤◌, ℕ, ◌+◌, ◌*◌, ◌%◌, List, [], ◌∷◌, ◌++◌, length, slice_range, find, count_by, nat_lt, ◌==◌, ◌&&◌, ◌||◌, not, if◌then◌else◌, Option, Some, None, IfSome, is_some, unwrap_or, false, Result, Ok, Err}
 use Rattle.std.specs.List.{list_any, flat_map}
 use Rattle.std.specs.Option.{option_or, option_map_or}
 use Rattle.jxl_container.specs.Boxes.{word_at, box_from}
-use Rattle.jxl_container.specs.Files.{fault, is_whole, is_part, is_last, stream_of}
+use Rattle.jxl_container.specs.Files.{Follow, contents, fault, is_whole, is_part, is_last, stream_of}
 use Rattle.jxl_container.specs.declared.error.FileError.{FileError}
 use Rattle.jxl_container.specs.declared.error.FileError.TheVariants.{TruncatedBox, BoxTooSmall, FileType, SecondCodestream, PartAfterLast, PartOutOfOrder, NoLastPart, NoCodestream, JpegReconstruction, CompressedCodestream}
 use Rattle.jxl_container.specs.declared.boxes.FileBox.{FileBox}
-use Rattle.jxl_container.specs.declared.codestream.Codestream.{Codestream}
+use Rattle.jxl_container.specs.declared.codestream.Found.{Found}
 use Rattle.jxl_container.specs.declared.seen.Seen.{Seen}
 
 -- the box from p on of this size, its contents from body on, both in the file
@@ -72,15 +72,19 @@ later_fault bytes seen b =
 unfoldable pub fault_by_kind : List ℕ → Seen → FileBox → Option FileError
 fault_by_kind bytes seen b = if seen.first then first_fault bytes b else later_fault bytes seen b
 
--- the codestream of boxes that have this, with these parts joined
-unfoldable pub contents_of : List ℕ → Seen → List ℕ → Result (List ℕ) FileError
-contents_of bytes seen parts = option_map_or (λ b. Ok (slice_range bytes b.body b.end)) seen.whole
-    (if seen.last then Ok parts else if seen.parts == 0 then Err NoCodestream else Err NoLastPart)
+-- the codestream of boxes that have this, with these parts joined, after which comes this error
+unfoldable pub contents_of : List ℕ → Seen → List ℕ → Option FileError → Result (List ℕ) FileError
+contents_of bytes seen parts error = option_map_or (λ b. Ok (slice_range bytes b.body b.end)) seen.whole
+    (if seen.last then Ok parts else Err (unwrap_or error (if seen.parts == 0 then NoCodestream else NoLastPart)))
 
--- what was returned is this result
-abbrev pub Finishes : Result (List ℕ) FileError → Result Codestream FileError → Type 0
-Finishes expected (Ok c) = expected ≡ Ok (stream_of c)
-Finishes expected (Err e) = expected ≡ Err e
+-- what was returned is this codestream with this error after it, or why there is none
+abbrev pub Finishes : Result (List ℕ) FileError → Option FileError → Result Found FileError → Type 0
+Finishes expected error (Ok found) = (expected ≡ Ok (stream_of found.codestream)) × (found.later_error ≡ error)
+Finishes expected error (Err e) = expected ≡ Err e
+
+-- boxes follow one another after the signature up to the end of the file, or to this error; all have this
+abbrev pub Boxed : List ℕ → Option FileError → Result (List ℕ) FileError → Type 0
+Boxed bytes error result = (boxes : List FileBox) × Follow bytes [] 12 boxes error × (result ≡ contents bytes boxes error)
 
 -- what boxes have with one more
 abbrev pub with_box : List ℕ → Seen → FileBox → Seen
