@@ -7,3 +7,4 @@ mod AnsCodes
 mod PastTokens
 mod LookupSteps
 mod NoCodeword
+pub mod DecoderLaw

@@ -2,7 +2,7 @@
 //! copies of earlier tokens.
 #![tactic(auto)]
 
-mod clusters;
+pub mod clusters;
 mod coded;
 pub mod codes;
 pub mod decoder;

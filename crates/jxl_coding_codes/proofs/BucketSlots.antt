@@ -260,3 +260,13 @@ alias_slots counts log le short sums = by (only_from 0 counts) refl
     by None e =
         let k = sizes log le in
         filled_slots (2 ^ log) (4096 / 2 ^ log) counts short sums k.product k.few k.some _ (all_filled (2 ^ log) (4096 / 2 ^ log) counts short (sums ∙ sym k.product))
+
+-- there are 2^log buckets
+pub buckets_many : (counts : List ℕ) (log : ℕ) → log ≤ 8 → length counts ≤ 2 ^ log → sum counts ≡ 4096 → length (buckets_of counts log) ≡ 2 ^ log
+buckets_many counts log le short sums = by (only_from 0 counts)
+  where
+    by : (o : Option ℕ) → length (buckets_with o counts log) ≡ 2 ^ log
+    by (Some symbol) = only_many symbol (4096 / 2 ^ log) (2 ^ log)
+    by None =
+        let k = sizes log le in
+        (all_filled (2 ^ log) (4096 / 2 ^ log) counts short (sums ∙ sym k.product)).filled.many

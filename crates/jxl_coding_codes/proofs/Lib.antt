@@ -1,18 +1,18 @@
-mod Wraps
-mod IntegerToken
+pub mod Wraps
+pub mod IntegerToken
 pub mod StepLaws
 mod CodeSteps
 mod AliasSteps
-mod AnsUndo
-mod OneSpelling
+pub mod AnsUndo
+pub mod OneSpelling
 pub mod Holding
-mod DistributionSums
+pub mod DistributionSums
 mod CodewordOrder
-mod CodewordReads
-mod BucketMoves
+pub mod CodewordReads
+pub mod BucketMoves
 mod BucketFilling
-mod BucketSlots
-mod SomeSpelling
+pub mod BucketSlots
+pub mod SomeSpelling
 mod SortedSymbols
 mod LookupEntries
 mod FullCodes

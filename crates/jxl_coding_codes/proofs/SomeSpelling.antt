@@ -11,28 +11,28 @@ use Rattle.jxl_coding_codes.specs.declared.config.IntegerConfig.{IntegerConfig}
 
 -- a token of n bits below its leading one: the symbol that spells it, by the bits that it tells, and those that follow
 module _ (split high low n token : ℕ) (tells : high + low ≤ split) (long : split ≤ n) (few : n < 32) (least : 2 ^ n ≤ token) (most : token < 2 ^ suc n) where
-  abbrev width : ℕ
+  abbrev pub width : ℕ
   width = n - (high + low)
 
-  abbrev upper : ℕ
+  abbrev pub upper : ℕ
   upper = token / 2 ^ low
 
-  abbrev lower : ℕ
+  abbrev pub lower : ℕ
   lower = token % 2 ^ low
 
-  abbrev first : ℕ
+  abbrev pub first : ℕ
   first = upper / 2 ^ width
 
-  abbrev rest : ℕ
+  abbrev pub rest : ℕ
   rest = upper % 2 ^ width
 
-  abbrev told : ℕ
+  abbrev pub told : ℕ
   told = first - 2 ^ high
 
-  abbrev steps_up : ℕ
+  abbrev pub steps_up : ℕ
   steps_up = 2 ^ (split - (high + low)) + (n - split)
 
-  abbrev symbol : ℕ
+  abbrev pub symbol : ℕ
   symbol = (steps_up * 2 ^ high + told) * 2 ^ low + lower
 
   parts : width + high + low ≡ n
@@ -46,7 +46,7 @@ module _ (split high low n token : ℕ) (tells : high + low ≤ split) (long : s
       let e : suc (width + high) + low ≡ suc n = omega arith in
       div_below token (2 ^ low) (2 ^ suc (width + high)) (pow_pos low) (rw (← (pow-add 2 (suc (width + high)) low), e) most)
 
-  first_least : 2 ^ high ≤ first
+  pub first_least : 2 ^ high ≤ first
   first_least =
       let e : 2 ^ high * 2 ^ width ≡ 2 ^ (width + high) = mul_comm (2 ^ high) (2 ^ width) ∙ sym (pow-add 2 width high) in
       le-div (2 ^ high) upper (2 ^ width) (pow_pos width) (rw e upper_least)
@@ -63,11 +63,11 @@ module _ (split high low n token : ℕ) (tells : high + low ≤ split) (long : s
   lower_below : lower < 2 ^ low
   lower_below = mod_below token (2 ^ low) (pow_pos low)
 
-  told_bits : told * 2 ^ low + lower < 2 ^ (high + low)
+  pub told_bits : told * 2 ^ low + lower < 2 ^ (high + low)
   told_bits = rw (pow-add 2 high low, mul_comm (2 ^ high) (2 ^ low)) (mul-add-lt told (2 ^ low) lower (2 ^ high) told_below lower_below)
 
   -- the symbol begins at the split
-  from_split : symbol ≡ 2 ^ split + ((n - split) * 2 ^ (high + low) + (told * 2 ^ low + lower))
+  pub from_split : symbol ≡ 2 ^ split + ((n - split) * 2 ^ (high + low) + (told * 2 ^ low + lower))
   from_split =
       let e : split - (high + low) + (high + low) ≡ split = omega arith in
       let p : 2 ^ split ≡ 2 ^ (split - (high + low)) * 2 ^ (high + low) = ap (λ (m : ℕ). 2 ^ m) (sym e) ∙ pow-add 2 (split - (high + low)) (high + low) in
@@ -85,7 +85,7 @@ module _ (split high low n token : ℕ) (tells : high + low ≤ split) (long : s
       let e : symbol - 2 ^ split ≡ (n - split) * 2 ^ (high + low) + (told * 2 ^ low + lower) = omega (arith, from_split) in
       ap (λ (m : ℕ). m / 2 ^ (high + low)) e ∙ div-mul-add (n - split) (2 ^ (high + low)) (told * 2 ^ low + lower) told_bits
 
-  width_is : (split - (high + low) + (symbol - 2 ^ split) / 2 ^ (high + low)) % 32 ≡ width
+  pub width_is : (split - (high + low) + (symbol - 2 ^ split) / 2 ^ (high + low)) % 32 ≡ width
   width_is = ap (λ (m : ℕ). (split - (high + low) + m) % 32) steps_are ∙ small (split - (high + low) + (n - split)) (omega arith)
     where
       small : (m : ℕ) → m ≡ width → m % 32 ≡ width
@@ -115,27 +115,30 @@ module _ (h : IntegerConfig) (valid : IsConfig h) (token : ℕ) (beyond_split : 
   abbrev Spelled : Type 0
   Spelled = (symbol : ℕ) × ((rest : ℕ) × Spells h symbol rest token)
 
-  spelled : (n : ℕ) → n < 32 → 2 ^ n ≤ token → token < 2 ^ suc n → h.split_exponent ≤ n → Spelled
-  spelled n few least most long =
+  -- by the bits of the token
+  pub spelled_by : (n : ℕ) (few : n < 32) (least : 2 ^ n ≤ token) (most : token < 2 ^ suc n) (long : h.split_exponent ≤ n) →
+      Spells h (symbol h.split_exponent h.msb_in_token h.lsb_in_token n token valid.1 long few least most) (rest h.split_exponent h.msb_in_token h.lsb_in_token n token valid.1 long few least most) token
+  spelled_by n few least most long =
       let s : ℕ = symbol h.split_exponent h.msb_in_token h.lsb_in_token n token valid.1 long few least most in
       let r : ℕ = rest h.split_exponent h.msb_in_token h.lsb_in_token n token valid.1 long few least most in
       let w : width_of h s ≡ width h.split_exponent h.msb_in_token h.lsb_in_token n token valid.1 long few least most = width_is h.split_exponent h.msb_in_token h.lsb_in_token n token valid.1 long few least most in
       let up = symbol_upper h.split_exponent h.msb_in_token h.lsb_in_token n token valid.1 long few least most in
       let down = symbol_lower h.split_exponent h.msb_in_token h.lsb_in_token n token valid.1 long few least most in
-      let steps = steps_are h.split_exponent h.msb_in_token h.lsb_in_token n token valid.1 long few least most in (
-        s,
-        (
-          r,
-          record {
-            beyond = beyond h.split_exponent h.msb_in_token h.lsb_in_token n token valid.1 long few least most;
-            fits = rw steps (omega arith);
-            within = rw w (rest_below h.split_exponent h.msb_in_token h.lsb_in_token n token valid.1 long few least most);
-            whole = rw (w, up, down, together h.split_exponent h.msb_in_token h.lsb_in_token n token valid.1 long few least most) (mod-eq_of_lt fits);
-          },
-        ),
-      )
+      let steps = steps_are h.split_exponent h.msb_in_token h.lsb_in_token n token valid.1 long few least most in
+      record {
+        beyond = beyond h.split_exponent h.msb_in_token h.lsb_in_token n token valid.1 long few least most;
+        fits = rw steps (omega arith);
+        within = rw w (rest_below h.split_exponent h.msb_in_token h.lsb_in_token n token valid.1 long few least most);
+        whole = rw (w, up, down, together h.split_exponent h.msb_in_token h.lsb_in_token n token valid.1 long few least most) (mod-eq_of_lt fits);
+      }
 
-  not_longer : (n : ℕ) → token < 2 ^ suc n → h.split_exponent ≤ n
+  spelled : (n : ℕ) → n < 32 → 2 ^ n ≤ token → token < 2 ^ suc n → h.split_exponent ≤ n → Spelled
+  spelled n few least most long = (
+    symbol h.split_exponent h.msb_in_token h.lsb_in_token n token valid.1 long few least most,
+    (rest h.split_exponent h.msb_in_token h.lsb_in_token n token valid.1 long few least most, spelled_by n few least most long),
+  )
+
+  pub not_longer : (n : ℕ) → token < 2 ^ suc n → h.split_exponent ≤ n
   not_longer n most =
       elim (cases_lt n h.split_exponent) [
         | inl lt ↦ let up : 2 ^ suc n ≤ 2 ^ h.split_exponent = pow-le-pow_right {n = 2} (omega arith) lt in absurd (omega (arith, up, most, beyond_split))

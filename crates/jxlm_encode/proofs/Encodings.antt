@@ -42,7 +42,8 @@ use Rattle.jxlm_encode_write.proofs.Spelled.{each_of}
 use Rattle.jxlm_encode.specs.Encoded.{AreAccepted, EncodeFails, IsTransformRefused, IsSmall, IsTreeGiven, given_list}
 use Rattle.jxlm_encode.specs.Inner.Listing.{IsNotGiven}
 use Rattle.jxlm_encode.specs.Inner.Placing.{ArePlaced, AreRefused, listed}
-use Rattle.jxlm_encode.specs.Inner.Writing.{ArePrepared, ChannelsLie, part_at}
+use Rattle.jxlm_encode.specs.Inner.Writing.{ChannelsLie, part_at}
+use Rattle.jxlm_encode.specs.Prepared.{ArePrepared}
 use Rattle.jxlm_encode_transform.specs.Redo.{IsNoPalette, UndoesNoPalette}
 use Rattle.jxlm_encode_tokens.specs.Tokens.{AreTokensOf}
 use Rattle.jxlm_encode.proofs.Accepted.{is_transform}

@@ -18,14 +18,14 @@ use Rattle.jxlm_encode_write.specs.Headers.{header_bits}
 use Rattle.jxlm_encode_write.specs.Nodes.{tree_tokens}
 use Rattle.jxlm_encode_write.specs.Tokens.{gamma_bits, gamma_token_bits, one_cluster, one_gamma_cluster, token_bits}
 use Rattle.jxlm_encode_write.specs.Trees.{gamma_tree_bits, leaves_in, tree_bits}
-use Rattle.jxlm_encode_write.specs.Written.{HasBits, digits}
+use Rattle.jxlm_bit_writer.specs.Written.{HasBits, digits}
 use Rattle.jxlm_encode_write.specs.declared.tree.EncodeNode.{EncodeNode}
-use Rattle.jxlm_encode_write.proofs.BitLists.{filled_stands, has_first, has_rest}
+use Rattle.jxlm_bit_writer.proofs.BitLists.{filled_stands, has_first, has_rest}
 use Rattle.jxlm_encode_write.proofs.HeaderLaws.{headers_stand}
 use Rattle.jxlm_encode_write.proofs.TreeLaws.{gamma_trees_stand, trees_stand}
 use Rattle.jxlm_encode.specs.Encoded.{coded_part}
 use Rattle.jxlm_encode.specs.Bytes.{AreBytesFor, AreBytesOf, AreBytesOf2, AreWritten, AreWritten2}
-use Rattle.jxlm_encode.specs.Inner.Writing.{ArePrepared}
+use Rattle.jxlm_encode.specs.Prepared.{ArePrepared}
 use Rattle.jxlm_encode.proofs.Listings.{IsGivenLeaf, leaves_given}
 
 no_bits : (one : ℕ → List ℕ) (ts : List ℕ) → length ts ≡ 0 → length (flat_map one ts) ≡ 0

@@ -10,9 +10,9 @@ use Rattle.jxlm_encode_write.specs.Headers.{header_bits}
 use Rattle.jxlm_encode_write.specs.Nodes.{tree_tokens}
 use Rattle.jxlm_encode_write.specs.Tokens.{token_bits}
 use Rattle.jxlm_encode_write.specs.Trees.{tree_bits}
-use Rattle.jxlm_encode_write.specs.Written.{AreFilled, bits_of, digits}
+use Rattle.jxlm_bit_writer.specs.Written.{AreFilled, bits_of, digits}
 use Rattle.jxlm_encode_write.specs.declared.tree.EncodeNode.{EncodeNode}
-use Rattle.jxlm_encode_write.proofs.BitLists.{digits_low, length-bits, length-digits}
+use Rattle.jxlm_bit_writer.proofs.BitLists.{digits_low, length-bits, length-digits}
 use Rattle.jxlm_encode.specs.Bytes.{AreWritten, AreWritten2, IsLeastWidth}
 use Rattle.jxlm_encode.specs.Laws.{IsByte}
 

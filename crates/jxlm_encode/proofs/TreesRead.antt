@@ -15,8 +15,8 @@ use Rattle.jxlm_plain.specs.Plain.{PlainState, plain}
 use Rattle.jxlm_encode_write.specs.Nodes.{node_of, tree_tokens}
 use Rattle.jxlm_encode_write.specs.Tokens.{decoder_bits, gamma_decoder_bits, gamma_token_bits, one_cluster, token_bits}
 use Rattle.jxlm_encode_write.specs.Trees.{gamma_tree_bits, leaves_in, tree_bits}
-use Rattle.jxlm_encode_write.specs.Written.{AreFilled, HasBits}
-use Rattle.jxlm_encode_write.proofs.BitLists.{filled_stands}
+use Rattle.jxlm_bit_writer.specs.Written.{AreFilled, HasBits}
+use Rattle.jxlm_bit_writer.proofs.BitLists.{filled_stands}
 use Rattle.jxlm_encode_write.specs.declared.tree.EncodeNode.{EncodeNode}
 use Rattle.jxlm_encode_write.proofs.TreeLaws.{trees_stand}
 use Rattle.jxlm_encode.specs.Inner.Errors.{IsNotMemory}

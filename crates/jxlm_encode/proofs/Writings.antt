@@ -17,7 +17,7 @@ use Rattle.jxlm_encode_write.specs.Headers.{header_bits}
 use Rattle.jxlm_encode_write.specs.Nodes.{tree_tokens}
 use Rattle.jxlm_encode_write.specs.Tokens.{gamma_token_bits, token_bits}
 use Rattle.jxlm_encode_write.specs.Trees.{gamma_tree_bits, tree_bits}
-use Rattle.jxlm_encode_write.specs.Written.{AreFilled}
+use Rattle.jxlm_bit_writer.specs.Written.{AreFilled}
 use Rattle.jxlm_encode_write.specs.declared.tree.EncodeNode.{EncodeNode}
 use Rattle.jxlm_encode.specs.Bytes.{AreWritten, AreWritten2, IsLeastWidth}
 use Rattle.jxlm_encode.specs.Inner.Writing.{ChannelsLie}

@@ -1,4 +1,5 @@
 pub mod Encoded
 pub mod Bytes
+pub mod Prepared
 pub mod Laws
 pub mod Inner

@@ -8,12 +8,12 @@ ghost use Rattle.jxlm_encode.specs.Encoded.{IsTreeGiven};
 ghost use Rattle.jxlm_encode.specs.Inner.Listing.{IsNotGiven, IsNotRead, IsTreeRead, ListsOneTree, left_after};
 
 use crate::error::{EncodeError, unless_memory};
+use jxlm_bit_writer::writer::BitWriter;
 use jxlm_bits::bits::Bitstream;
 use jxlm_encode_write::plain::{
     width_of, write_decoder, write_gamma_decoder, write_gamma_tokens, write_tokens,
 };
 use jxlm_encode_write::tree::{EncodeNode, has_tokens, tokens_of};
-use jxlm_encode_write::writer::BitWriter;
 use jxlm_header::opening::{DEPTH_LIMIT, node_limit};
 use jxlm_plain::plain::PlainDecoder;
 use jxlm_transform::channels::PlacedChannel;

@@ -10,9 +10,9 @@ use Rattle.jxlm_plain.specs.Plain.{plain, plain2, plain_begin}
 use Rattle.jxlm_samples.specs.Coded.{part_rule}
 use Rattle.jxlm_samples.specs.Part.{Part, max_width, cells_of}
 use Rattle.jxlm_samples.specs.Rule.{CodedPrefix}
-use Rattle.jxlm_encode_write.specs.Written.{digits, HasBits}
+use Rattle.jxlm_bit_writer.specs.Written.{digits, HasBits}
 use Rattle.jxlm_encode_write.specs.Tokens.{token_bits, one_cluster, gamma_bits, gamma_token_bits, one_gamma_cluster}
-use Rattle.jxlm_encode_write.proofs.BitLists.{has_first, has_rest}
+use Rattle.jxlm_bit_writer.proofs.BitLists.{has_first, has_rest}
 use Rattle.jxlm_encode_write.proofs.TokenLaws.{fixed_reads}
 use Rattle.jxlm_encode_write.proofs.GammaLaws.{gamma_writable}
 use Rattle.jxlm_encode_tokens.specs.Laws.{AreRead, HasOneCluster, ReadIsCoded, WrittenIsCoded, GammaWrittenIsCoded}

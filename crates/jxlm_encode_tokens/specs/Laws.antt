@@ -10,7 +10,7 @@ use Rattle.jxlm_samples.specs.Coded.{IsCodedToTheEnd}
 use Rattle.jxlm_samples.specs.Part.{Part, next_leaf, cell_count, cells_of, max_width}
 use Rattle.jxlm_plain.specs.Plain.{plain, plain2}
 use Rattle.jxlm_encode_write.specs.Tokens.{one_cluster, token_bits, one_gamma_cluster, gamma_token_bits}
-use Rattle.jxlm_encode_write.specs.Written.{HasBits}
+use Rattle.jxlm_bit_writer.specs.Written.{HasBits}
 use Rattle.jxlm_encode_tokens.specs.Tokens.{AreTokensOf, IsSampleToken, MultipliesByOdd, MultipliesByOne}
 
 -- At a leaf that multiplies by 1 each sample has one token.

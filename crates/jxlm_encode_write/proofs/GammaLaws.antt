@@ -19,10 +19,10 @@ use Rattle.jxlm_plain.specs.declared.plain.Mode.{Mode}
 use Rattle.jxlm_plain.specs.declared.plain.Mode.TheVariants.{Unsealed}
 use Rattle.jxlm_plain.specs.GammaCodes.{GammaStands}
 use Rattle.jxlm_plain.proofs.GammaCodes.{gamma_tokens_are_codes}
-use Rattle.jxlm_encode_write.specs.Written.{digits, HasBits}
+use Rattle.jxlm_bit_writer.specs.Written.{digits, HasBits}
 use Rattle.jxlm_encode_write.specs.Tokens.{gamma_decoder_bits, gamma_bits, one_gamma_cluster}
 use Rattle.jxlm_encode_write.specs.Laws.{GammaTokensAreRead}
-use Rattle.jxlm_encode_write.proofs.BitLists.{length-digits, number_stands, has_first, has_rest, has_moved}
+use Rattle.jxlm_bit_writer.proofs.BitLists.{length-digits, number_stands, has_first, has_rest, has_moved}
 use Rattle.jxlm_encode_write.proofs.TokenLaws.{number_read, mode_read, clusters_read, length-clusters}
 use Rattle.jxlm_encode_write.proofs.Writable.{IsWritable}
 

@@ -10,11 +10,11 @@ use Rattle.jxlm_transform.specs.declared.transform.Rct.{Rct}
 use Rattle.jxlm_transform.specs.declared.transform.SqueezeParams.{SqueezeParams}
 use Rattle.jxlm_weighted.specs.declared.weights.WpHeader.{WpHeader}
 use Rattle.jxlm_weighted.specs.WeightsHeader.{wp_header, default_weights}
-use Rattle.jxlm_encode_write.specs.Written.{digits}
+use Rattle.jxlm_bit_writer.specs.Written.{digits}
 use Rattle.jxlm_encode_write.specs.Laws.{IsWritten, HeadersStand}
 use Rattle.jxlm_encode_write.specs.Headers.{flag_bits, begin_bits, kind_bits, count_bits, steps_count_bits, transforms_count_bits, rct_bits, params_bits, squeeze_bits, transform_bits, header_bits}
-use Rattle.jxlm_encode_write.proofs.BitLists.{has_first, has_rest}
-use Rattle.jxlm_encode_write.proofs.FieldLaws.{StandsAs, number_as, flag_as, u32_as}
+use Rattle.jxlm_bit_writer.proofs.BitLists.{has_first, has_rest}
+use Rattle.jxlm_bit_writer.proofs.FieldLaws.{StandsAs, number_as, flag_as, u32_as}
 use Rattle.jxlm_encode_write.proofs.Spelled.{begin_spelled, kind_spelled, count_spelled, steps_spelled, transforms_spelled}
 
 -- one field after another

@@ -7,7 +7,7 @@ use Rattle.std.specs.List.{All}
 use Rattle.std.proofs.lemmas.List.{length-map, get_or-map}
 use Rattle.std.proofs.lemmas.List.Elements.{All-map}
 use Rattle.jxlm_transform.specs.Transforms.{IsSqueeze, IsSqueezeParams}
-use Rattle.jxlm_encode_write.specs.Fields.{holds, is_spelled}
+use Rattle.jxlm_bit_writer.specs.Fields.{holds, is_spelled}
 use Rattle.jxlm_encode_write.specs.Headers.{params_of}
 use Rattle.jxlm_encode_write.specs.declared.header.SqueezeStep.{SqueezeStep}
 

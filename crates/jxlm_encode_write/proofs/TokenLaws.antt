@@ -7,11 +7,11 @@ use Rattle.std.proofs.Math.Nat.{mod-eq_of_lt}
 use Rattle.jxlm_plain.specs.Plain.{number_at, mode_at, cluster_at, items_at, code_after, code_at, fields_at, plain, plain_parse, plain_begin, plain_read, token_at}
 use Rattle.jxlm_plain.specs.declared.plain.Code.TheVariants.{Fixed}
 use Rattle.jxlm_plain.specs.declared.plain.Mode.TheVariants.{Unsealed}
-use Rattle.jxlm_encode_write.specs.Written.{digits, HasBits}
+use Rattle.jxlm_bit_writer.specs.Written.{digits, HasBits}
 use Rattle.jxlm_encode_write.specs.Tokens.{decoder_bits, one_cluster}
 use Rattle.jxlm_encode_write.specs.Laws.{TokensAreRead}
 use Rattle.jxlm_encode_write.proofs.Writable.{IsWritable}
-use Rattle.jxlm_encode_write.proofs.BitLists.{length-digits, number_stands, has_first, has_rest, has_moved}
+use Rattle.jxlm_bit_writer.proofs.BitLists.{length-digits, number_stands, has_first, has_rest, has_moved}
 
 -- a number that stands is read
 pub number_read : (bytes : List ℕ) (p n v : ℕ) → v < 2 ^ n → HasBits bytes p (digits n v) → number_at bytes p n ≡ Ok (record { value = v; position = p + n })

@@ -12,7 +12,7 @@ use Rattle.jxlm_tree.specs.TreeStands.{TokenStands, NodeStands, NodesStand, Tree
 use Rattle.jxlm_tree.specs.declared.flat.Leaf.{Leaf}
 use Rattle.jxlm_predictor.specs.Predictions.{number_of, predictors}
 use Rattle.jxlm_predictor.specs.declared.predictor.Predictor.{Predictor}
-use Rattle.jxlm_encode_write.specs.Written.{digits, HasBits}
+use Rattle.jxlm_bit_writer.specs.Written.{digits, HasBits}
 use Rattle.jxlm_encode_write.specs.Tokens.{decoder_bits, one_cluster, gamma_decoder_bits, gamma_bits, one_gamma_cluster}
 use Rattle.jxlm_encode_write.specs.Nodes.{packed_number, node_of, node_tokens, tree_tokens}
 use Rattle.jxlm_encode_write.specs.Trees.{leaves_in, tree_bits, gamma_tree_bits}
@@ -20,7 +20,7 @@ use Rattle.jxlm_encode_write.specs.Laws.{TreesStand, GammaTreesStand}
 use Rattle.jxlm_encode_write.specs.declared.tree.EncodeNode.{EncodeNode}
 use Rattle.jxlm_encode_write.specs.declared.tree.EncodeNode.TheVariants as given
 use Rattle.jxlm_predictor.proofs.Numbers.{found_by_number}
-use Rattle.jxlm_encode_write.proofs.BitLists.{has_first, has_rest}
+use Rattle.jxlm_bit_writer.proofs.BitLists.{has_first, has_rest}
 use Rattle.jxlm_encode_write.proofs.Writable.{IsWritable}
 use Rattle.jxlm_encode_write.proofs.TokenLaws.{fixed_writable}
 use Rattle.jxlm_encode_write.proofs.GammaLaws.{gamma_writable}

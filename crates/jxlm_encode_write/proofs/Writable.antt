@@ -1,7 +1,7 @@
 -- What written trees and samples ask of a format: a decoder of one cluster, as bits, and tokens, each as bits.
 use Rattle.std.proofs.Common.{◌≡◌, ℕ, ◌+◌, List, length, replicate, Ok}
 use Rattle.jxlm_bits.specs.Decoding.{Meaning}
-use Rattle.jxlm_encode_write.specs.Written.{HasBits}
+use Rattle.jxlm_bit_writer.specs.Written.{HasBits}
 
 pub record IsWritable {S : Type 0} (d : Meaning S) (state : ℕ → S) (head : ℕ → List ℕ) (one : ℕ → List ℕ) (Fits : ℕ → Type 0) : Type 0 where
   pub parsed : (bytes : List ℕ) (p contexts q : ℕ) → HasBits bytes p (head contexts) → q ≡ p + length (head contexts) →

@@ -5,8 +5,8 @@ use Rattle.jxlm_bits.specs.declared.bits.U32Spec.TheVariants.{Const, Offset}
 use Rattle.jxlm_transform.specs.Transforms.{Transform, OfRct, OfPalette, OfSqueeze}
 use Rattle.jxlm_transform.specs.declared.transform.Rct.{Rct}
 use Rattle.jxlm_transform.specs.declared.transform.SqueezeParams.{SqueezeParams}
-use Rattle.jxlm_encode_write.specs.Written.{digits}
-use Rattle.jxlm_encode_write.specs.Fields.{u32_bits}
+use Rattle.jxlm_bit_writer.specs.Written.{digits}
+use Rattle.jxlm_bit_writer.specs.Fields.{u32_bits}
 use Rattle.jxlm_encode_write.specs.declared.header.SqueezeStep.{SqueezeStep}
 use Rattle.jxlm_encode_write.specs.declared.header.EncodeTransform.{EncodeTransform}
 use Rattle.jxlm_encode_write.specs.declared.header.EncodeTransform.TheVariants as given

@@ -8,7 +8,7 @@ use Rattle.jxlm_tree.specs.declared.flat.Leaf.{Leaf}
 use Rattle.jxlm_plain.specs.Plain.{plain, plain2}
 use Rattle.jxlm_transform.specs.Transforms.{Transform, OfRct, OfPalette, OfSqueeze, IsRct, IsSqueeze}
 use Rattle.jxlm_weighted.specs.WeightsHeader.{default_weights}
-use Rattle.jxlm_encode_write.specs.Written.{digits, HasBits}
+use Rattle.jxlm_bit_writer.specs.Written.{digits, HasBits}
 use Rattle.jxlm_encode_write.specs.Headers.{header_bits}
 use Rattle.jxlm_encode_write.specs.Nodes.{node_of, tree_tokens}
 use Rattle.jxlm_encode_write.specs.Tokens.{one_cluster, gamma_bits, one_gamma_cluster}

@@ -5,7 +5,7 @@ use Rattle.jxlm_bits.specs.Numbers.{floor_log2}
 use Rattle.jxlm_plain.specs.Plain.{PlainState}
 use Rattle.jxlm_plain.specs.declared.plain.Code.TheVariants.{Fixed, Gamma}
 use Rattle.jxlm_plain.specs.declared.plain.Mode.TheVariants.{Unsealed}
-use Rattle.jxlm_encode_write.specs.Written.{digits}
+use Rattle.jxlm_bit_writer.specs.Written.{digits}
 
 -- the bits of a decoder: no runs, no seal, one cluster, which is that of each context, and of this width
 abbrev pub decoder_bits : ℕ → ℕ → List ℕ

@@ -6,7 +6,7 @@ ghost use Rattle.jxlm_transform.specs.Transforms.{IsSqueeze, IsSqueezeParams, Is
 ghost use Rattle.jxlm_encode_write.specs.Headers.{params_of, transform_of, begin_bits};
 ghost use Rattle.jxlm_encode_write.specs.Headers.{params_bits, squeeze_bits, transform_bits, header_bits};
 
-use crate::writer::BitWriter;
+use jxlm_bit_writer::writer::BitWriter;
 use jxlm_bits::bits::U32Spec;
 use std::alloc::AllocError;
 

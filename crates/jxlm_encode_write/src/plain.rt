@@ -4,7 +4,7 @@ ghost use Rattle.std.specs.Prelude.{◌≡◌, ℕ, ◌<◌, ◌≤◌, ◌^◌,
 ghost use Rattle.std.specs.List.{All};
 ghost use Rattle.jxlm_encode_write.specs.Tokens.{decoder_bits, token_bits, gamma_decoder_bits, gamma_bits, gamma_token_bits};
 
-use crate::writer::BitWriter;
+use jxlm_bit_writer::writer::BitWriter;
 use std::alloc::AllocError;
 
 /// How many binary digits the greatest of these has, at most 32; 0 where all are 0. It is the least width that all of

@@ -1,7 +1,7 @@
 use Rattle.std.proofs.Common.{◌≡◌, ◌++◌, length}
 use Rattle.std.specs.Prelude.{take, map}
 use Rattle.std.specs.List.{flat_map}
-use Rattle.jxlm_encode_write.specs.Written.{digits}
+use Rattle.jxlm_bit_writer.specs.Written.{digits}
 use Rattle.jxlm_encode_write.specs.Headers.{transforms_count_bits, transform_bits, transform_of}
 use Rattle.jxlm_encode_write.proofs.header.write_header.Given as goal
 

@@ -1,7 +1,7 @@
 use Rattle.std.proofs.Common.{◌≡◌, ◌++◌}
 use Rattle.std.specs.Prelude.{replicate}
 use Rattle.std.specs.List.{flat_map}
-use Rattle.jxlm_encode_write.specs.Written.{digits}
+use Rattle.jxlm_bit_writer.specs.Written.{digits}
 use Rattle.jxlm_encode_write.proofs.plain.write_decoder.Given as goal
 
 abbrev pub invariant-loop : goal.invariant-loop

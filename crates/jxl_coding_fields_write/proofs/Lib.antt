@@ -1,0 +1,7 @@
+pub mod Readings
+pub mod NumberFields
+pub mod ConfigReads
+pub mod Forms
+pub mod WidthCodes
+pub mod CountWidthLaws
+pub mod CountReads

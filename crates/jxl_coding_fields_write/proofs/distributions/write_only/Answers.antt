@@ -1,0 +1,5 @@
+use Rattle.jxl_coding_fields_write.proofs.Forms.{only_writes}
+use Rattle.jxl_coding_fields_write.proofs.distributions.write_only.Goals as goal
+
+pub returns : goal.returns
+returns c = only_writes c.args.symbol c.args.bits.now c.put.new.self c.put-2.new.self c.write_var_len.new.bits c.in_ok-put.ensures c.in_ok-put-2.ensures c.in_ok-write_var_len.ensures

@@ -1,0 +1,9 @@
+pub mod OnlySymbols
+pub mod Bits
+pub mod CodesAt
+pub mod SymbolReads
+pub mod StreamReads
+pub mod TokenReads
+pub mod HeadReads
+pub mod OneContext
+pub mod CodedClusters

@@ -1,0 +1,17 @@
+use Rattle.std.proofs.Common.{◌≡◌, ◌≤◌, ℕ, List, length, sym, subst}
+use Rattle.std.specs.List.{All}
+use Rattle.jxl_coding.specs.Parse.{clusters_or_one, clusters_at}
+use Rattle.jxl_coding_fields_write.specs.Readings.{Writes}
+use Rattle.jxl_coding_stream_write.proofs.HeadReads.{head_written}
+use Rattle.jxl_coding_stream_write.proofs.OneContext.{only_zero}
+use Rattle.jxl_coding_stream_write.proofs.head.write_head.Goals as goal
+
+pub returns : goal.returns
+returns c =
+    head_written c.args.writer.now c.args.bits.now c.put.new.self c.write_clusters.new.bits c.write_codes.new.bits c.in_ok-put.ensures
+    (subst (λ (xs : List ℕ). Writes c.put.new.self c.write_clusters.new.bits (clusters_or_one (clusters_at (length xs)) (length xs)) xs) c.deref.ensures.value c.in_ok-write_clusters.ensures)
+    c.in_ok-write_codes.ensures
+
+pub write_clusters-requires-clause-one : goal.write_clusters-requires-clause-one
+write_clusters-requires-clause-one c =
+    subst (λ (xs : List ℕ). length xs ≤ 1 → All (λ x. x ≡ 0) xs) (sym c.deref.ensures.value) (only_zero c.args.writer.now.clusters.items (length c.args.writer.now.codes.items) c.requires.head.used)

@@ -1,0 +1,5 @@
+pub mod Pieces
+pub mod Tokens
+pub mod Codes
+pub mod Streams
+pub mod Heads

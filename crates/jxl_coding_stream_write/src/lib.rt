@@ -1,0 +1,10 @@
+//! Entropy coded streams and the heads of their decoders, written so that the entropy decoder reads them (ISO/IEC
+//! 18181-1, entropy decoding).
+#![tactic(auto)]
+
+pub mod cluster;
+pub mod head;
+pub mod head_limits;
+pub mod laws;
+pub mod stream;
+pub mod token;

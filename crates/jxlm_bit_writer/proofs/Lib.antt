@@ -1,0 +1,2 @@
+pub mod BitLists
+pub mod FieldLaws

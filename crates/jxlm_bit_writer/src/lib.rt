@@ -1,0 +1,5 @@
+//! Bits written one after another, and the fields of headers (ISO/IEC 18181-1, bit packing and field types).
+#![tactic(auto)]
+
+pub mod fields;
+pub mod writer;

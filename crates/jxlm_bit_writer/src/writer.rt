@@ -1,0 +1,85 @@
+//! Bits written, least significant first (ISO/IEC 18181-1, bit packing).
+
+ghost use Rattle.std.specs.Prelude.{◌≡◌, ◌≤◌, [], ◌∷◌, ◌++◌, IfOk};
+ghost use Rattle.jxlm_bit_writer.specs.Written.{digits, AreFilled};
+
+use std::alloc::{AllocError, Global};
+use std::marker::Model;
+
+/// Bits that were written, one after another. Contracts see the list of them, each 0 or 1.
+///
+/// A call that is out of memory promises nothing of the bits.
+#[derive(Drop)]
+pub struct BitWriter {
+    bytes: Vec<u8>,
+    // The bits after the last whole byte, fewer than 8, as a number.
+    held: u8,
+    count: u32,
+}
+
+impl Model for BitWriter {
+    ghost use Rattle.std.specs.Prelude.{ℕ, ◌<◌, ◌^◌, ◌++◌, List};
+    ghost use Rattle.jxlm_bit_writer.specs.Written.{bits_of, digits};
+
+    ghost Value = { List ℕ };
+
+    ghost view = { λ w. bits_of w.bytes.items ++ digits w.count w.held };
+
+    ghost invariant = { λ w. (w.count < 8) × (w.held < 2 ^ w.count) };
+}
+
+impl BitWriter {
+    /// No bits.
+    pub fn new(alloc: Global) -> BitWriter
+        ensures { result ≡ [] }
+    {
+        BitWriter {
+            bytes: Vec::new(alloc),
+            held: 0,
+            count: 0,
+        }
+    }
+
+    /// Adds a bit.
+    fn bit(&mut self, bit: u8) -> Result<(), AllocError>
+        requires { bit ≤ 1 }
+        ensures { IfOk result (λ _. self.new ≡ self.old ++ bit ∷ []) }
+    {
+        let held = self.held + bit * (1 << self.count);
+        if self.count == 7 {
+            self.bytes.push(held)?;
+            self.held = 0;
+            self.count = 0;
+        } else {
+            self.held = held;
+            self.count += 1;
+        }
+        Ok(())
+    }
+
+    /// Adds the `n` least significant bits of a number, at most 32, the least significant first: `u(n)`.
+    pub fn put(&mut self, value: u32, n: u32) -> Result<(), AllocError>
+        requires { n ≤ 32 }
+        ensures { IfOk result (λ _. self.new ≡ self.old ++ digits n value) }
+    {
+        for i in 0..n {
+            self.bit(((value >> i) % 2) as u8)?;
+        }
+        Ok(())
+    }
+
+    /// The bytes, the first bit the least significant of the first byte; zero bits fill the last byte.
+    pub fn into_bytes(self) -> Result<Vec<u8>, AllocError>
+        ensures { IfOk result (λ v. AreFilled v.items self) }
+    {
+        let BitWriter {
+            mut bytes,
+            held,
+            count,
+        } = self;
+        if count > 0 {
+            bytes.push(held)?;
+        }
+        Ok(bytes)
+    }
+}

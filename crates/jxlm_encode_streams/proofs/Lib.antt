@@ -1,0 +1,3 @@
+pub mod ReadStreams
+pub mod ReadTrees
+pub mod ReadImages

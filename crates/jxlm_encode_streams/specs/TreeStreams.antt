@@ -1,0 +1,34 @@
+-- Trees whose tokens a decoder reads as a stream.
+use Rattle.std.specs.Prelude.{◌≡◌, ℕ, ◌+◌, ◌^◌, ◌≤◌, List, [], ◌∷◌, map, replicate, slice_index, Ok}
+use Rattle.std.specs.List.{flat_map}
+use Rattle.jxlm_bits.specs.Decoding.{Asked, Found, Meaning}
+use Rattle.jxlm_bit_writer.specs.ReadStreams.{IsRead}
+use Rattle.jxlm_tree.specs.Tree.{Shape, levels, depth, node_count, config_of}
+use Rattle.jxlm_tree.specs.TreeStands.{TreeStands}
+use Rattle.jxlm_tree.specs.declared.flat.Leaf.{Leaf}
+use Rattle.jxlm_encode_write.specs.Nodes.{node_of, tree_tokens}
+use Rattle.jxlm_encode_write.specs.Trees.{leaves_in}
+use Rattle.jxlm_encode_write.specs.declared.tree.EncodeNode.{EncodeNode}
+use Rattle.jxlm_encode_write.specs.declared.tree.EncodeNode.TheVariants as given
+
+-- the contexts of the tokens of a node
+abbrev pub node_contexts : EncodeNode → List ℕ
+node_contexts (given.Decision property value) = 1 ∷ 0 ∷ []
+node_contexts (given.Leaf predictor offset) = 1 ∷ 2 ∷ 3 ∷ 4 ∷ 5 ∷ []
+
+abbrev pub tree_contexts : List EncodeNode → List ℕ
+tree_contexts nodes = flat_map node_contexts nodes
+
+-- a read of a context, if contexts have these clusters
+abbrev pub in_context : List ℕ → ℕ → Asked
+in_context clusters context = record { cluster = slice_index clusters context; multiplier = 0 }
+
+-- A tree is in the input if a decoder of six contexts is there and reads the tokens of its nodes, and then comes a decoder of
+-- its leaves, all of which have cluster 0.
+abbrev pub ReadTreeStands : {S : Type 0} → Meaning S → Type 0
+ReadTreeStands {S} d = (bytes : List ℕ) (node_limit depth_limit p q r : ℕ) (t : Shape Leaf) (nodes : List EncodeNode) (own : Found S) (leaves : S) →
+    levels t ≡ map node_of nodes → d.parse bytes p 6 ≡ Ok own →
+    IsRead d own.value bytes own.position (map (in_context (d.cluster_map own.value)) (tree_contexts nodes)) (tree_tokens nodes) q →
+    d.parse bytes q (leaves_in nodes) ≡ Ok (record { value = leaves; position = r }) → d.cluster_map leaves ≡ replicate (leaves_in nodes) 0 →
+    node_count t ≤ 2 ^ 26 → node_count t ≤ node_limit + 1 → depth t ≤ depth_limit →
+    TreeStands d bytes node_limit depth_limit p (config_of t leaves) r
