@@ -6,33 +6,16 @@ use Rattle.std.proofs.lemmas.List.Elements.{Contains-get_or}
 use Rattle.jxlm_bits.specs.Decoding.{Asked, Found, IsLawful, Meaning}
 use Rattle.jxlm_tree.specs.Tree.{levels}
 use Rattle.jxlm_tree.specs.TreeStands.{TokenStands, NodesStand, leaf_clusters}
-use Rattle.jxlm_predictor.specs.Predictions.{predictors}
+use Rattle.jxlm_predictor.specs.Predictions.{number_of, predictors}
 use Rattle.jxlm_predictor.specs.declared.predictor.Predictor.{Predictor}
-use Rattle.jxlm_predictor.specs.declared.predictor.Predictor.TheVariants as p
-use Rattle.jxlm_encode_write.specs.Nodes.{packed_number, number_of, node_of, tree_tokens}
+use Rattle.jxlm_predictor.proofs.Numbers.{found_by_number}
+use Rattle.jxlm_encode_write.specs.Nodes.{packed_number, node_of, tree_tokens}
 use Rattle.jxlm_encode_write.specs.Trees.{leaves_in}
 use Rattle.jxlm_encode_write.specs.declared.tree.EncodeNode.{EncodeNode}
 use Rattle.jxlm_encode_write.specs.declared.tree.EncodeNode.TheVariants as given
 use Rattle.jxlm_encode_write.proofs.TreeLaws.{unpack_packed}
 use Rattle.jxlm_encode_streams.specs.TreeStreams.{tree_contexts, in_context, ReadTreeStands}
 use Rattle.jxlm_encode_streams.proofs.ReadStreams.{Chain, chain_of}
-
--- a predictor is found by its number
-found_by_number : (x : Predictor) → slice_get predictors (number_of x) ≡ Some x
-found_by_number p.Zero = refl
-found_by_number p.West = refl
-found_by_number p.North = refl
-found_by_number p.AvgWestAndNorth = refl
-found_by_number p.Select = refl
-found_by_number p.Gradient = refl
-found_by_number p.SelfCorrecting = refl
-found_by_number p.NorthEast = refl
-found_by_number p.NorthWest = refl
-found_by_number p.WestWest = refl
-found_by_number p.AvgWestAndNorthWest = refl
-found_by_number p.AvgNorthAndNorthWest = refl
-found_by_number p.AvgNorthAndNorthEast = refl
-found_by_number p.AvgAll = refl
 
 module _ {S : Type 0} (d : Meaning S) (lawful : IsLawful d) (bytes : List ℕ) (cs : List ℕ) (six : length cs ≡ 6) where
   abbrev ask : ℕ → Asked
