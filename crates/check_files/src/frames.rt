@@ -9,9 +9,9 @@ use jxl_codestream::layout::Layout;
 use jxl_codestream::profile::skip_profile;
 use jxl_codestream::toc::Toc;
 use jxl_coding::decoder::EntropyDecoder;
-use jxl_frame_header::blending::{Blending, BlendingInfo, Ending};
+use jxl_frame_header::blending::{Blending, BlendingInfo, FrameUse};
 use jxl_frame_header::coding::Coding;
-use jxl_frame_header::frame::{Closing, FrameHeader};
+use jxl_frame_header::frame::FrameHeader;
 use jxl_frame_header::passes::Passes;
 use jxl_frame_header::place::Place;
 use jxl_image_header::fields::align;
@@ -119,37 +119,37 @@ fn tell_blending(text: &mut String, blending: &Blending) -> Option<()> {
 }
 
 /// Adds what becomes of a frame; in an animation of one that is shown, for how long, and its code.
-fn tell_ending(text: &mut String, ending: Ending, timed: bool) -> Option<()> {
+fn tell_frame_use(text: &mut String, frame_use: FrameUse, timed: bool) -> Option<()> {
     if timed {
-        write!(text, " for {} {}", ending.duration, ending.timecode).ok()?;
+        write!(text, " for {} {}", frame_use.duration, frame_use.timecode).ok()?;
     }
-    if ending.is_last {
+    if frame_use.is_last {
         write!(text, " last").ok()?;
     }
-    write!(text, " save {}", ending.save_as_reference).ok()?;
-    if ending.save_before_ct {
+    write!(text, " save {}", frame_use.save_as_reference).ok()?;
+    if frame_use.save_before_ct {
         write!(text, " before").ok()?;
     }
     Some(())
 }
 
 /// Adds the rest of a header.
-fn tell_closing(text: &mut String, closing: Closing) -> Option<()> {
-    write!(text, " name {}", closing.name_len).ok()?;
-    if closing.restoration_filter.gab {
+fn tell_closing(text: &mut String, header: &FrameHeader) -> Option<()> {
+    write!(text, " name {}", header.name_len).ok()?;
+    if header.restoration_filter.gab {
         write!(text, " gab").ok()?;
     }
-    write!(text, " epf {}", closing.restoration_filter.epf_iters).ok()?;
-    if closing.restoration_filter.extensions != 0 {
+    write!(text, " epf {}", header.restoration_filter.epf_iters).ok()?;
+    if header.restoration_filter.extensions != 0 {
         write!(
             text,
             " filter-extensions {}",
-            closing.restoration_filter.extensions
+            header.restoration_filter.extensions
         )
         .ok()?;
     }
-    if closing.extensions != 0 {
-        write!(text, " extensions {}", closing.extensions).ok()?;
+    if header.extensions != 0 {
+        write!(text, " extensions {}", header.extensions).ok()?;
     }
     Some(())
 }
@@ -160,9 +160,9 @@ fn tell(text: &mut String, image: &ImageHeader, header: &FrameHeader) -> Option<
     tell_passes(text, &header.passes)?;
     tell_place(text, header.place)?;
     tell_blending(text, &header.blending)?;
-    let timed = image.display.animation.is_some() && header.coding.frame_type.is_shown();
-    tell_ending(text, header.ending, timed)?;
-    tell_closing(text, header.closing)
+    let timed = image.animation.is_some() && header.coding.frame_type.is_shown();
+    tell_frame_use(text, header.frame_use, timed)?;
+    tell_closing(text, header)
 }
 
 /// Adds where the sections of a frame lie, by number: the first byte, and how many there are.
@@ -189,7 +189,7 @@ fn first_frame(alloc: Global, bits: &mut Bitstream<'_>, image: &ImageHeader) -> 
     ensures dim { IfOk result (λ h. 0 < h.group_dim) }
     ensures bytes { bytes_of bits.new ≡ bytes_of bits.old }
 {
-    if image.shown.colour_encoding.want_icc {
+    if image.colour_encoding.want_icc {
         skip_profile::<EntropyDecoder>(alloc, bits, 1 << 20)?;
     }
     align(bits)?;

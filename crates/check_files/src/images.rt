@@ -2,8 +2,8 @@
 
 use check_rows::bytes;
 use jxl_image_header::channel::{BitDepth, ExtraChannel};
-use jxl_image_header::colour::ColourEncoding;
-use jxl_image_header::image::{Display, ImageHeader};
+use jxl_image_header::colour::{ColourEncoding, Primaries, TransferFunction, WhitePoint};
+use jxl_image_header::image::ImageHeader;
 use jxlm_bits::bits::{Bitstream, BitstreamError};
 use jxlm_bits::error::Error;
 use std::alloc::Global;
@@ -18,17 +18,17 @@ fn tell_depth(text: &mut String, depth: BitDepth) -> Option<()> {
 }
 
 /// Adds what the header says of how the image is shown, where that is not the usual.
-fn tell_display(text: &mut String, display: Display) -> Option<()> {
-    if display.orientation != 1 {
-        write!(text, " turned {}", display.orientation).ok()?;
+fn tell_display(text: &mut String, header: &ImageHeader) -> Option<()> {
+    if header.orientation != 1 {
+        write!(text, " turned {}", header.orientation).ok()?;
     }
-    if let Some(size) = display.intrinsic_size {
+    if let Some(size) = header.intrinsic_size {
         write!(text, " shown {}x{}", size.width, size.height).ok()?;
     }
-    if let Some(size) = display.preview {
+    if let Some(size) = header.preview {
         write!(text, " preview {}x{}", size.width, size.height).ok()?;
     }
-    if let Some(moves) = display.animation {
+    if let Some(moves) = header.animation {
         let (n, d) = (moves.tps_numerator, moves.tps_denominator);
         write!(
             text,
@@ -43,7 +43,7 @@ fn tell_display(text: &mut String, display: Display) -> Option<()> {
 /// Adds the extra channels: of each its kind, depth, shift and the length of its name.
 fn tell_channels(text: &mut String, channels: &[ExtraChannel]) -> Option<()> {
     for channel in channels {
-        write!(text, " extra {} ", channel.kind).ok()?;
+        write!(text, " extra {} ", channel.kind as u32).ok()?;
         tell_depth(text, channel.bit_depth)?;
         write!(text, " {} {}", channel.dim_shift, channel.name_len).ok()?;
         if channel.alpha_associated {
@@ -53,28 +53,61 @@ fn tell_channels(text: &mut String, channels: &[ExtraChannel]) -> Option<()> {
     Some(())
 }
 
+/// The number of a white point.
+fn white_number(white: WhitePoint) -> u32 {
+    match white {
+        WhitePoint::D65 => 1,
+        WhitePoint::Custom(_) => 2,
+        WhitePoint::E => 10,
+        WhitePoint::Dci => 11,
+    }
+}
+
+/// The number of primaries.
+fn primaries_number(primaries: Primaries) -> u32 {
+    match primaries {
+        Primaries::Srgb => 1,
+        Primaries::Custom(_) => 2,
+        Primaries::Bt2100 => 9,
+        Primaries::P3 => 11,
+    }
+}
+
+/// The number of a transfer function, or 0, and its exponent.
+fn function_number(function: TransferFunction) -> (u32, u32) {
+    match function {
+        TransferFunction::Gamma(exponent) => (0, exponent),
+        TransferFunction::Bt709 => (1, 0),
+        TransferFunction::Linear => (8, 0),
+        TransferFunction::Srgb => (13, 0),
+        TransferFunction::Pq => (16, 0),
+        TransferFunction::Dci => (17, 0),
+        TransferFunction::Hlg => (18, 0),
+    }
+}
+
 /// Adds the numbers of a colour encoding.
 fn tell_colour(text: &mut String, colour: ColourEncoding) -> Option<()> {
+    let space = colour.colour_space as u32;
     if colour.want_icc {
-        return write!(text, " profile {}", colour.colour_space).ok();
+        return write!(text, " profile {space}").ok();
     }
-    let (white, basis) = (colour.white_point, colour.primaries);
+    let (white, primaries) = (
+        white_number(colour.white_point),
+        primaries_number(colour.primaries),
+    );
+    let (curve, gamma) = function_number(colour.transfer_function);
+    let intent = colour.rendering_intent as u32;
     write!(
         text,
-        " colour {} {} {}",
-        colour.colour_space, white.number, basis.number
+        " colour {space} {white} {primaries} {curve} {gamma} {intent}"
     )
     .ok()?;
-    let (curve, gamma) = (
-        colour.transfer_function.number,
-        colour.transfer_function.gamma,
-    );
-    write!(text, " {curve} {gamma} {}", colour.rendering_intent).ok()?;
-    if white.number == 2 {
-        write!(text, " white {},{}", white.own.x, white.own.y).ok()?;
+    if let WhitePoint::Custom(point) = colour.white_point {
+        write!(text, " white {},{}", point.x, point.y).ok()?;
     }
-    if basis.number == 2 {
-        let (red, green, blue) = (basis.own.red, basis.own.green, basis.own.blue);
+    if let Primaries::Custom(custom) = colour.primaries {
+        let (red, green, blue) = (custom.red, custom.green, custom.blue);
         write!(text, " red {},{}", red.x, red.y).ok()?;
         write!(
             text,
@@ -89,17 +122,17 @@ fn tell_colour(text: &mut String, colour: ColourEncoding) -> Option<()> {
 /// Adds all of a header, and what it has that is not supported.
 fn tell(text: &mut String, header: &ImageHeader) -> Option<()> {
     write!(text, "{}x{} ", header.size.width, header.size.height).ok()?;
-    tell_depth(text, header.samples.bit_depth)?;
-    if header.samples.modular_16bit_buffers {
+    tell_depth(text, header.bit_depth)?;
+    if header.modular_16bit_buffers {
         write!(text, " narrow").ok()?;
     }
-    tell_display(text, header.display)?;
+    tell_display(text, header)?;
     tell_channels(text, &header.ec_info)?;
-    if header.shown.xyb_encoded {
+    if header.xyb_encoded {
         write!(text, " xyb").ok()?;
     }
-    tell_colour(text, header.shown.colour_encoding)?;
-    let tone = header.shown.tone_mapping;
+    tell_colour(text, header.colour_encoding)?;
+    let tone = header.tone_mapping;
     let (target, least, below) = (tone.intensity_target, tone.min_nits, tone.linear_below);
     write!(
         text,
@@ -107,8 +140,8 @@ fn tell(text: &mut String, header: &ImageHeader) -> Option<()> {
         tone.relative_to_max_display
     )
     .ok()?;
-    if header.shown.extensions != 0 {
-        write!(text, " extensions {}", header.shown.extensions).ok()?;
+    if header.extensions != 0 {
+        write!(text, " extensions {}", header.extensions).ok()?;
     }
     if let Some(refusal) = header.refused() {
         write!(text, " refused {refusal:?}").ok()?;

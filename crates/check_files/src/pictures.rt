@@ -21,7 +21,7 @@ fn tell_sides(text: &mut String, size: Size, channel: &AlignedGrid<i32>) -> Opti
 /// the sides of a channel that has others.
 fn tell(alloc: Global, text: &mut String, picture: &Picture, summed: bool) -> Option<()> {
     let size = picture.header.size;
-    let bits = picture.header.samples.bit_depth.bits_per_sample;
+    let bits = picture.header.bit_depth.bits_per_sample;
     write!(text, "{}x{} {bits}", size.width, size.height).ok()?;
     for channel in picture.channels.iter() {
         let samples = listed(alloc, channel.buf(), summed).ok()?;

@@ -47,7 +47,7 @@ module _ {D : Type 0} (d : Meaning D) (limits : Limits) (bytes : List ℕ) where
   pub image_fails : (p q : ℕ) (e : Error) → p ≡ 0 → UnlessNoMemory (kind_of e) (IsErrorAt (image_header.read bytes p) (kind_of e) q) → FrontFails d limits bytes (errors.ImageHeader e)
   image_fails p q e start h = fails_at image_header bytes p 0 q (kind_of e) start h
 
-  pub profile_fails : (image : Image) (p q : ℕ) (e : Error) → ImageStands d limits bytes image p → UnlessMemory (kind_of e) (IsErrorAt ((between d limits.profile image.shown.colour_encoding.want_icc).read bytes p) (kind_of e) q) → FrontFails d limits bytes (errors.Profile e)
+  pub profile_fails : (image : Image) (p q : ℕ) (e : Error) → ImageStands d limits bytes image p → UnlessMemory (kind_of e) (IsErrorAt ((between d limits.profile image.colour_encoding.want_icc).read bytes p) (kind_of e) q) → FrontFails d limits bytes (errors.Profile e)
   profile_fails image p q e stands h = unless_so (kind_of e) (λ f. (image, p, stands, (q, f))) h
 
   -- where a frame begins
@@ -128,9 +128,9 @@ module _ {D : Type 0} (d : Meaning D) (limits : Limits) (bytes : List ℕ) where
 
   -- the first frame begins after the profile
   pub begins : (image : Image) (here : List ℕ) (p padding q : ℕ) → here ≡ bytes → ImageStands d limits bytes image p →
-      (between d limits.profile image.shown.colour_encoding.want_icc).read here p ≡ Ok (record { value = padding; position = q }) → AreBefore d limits bytes image [] (q / 8) 0
+      (between d limits.profile image.colour_encoding.want_icc).read here p ≡ Ok (record { value = padding; position = q }) → AreBefore d limits bytes image [] (q / 8) 0
   begins image here p padding q same stands passed =
-      NoFrame p padding q stands (subst (λ (b : List ℕ). StandsAt (between d limits.profile image.shown.colour_encoding.want_icc) b p padding q) same passed)
+      NoFrame p padding q stands (subst (λ (b : List ℕ). StandsAt (between d limits.profile image.colour_encoding.want_icc) b p padding q) same passed)
 
   -- one saved frame more
   pub before_more : (image : Image) (fs : List FrameAt) (q n : ℕ) (f : FrameAt) → AreBefore d limits bytes image fs q n → f.start ≡ q → is_saved f.header ≡ true → FrameStands d limits bytes image n f →
@@ -171,7 +171,7 @@ covers_by size (Some c) false shown none = cc
 
 pub covers : (image : Image) (size : Size) (frame : Frame) → frame_refusal image frame ≡ None → is_saved frame ≡ false → frame_size size frame ≡ size
 covers image size frame supported shown =
-    let after_coding = second_none (coding_refusal (not (image.samples.bit_depth.exp_bits == 0)) (has_shifts image) frame.coding) _ supported in
+    let after_coding = second_none (coding_refusal (not (image.bit_depth.exp_bits == 0)) (has_shifts image) frame.coding) _ supported in
     let after_factors = (passed (list_any (λ f. not (f == 1)) frame.ec_upsampling) refusals.ExtraUpsampling _ after_coding).1 in
     covers_by size frame.place.crop (is_saved frame) shown (passed (is_some frame.place.crop && not (is_saved frame)) refusals.Crop _ after_factors).0
 
@@ -179,7 +179,7 @@ covers image size frame supported shown =
 pub plain : (image : Image) (frame : Frame) → frame_refusal image frame ≡ None → (frame.coding.flags.patches && has_shifts image) ≡ false
 plain image frame supported =
     let f = frame.coding.flags in
-    let floats = not (image.samples.bit_depth.exp_bits == 0) in
+    let floats = not (image.bit_depth.exp_bits == 0) in
     let coded = first_none (coding_refusal floats (has_shifts image) frame.coding) _ supported in
     let typed = second_none (type_refusal frame.coding.frame_type) _ coded in
     let encoded = (passed (not (is_modular frame.coding.encoding)) refusals.VarDct _ typed).1 in

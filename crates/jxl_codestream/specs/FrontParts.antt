@@ -43,7 +43,7 @@ pub record IsReadyFrame (bytes : List ℕ) (image : Image) (f : FrameFront) : Ty
 -- What decoding the frames of an image needs: so is each of them, samples and channels are not too many, shifts are low, and
 -- the frame that is shown covers the picture.
 pub record IsReady (bytes : List ℕ) (header : ImageHeader) (frames : Frames) : Type 0 where
-  pub deep : header.samples.bit_depth.bits_per_sample ≤ 32
+  pub deep : header.bit_depth.bits_per_sample ≤ 32
   pub many : channel_count (image_of header) ≤ 2 ^ 20
   pub low : HasLowShifts (image_of header)
   pub saved : All (IsReadyFrame bytes (image_of header)) frames.saved.items

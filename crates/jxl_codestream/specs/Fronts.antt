@@ -71,7 +71,7 @@ module _ {D : Type 0} (d : Meaning D) (limits : Limits) (bytes : List ℕ) where
   -- These saved frames, with this number of cells together, stand one after another before the frame that begins at this byte.
   -- The first frame begins after the image header and what comes between them.
   pub data AreBefore (image : Image) : List FrameAt → ℕ → ℕ → Type 0 where
-    NoFrame : (end padding p : ℕ) → ImageStands image end → StandsAt (between d limits.profile image.shown.colour_encoding.want_icc) bytes end padding p → AreBefore image [] (p / 8) 0
+    NoFrame : (end padding p : ℕ) → ImageStands image end → StandsAt (between d limits.profile image.colour_encoding.want_icc) bytes end padding p → AreBefore image [] (p / 8) 0
     OneMore : (saved : List FrameAt) (used : ℕ) (f : FrameAt) → AreBefore image saved f.start used → FrameStands image used f → is_saved f.header ≡ true →
         AreBefore image (saved ++ f ∷ []) (f.start + end_of f.entries) (used + cells_of (frame_size image.size f.header))
 
@@ -94,7 +94,7 @@ module _ {D : Type 0} (d : Meaning D) (limits : Limits) (bytes : List ℕ) where
   FrontFails (errors.Image reason) = (image : Image) × (q : ℕ) × StandsAt image_header bytes 0 image q × (image_refusal image ≡ Some reason)
   FrontFails errors.TooLarge = (image : Image) × (q : ℕ) × StandsAt image_header bytes 0 image q × (image_refusal image ≡ None) × ¬ (Allow limits image)
   FrontFails (errors.Profile e) = UnlessMemory (kind_of e)
-      ((image : Image) × (q : ℕ) × ImageStands image q × FailsAt (between d limits.profile image.shown.colour_encoding.want_icc) bytes q (kind_of e))
+      ((image : Image) × (q : ℕ) × ImageStands image q × FailsAt (between d limits.profile image.colour_encoding.want_icc) bytes q (kind_of e))
   FrontFails (errors.FrameHeader e) = UnlessMemory (kind_of e) ((n : Next) × FailsAt (frame_header n.image) (drop n.start bytes) 0 (kind_of e))
   FrontFails (errors.Frame reason) = (n : Next) × (frame : Frame) × (q : ℕ) × StandsAt (frame_header n.image) (drop n.start bytes) 0 frame q × (frame_refusal n.image frame ≡ Some reason)
   FrontFails errors.FramesTooLarge = (n : Next) × (frame : Frame) × (q : ℕ) × StandsAt (frame_header n.image) (drop n.start bytes) 0 frame q × (frame_refusal n.image frame ≡ None)

@@ -79,12 +79,7 @@ fn pass_to_frames<D: Decoder>(
     if !limits.allow(image) {
         return Err(FrontError::TooLarge);
     }
-    match pass_profile::<D>(
-        alloc,
-        bits,
-        image.shown.colour_encoding.want_icc,
-        limits.profile,
-    ) {
+    match pass_profile::<D>(alloc, bits, image.colour_encoding.want_icc, limits.profile) {
         Ok(_) => Ok(()),
         Err(error) => Err(FrontError::Profile(error)),
     }

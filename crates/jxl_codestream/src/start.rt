@@ -5,7 +5,7 @@ ghost use Rattle.jxlm_bits.specs.Bits.{bytes_of, position_of};
 ghost use Rattle.jxlm_bits.specs.Grammar.{Reads};
 ghost use Rattle.jxl_codestream.specs.Starts.{section_start as the_section_start, tree_limit as the_tree_limit};
 
-use jxl_image_header::fields::{Result, skip_if, told_if};
+use jxl_image_header::fields::{Result, bundle_follows, skip_if};
 use jxl_image_header::size::Size;
 use jxlm_bits::bits::Bitstream;
 
@@ -17,8 +17,8 @@ pub fn section_start(bits: &mut Bitstream<'_>) -> Result<bool>
         (the_section_start.read (bytes_of bits.old) (position_of bits.old)) }
     ensures bytes { bytes_of bits.new ≡ bytes_of bits.old }
 {
-    let told = told_if(bits, true)?;
-    skip_if(bits, told, 6)?;
+    let follows = bundle_follows(bits, true)?;
+    skip_if(bits, follows, 6)?;
     bits.read_bool()
 }
 

@@ -25,13 +25,13 @@ factor = u32 (Const 1) (Const 2) (Const 4) (Const 8)
 
 -- How a frame is coded whose colours are XYB or not; how the parts of YCbCr are sampled is not looked at.
 unfoldable pub coding : Bool → Bool → Grammar Coding
-coding told xyb = do
-  n ← when told (number 2) 0
-  modular ← when told flag false
-  flags ← when told long 0 >>= λ v. give (flags_of v)
-  ycbcr ← when (told && not xyb) flag false
+coding follows xyb = do
+  n ← when follows (number 2) 0
+  modular ← when follows flag false
+  flags ← when follows long 0 >>= λ v. give (flags_of v)
+  ycbcr ← when (follows && not xyb) flag false
   _ ← when (ycbcr && not flags.use_lf_frame) (number 6) 0
-  upsampling ← when (told && not flags.use_lf_frame) factor 1
+  upsampling ← when (follows && not flags.use_lf_frame) factor 1
   let kind = if n == 0 then Regular else if n == 1 then LfFrame else if n == 2 then ReferenceOnly else SkipProgressive
   let encoding = if modular then Modular else VarDct
   give (record { frame_type = kind; encoding = encoding; flags = flags; do_ycbcr = ycbcr; upsampling = upsampling })

@@ -4,7 +4,7 @@ use Rattle.std.specs.List.{find, range_with_len, zip}
 use Rattle.std.specs.Option.{option_map_or}
 use Rattle.jxlm_bits.specs.Grammar.{Grammar, u32, give, repeated, ◌>>=◌}
 use Rattle.jxlm_bits.specs.declared.bits.U32Spec.TheVariants.{Const, Offset}
-use Rattle.jxl_image_header.specs.Fields.{checked, when}
+use Rattle.jxl_image_header.specs.Fields.{number_where, when}
 use Rattle.jxl_frame_header.specs.Codings.{factor}
 use Rattle.jxl_frame_header.specs.declared.passes.Passes.{Passes as PassesInMemory}
 
@@ -28,10 +28,10 @@ in_turn (suc n) field before = field before >>= λ v. in_turn n field (Some v) >
 unfoldable pub passes : Bool → Grammar Passes
 passes there = do
   count ← when there (u32 (Const 1) (Const 2) (Const 3) (Offset 4 3)) 1
-  n ← when (not (count == 1)) (checked (codes "num_downsample") (λ n. nat_le n count) (u32 (Const 0) (Const 1) (Const 2) (Offset 3 1))) 0
+  n ← when (not (count == 1)) (number_where (codes "num_downsample") (λ n. nat_le n count) (u32 (Const 0) (Const 1) (Const 2) (Offset 3 1))) 0
   shifts ← repeated (count - 1) (u32 (Const 0) (Const 1) (Const 2) (Const 3))
-  factors ← in_turn n (λ before. checked (codes "downsample") (λ v. option_map_or (λ b. nat_lt v b) before true) factor) None
-  lasts ← in_turn n (λ before. checked (codes "last_pass") (λ v. option_map_or (λ b. nat_lt b v) before true && nat_lt v count)
+  factors ← in_turn n (λ before. number_where (codes "downsample") (λ v. option_map_or (λ b. nat_lt v b) before true) factor) None
+  lasts ← in_turn n (λ before. number_where (codes "last_pass") (λ v. option_map_or (λ b. nat_lt b v) before true && nat_lt v count)
       (u32 (Const 0) (Const 1) (Const 2) (Offset 0 3))) None
   give (record { num_passes = count; shift = shifts; downsample = factors; last_pass = lasts })
 
@@ -53,5 +53,5 @@ least_shift x (suc p) =
 
 -- The passes by their numbers: each holds the shifts from the least one that is held after it, below that before it
 -- (Modular: the shifts of a pass).
-abbrev pub shifts_held : Passes → List (ℕ × (ℤ × ℤ))
-shifts_held x = map (λ p. (p, (pos (least_shift x (suc p)), pos (least_shift x p)))) (range_with_len 0 x.num_passes)
+abbrev pub pass_shifts : Passes → List (ℕ × (ℤ × ℤ))
+pass_shifts x = map (λ p. (p, (pos (least_shift x (suc p)), pos (least_shift x p)))) (range_with_len 0 x.num_passes)

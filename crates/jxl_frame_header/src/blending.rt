@@ -3,13 +3,12 @@
 ghost use Rattle.std.specs.Prelude.{◌≡◌, ◌==◌, ◌&&◌, ◌||◌, not, nat_lt, [], None, Some, true, false, is_some, if◌then◌else◌};
 ghost use Rattle.std.specs.List.{list_any};
 ghost use Rattle.std.specs.Option.{option_map_or};
-ghost use Rattle.jxlm_bits.specs.Bits.{bytes_of, position_of};
 ghost use Rattle.jxlm_bits.specs.Grammar.{Reads, repeated, u32};
 ghost use Rattle.jxlm_bits.specs.declared.bits.U32Spec.TheVariants.{Const, Offset};
 ghost use Rattle.jxl_image_header.specs.Fields.{when};
-ghost use Rattle.jxl_image_header.specs.Reading.{Parses};
+ghost use Rattle.jxl_image_header.specs.Reading.{HasRead, Parses};
 ghost use Rattle.jxl_frame_header.specs.Places.{is_reference as the_is_reference};
-ghost use Rattle.jxl_frame_header.specs.Blendings.{blending_info, is_replace as the_is_replace, ending};
+ghost use Rattle.jxl_frame_header.specs.Blendings.{blending_info, is_replace as the_is_replace, frame_use};
 ghost use Rattle.jxl_frame_header.specs.Inner.Checked.{mode_number as the_mode_number, alpha as the_alpha};
 ghost use Rattle.jxl_frame_header.specs.declared.blending.BlendMode.TheVariants as modes;
 ghost use Rattle.jxl_frame_header.specs.declared.refusal.Refusal.TheVariants as refusals;
@@ -60,7 +59,7 @@ pub struct Blending {
 
 /// What becomes of a frame.
 #[derive(Clone, Copy)]
-pub struct Ending {
+pub struct FrameUse {
     /// In an animation, for how many units of time it is shown.
     pub duration: u32,
     /// In an animation with time codes, its code.
@@ -90,9 +89,7 @@ fn mode_of(n: u32) -> BlendMode
 }
 
 fn mode_number(bits: &mut Bitstream<'_>) -> Result<u32>
-    ensures gives { Reads (λ v. v) result (position_of bits.new)
-        (the_mode_number.read (bytes_of bits.old) (position_of bits.old)) }
-    ensures bytes { bytes_of bits.new ≡ bytes_of bits.old }
+    ensures { HasRead Reads (λ v. v) result bits.old bits.new the_mode_number }
 {
     let value = bits.read_u32(
         U32Spec::Const(0),
@@ -109,9 +106,7 @@ fn mode_number(bits: &mut Bitstream<'_>) -> Result<u32>
 }
 
 fn mode_if(bits: &mut Bitstream<'_>, there: bool) -> Result<u32>
-    ensures gives { Reads (λ v. v) result (position_of bits.new)
-        ((when there the_mode_number 0).read (bytes_of bits.old) (position_of bits.old)) }
-    ensures bytes { bytes_of bits.new ≡ bytes_of bits.old }
+    ensures { HasRead Reads (λ v. v) result bits.old bits.new (when there the_mode_number 0) }
 {
     if there { mode_number(bits) } else { Ok(0) }
 }
@@ -123,9 +118,7 @@ fn by_alpha(extra: usize, mode: u32) -> bool
 }
 
 fn alpha(bits: &mut Bitstream<'_>, extra: usize) -> Result<u32>
-    ensures gives { Reads (λ v. v) result (position_of bits.new)
-        ((the_alpha extra).read (bytes_of bits.old) (position_of bits.old)) }
-    ensures bytes { bytes_of bits.new ≡ bytes_of bits.old }
+    ensures { HasRead Reads (λ v. v) result bits.old bits.new (the_alpha extra) }
 {
     let value = bits.read_u32(
         U32Spec::Const(0),
@@ -142,9 +135,7 @@ fn alpha(bits: &mut Bitstream<'_>, extra: usize) -> Result<u32>
 }
 
 fn alpha_if(bits: &mut Bitstream<'_>, there: bool, extra: usize) -> Result<u32>
-    ensures gives { Reads (λ v. v) result (position_of bits.new)
-        ((when there (the_alpha extra) 0).read (bytes_of bits.old) (position_of bits.old)) }
-    ensures bytes { bytes_of bits.new ≡ bytes_of bits.old }
+    ensures { HasRead Reads (λ v. v) result bits.old bits.new (when there (the_alpha extra) 0) }
 {
     if there { alpha(bits, extra) } else { Ok(0) }
 }
@@ -153,9 +144,7 @@ impl BlendingInfo {
     /// How some channels are blended, in an image with this number of extra channels, of a frame that is partial or
     /// not. `InvalidEnum` for a mode that there is not, and for an alpha channel that there is not.
     pub fn parse(bits: &mut Bitstream<'_>, extra: usize, partial: bool) -> Result<BlendingInfo>
-        ensures gives { Reads (λ v. v) result (position_of bits.new)
-            ((blending_info true extra partial).read (bytes_of bits.old) (position_of bits.old)) }
-        ensures bytes { bytes_of bits.new ≡ bytes_of bits.old }
+        ensures { HasRead Reads (λ v. v) result bits.old bits.new (blending_info true extra partial) }
     {
         BlendingInfo::parse_if(bits, true, extra, partial)
     }
@@ -168,9 +157,7 @@ impl BlendingInfo {
         extra: usize,
         partial: bool,
     ) -> Result<BlendingInfo>
-        ensures gives { Reads (λ v. v) result (position_of bits.new)
-            ((blending_info there extra partial).read (bytes_of bits.old) (position_of bits.old)) }
-        ensures bytes { bytes_of bits.new ≡ bytes_of bits.old }
+        ensures { HasRead Reads (λ v. v) result bits.old bits.new (blending_info there extra partial) }
     {
         let mode = mode_if(bits, there)?;
         let by_alpha = by_alpha(extra, mode);
@@ -207,9 +194,8 @@ fn read_infos(
     extra: usize,
     partial: bool,
 ) -> error::Result<Vec<BlendingInfo>>
-    ensures gives { Parses (λ v. v.items) result (position_of bits.new)
-        ((repeated count (blending_info true extra partial)).read (bytes_of bits.old) (position_of bits.old)) }
-    ensures bytes { bytes_of bits.new ≡ bytes_of bits.old }
+    ensures { HasRead Parses (λ v. v.items) result bits.old bits.new
+        (repeated count (blending_info true extra partial)) }
 {
     let mut infos = Vec::new(alloc);
     for _ in 0..count {
@@ -227,10 +213,8 @@ pub(crate) fn read_infos_if(
     extra: usize,
     partial: bool,
 ) -> error::Result<Vec<BlendingInfo>>
-    ensures gives { Parses (λ v. v.items) result (position_of bits.new)
-        ((when there (repeated extra (blending_info true extra partial)) []).read
-        (bytes_of bits.old) (position_of bits.old)) }
-    ensures bytes { bytes_of bits.new ≡ bytes_of bits.old }
+    ensures { HasRead Parses (λ v. v.items) result bits.old bits.new
+        (when there (repeated extra (blending_info true extra partial)) []) }
 {
     if there {
         read_infos(alloc, bits, extra, extra, partial)
@@ -265,10 +249,8 @@ impl Blending {
 
 // For how long a frame is shown, if the header signals it.
 fn duration_if(bits: &mut Bitstream<'_>, there: bool) -> Result<u32>
-    ensures gives { Reads (λ v. v) result (position_of bits.new)
-        ((when there (u32 (Const 0) (Const 1) (Offset 0 8) (Offset 0 32)) 0).read
-        (bytes_of bits.old) (position_of bits.old)) }
-    ensures bytes { bytes_of bits.new ≡ bytes_of bits.old }
+    ensures { HasRead Reads (λ v. v) result bits.old bits.new
+        (when there (u32 (Const 0) (Const 1) (Offset 0 8) (Offset 0 32)) 0) }
 {
     field_if(
         bits,
@@ -303,20 +285,18 @@ fn may_save_before(
     frame_type.is_reference() || replaced && !is_last && (duration == 0 || reference != 0)
 }
 
-impl Ending {
+impl FrameUse {
     /// What becomes of a frame of this type, as it stands at the reader's position, if the header signals it, and the
     /// frame is shown or not; it replaces the whole picture or not.
-    #[tactic(auto, unfolding(crate::specs::Blendings::ending))]
+    #[tactic(auto, unfolding(crate::specs::Blendings::frame_use))]
     pub fn parse(
         bits: &mut Bitstream<'_>,
         shown: bool,
         animation: Option<Animation>,
         frame_type: FrameType,
         replaces: bool,
-    ) -> Result<Ending>
-        ensures gives { Reads (λ v. v) result (position_of bits.new)
-            ((ending shown animation frame_type replaces).read (bytes_of bits.old) (position_of bits.old)) }
-        ensures bytes { bytes_of bits.new ≡ bytes_of bits.old }
+    ) -> Result<FrameUse>
+        ensures { HasRead Reads (λ v. v) result bits.old bits.new (frame_use shown animation frame_type replaces) }
     {
         let duration = duration_if(bits, shown & animation.is_some())?;
         let timecode = number_if(bits, shown & has_timecodes(animation), 32, 0)?;
@@ -326,7 +306,7 @@ impl Ending {
         let replaced = shown & replaces;
         let there = may_save_before(frame_type, replaced, is_last, duration, save_as_reference);
         let save_before_ct = flag_if(bits, there, frame_type.is_lf())?;
-        Ok(Ending {
+        Ok(FrameUse {
             duration,
             timecode,
             is_last,

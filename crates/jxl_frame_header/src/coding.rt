@@ -1,9 +1,9 @@
 //! How a frame is coded.
 
 ghost use Rattle.std.specs.Prelude.{◌≡◌, ◌==◌, if◌then◌else◌, Some, None};
-ghost use Rattle.jxlm_bits.specs.Bits.{bytes_of, position_of};
 ghost use Rattle.jxlm_bits.specs.Grammar.{Reads};
 ghost use Rattle.jxl_image_header.specs.Fields.{when};
+ghost use Rattle.jxl_image_header.specs.Reading.{HasRead};
 ghost use Rattle.jxl_frame_header.specs.Codings.{factor, flags_of as the_flags_of, coding, is_modular as the_is_modular, type_refusal, coding_refusal};
 ghost use Rattle.jxl_frame_header.specs.Inner.Checked.{flags as the_flags};
 ghost use Rattle.jxl_frame_header.specs.declared.coding.Encoding.TheVariants as encodings;
@@ -109,12 +109,10 @@ impl Encoding {
 }
 
 impl FrameFlags {
-    fn parse(bits: &mut Bitstream<'_>, told: bool) -> Result<FrameFlags>
-        ensures gives { Reads (λ v. v) result (position_of bits.new)
-            ((the_flags told).read (bytes_of bits.old) (position_of bits.old)) }
-        ensures bytes { bytes_of bits.new ≡ bytes_of bits.old }
+    fn parse(bits: &mut Bitstream<'_>, follows: bool) -> Result<FrameFlags>
+        ensures { HasRead Reads (λ v. v) result bits.old bits.new (the_flags follows) }
     {
-        let value = long_if(bits, told)?;
+        let value = long_if(bits, follows)?;
         Ok(flags_of(value))
     }
 }
@@ -122,9 +120,7 @@ impl FrameFlags {
 // How much smaller than the picture something is coded, if the header signals it.
 #[tactic(auto, unfolding(crate::specs::Codings::factor))]
 fn factor_if(bits: &mut Bitstream<'_>, there: bool) -> Result<u32>
-    ensures gives { Reads (λ v. v) result (position_of bits.new)
-        ((when there factor 1).read (bytes_of bits.old) (position_of bits.old)) }
-    ensures bytes { bytes_of bits.new ≡ bytes_of bits.old }
+    ensures { HasRead Reads (λ v. v) result bits.old bits.new (when there factor 1) }
 {
     field_if(
         bits,
@@ -141,17 +137,15 @@ impl Coding {
     /// How a frame of an image whose colours are XYB, or are not, is coded, as it stands at the reader's position,
     /// if the header signals it.
     #[tactic(auto, unfolding(crate::specs::Codings::coding))]
-    pub fn parse(bits: &mut Bitstream<'_>, told: bool, xyb: bool) -> Result<Coding>
-        ensures gives { Reads (λ v. v) result (position_of bits.new)
-            ((coding told xyb).read (bytes_of bits.old) (position_of bits.old)) }
-        ensures bytes { bytes_of bits.new ≡ bytes_of bits.old }
+    pub fn parse(bits: &mut Bitstream<'_>, follows: bool, xyb: bool) -> Result<Coding>
+        ensures { HasRead Reads (λ v. v) result bits.old bits.new (coding follows xyb) }
     {
-        let frame_type = number_if(bits, told, 2, 0)?;
-        let modular = flag_if(bits, told, false)?;
-        let flags = FrameFlags::parse(bits, told)?;
-        let ycbcr = flag_if(bits, told & !xyb, false)?;
+        let frame_type = number_if(bits, follows, 2, 0)?;
+        let modular = flag_if(bits, follows, false)?;
+        let flags = FrameFlags::parse(bits, follows)?;
+        let ycbcr = flag_if(bits, follows & !xyb, false)?;
         number_if(bits, ycbcr & !flags.use_lf_frame, 6, 0)?;
-        let upsampling = factor_if(bits, told & !flags.use_lf_frame)?;
+        let upsampling = factor_if(bits, follows & !flags.use_lf_frame)?;
         Ok(Coding {
             frame_type: type_of(frame_type),
             encoding: encoding_of(modular),

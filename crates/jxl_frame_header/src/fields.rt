@@ -1,10 +1,8 @@
 //! Fields of frame headers.
 
-ghost use Rattle.std.specs.Prelude.{◌≡◌};
-ghost use Rattle.jxlm_bits.specs.Bits.{bytes_of, position_of};
 ghost use Rattle.jxlm_bits.specs.Grammar.{FitsU32, Reads, repeated, u32 as the_u32};
 ghost use Rattle.jxl_image_header.specs.Fields.{when};
-ghost use Rattle.jxl_image_header.specs.Reading.{Parses};
+ghost use Rattle.jxl_image_header.specs.Reading.{HasRead, Parses};
 
 use jxl_image_header::fields::Result;
 use jxlm_bits::bits::{Bitstream, U32Spec};
@@ -22,9 +20,7 @@ pub fn fields(
     d3: U32Spec,
 ) -> error::Result<Vec<u32>>
     requires fits { FitsU32 d0 × FitsU32 d1 × FitsU32 d2 × FitsU32 d3 }
-    ensures gives { Parses (λ v. v.items) result (position_of bits.new)
-        ((repeated count (the_u32 d0 d1 d2 d3)).read (bytes_of bits.old) (position_of bits.old)) }
-    ensures bytes { bytes_of bits.new ≡ bytes_of bits.old }
+    ensures { HasRead Parses (λ v. v.items) result bits.old bits.new (repeated count (the_u32 d0 d1 d2 d3)) }
 {
     let mut values = Vec::new(alloc);
     for _ in 0..count {
@@ -45,9 +41,7 @@ pub fn field_if(
     usual: u32,
 ) -> Result<u32>
     requires fits { FitsU32 d0 × FitsU32 d1 × FitsU32 d2 × FitsU32 d3 }
-    ensures gives { Reads (λ v. v) result (position_of bits.new)
-        ((when there (the_u32 d0 d1 d2 d3) usual).read (bytes_of bits.old) (position_of bits.old)) }
-    ensures bytes { bytes_of bits.new ≡ bytes_of bits.old }
+    ensures { HasRead Reads (λ v. v) result bits.old bits.new (when there (the_u32 d0 d1 d2 d3) usual) }
 {
     if there {
         bits.read_u32(d0, d1, d2, d3)

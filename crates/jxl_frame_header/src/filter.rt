@@ -1,14 +1,16 @@
 //! Filters of what was decoded.
 
 ghost use Rattle.std.specs.Prelude.{◌≡◌, ◌||◌, ◌==◌, not, if◌then◌else◌, Some, None};
-ghost use Rattle.jxlm_bits.specs.Bits.{bytes_of, position_of};
 ghost use Rattle.jxlm_bits.specs.Grammar.{Reads};
 ghost use Rattle.jxl_image_header.specs.Fields.{when};
+ghost use Rattle.jxl_image_header.specs.Reading.{HasRead};
 ghost use Rattle.jxl_frame_header.specs.Filters.{own_floats as the_own_floats, filter};
 ghost use Rattle.jxl_frame_header.specs.declared.refusal.Refusal.TheVariants as refusals;
 
 use crate::refusal::Refusal;
-use jxl_image_header::fields::{Result, extensions_if, flag_if, number_if, skip_if, told_if};
+use jxl_image_header::fields::{
+    Result, bundle_follows, extensions_if, flag_if, number_if, skip_if,
+};
 use jxlm_bits::bits::Bitstream;
 
 /// Filters of what was decoded.
@@ -24,18 +26,14 @@ pub struct RestorationFilter {
 
 #[tactic(auto, unfolding(crate::specs::Filters::own_floats))]
 fn own_floats(bits: &mut Bitstream<'_>, count: u32) -> Result<()>
-    ensures gives { Reads (λ v. v) result (position_of bits.new)
-        ((the_own_floats count).read (bytes_of bits.old) (position_of bits.old)) }
-    ensures bytes { bytes_of bits.new ≡ bytes_of bits.old }
+    ensures { HasRead Reads (λ v. v) result bits.old bits.new (the_own_floats count) }
 {
     let own = bits.read_bool()?;
     skip_if(bits, own, count)
 }
 
 fn own_floats_if(bits: &mut Bitstream<'_>, there: bool, count: u32) -> Result<()>
-    ensures gives { Reads (λ v. v) result (position_of bits.new)
-        ((when there (the_own_floats count) tt).read (bytes_of bits.old) (position_of bits.old)) }
-    ensures bytes { bytes_of bits.new ≡ bytes_of bits.old }
+    ensures { HasRead Reads (λ v. v) result bits.old bits.new (when there (the_own_floats count) tt) }
 {
     if there {
         own_floats(bits, count)
@@ -55,20 +53,18 @@ impl RestorationFilter {
     /// their floats and extensions are passed.
     #[tactic(auto, unfolding(crate::specs::Filters::filter))]
     pub fn parse(bits: &mut Bitstream<'_>, there: bool, modular: bool) -> Result<RestorationFilter>
-        ensures gives { Reads (λ v. v) result (position_of bits.new)
-            ((filter there modular).read (bytes_of bits.old) (position_of bits.old)) }
-        ensures bytes { bytes_of bits.new ≡ bytes_of bits.old }
+        ensures { HasRead Reads (λ v. v) result bits.old bits.new (filter there modular) }
     {
-        let told = told_if(bits, there)?;
-        let gab = flag_if(bits, told, true)?;
-        own_floats_if(bits, told & gab, 12)?;
-        let epf_iters = number_if(bits, told, 2, 2)?;
-        let edges = told & (epf_iters != 0);
+        let follows = bundle_follows(bits, there)?;
+        let gab = flag_if(bits, follows, true)?;
+        own_floats_if(bits, follows & gab, 12)?;
+        let epf_iters = number_if(bits, follows, 2, 2)?;
+        let edges = follows & (epf_iters != 0);
         own_floats_if(bits, edges & !modular, 16)?;
         own_floats_if(bits, edges, 10)?;
         own_floats_if(bits, edges, sigma_bytes(modular))?;
         skip_if(bits, edges & modular, 2)?;
-        let extensions = extensions_if(bits, told)?;
+        let extensions = extensions_if(bits, follows)?;
         Ok(RestorationFilter {
             gab,
             epf_iters,

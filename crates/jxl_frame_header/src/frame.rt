@@ -2,38 +2,27 @@
 
 ghost use Rattle.std.specs.Prelude.{◌≡◌, ◌<◌, ◌*◌, ◌==◌, not, [], IfOk, if◌then◌else◌, Some, None};
 ghost use Rattle.std.specs.List.{list_any};
-ghost use Rattle.jxlm_bits.specs.Bits.{bytes_of, position_of};
 ghost use Rattle.jxlm_bits.specs.Grammar.{repeated};
 ghost use Rattle.jxl_image_header.specs.Fields.{when};
 ghost use Rattle.jxl_image_header.specs.Images.{image_of};
-ghost use Rattle.jxl_image_header.specs.Reading.{Parses};
+ghost use Rattle.jxl_image_header.specs.Reading.{HasRead, Parses};
 ghost use Rattle.jxl_frame_header.specs.Passes.{IsPassCount};
 ghost use Rattle.jxl_frame_header.specs.Codings.{factor};
 ghost use Rattle.jxl_frame_header.specs.Frames.{frame_of, frame_header, has_shifts as the_has_shifts, frame_refusal, is_saved as the_is_saved, frame_size};
 ghost use Rattle.jxl_frame_header.specs.declared.refusal.Refusal.TheVariants as refusals;
 
-use crate::blending::{Blending, BlendingInfo, Ending, read_infos_if};
+use crate::blending::{Blending, BlendingInfo, FrameUse, read_infos_if};
 use crate::coding::Coding;
 use crate::filter::RestorationFilter;
 use crate::passes::{Passes, factors};
 use crate::place::{Crop, Place, lf_level};
 use crate::refusal::Refusal;
-use jxl_image_header::fields::{extensions_if, name_if, number_if, told_if};
+use jxl_image_header::fields::{bundle_follows, extensions_if, name_if, number_if};
 use jxl_image_header::image::ImageHeader;
 use jxl_image_header::size::Size;
 use jxlm_bits::bits::Bitstream;
 use jxlm_bits::error::Result;
 use std::alloc::Global;
-
-/// What stands at the end of a frame header.
-#[derive(Clone, Copy)]
-pub struct Closing {
-    /// How many bytes the frame's name has, at most 1071; they are passed.
-    pub name_len: u32,
-    pub restoration_filter: RestorationFilter,
-    /// A bit for each extension that there is; what they hold is passed.
-    pub extensions: u64,
-}
 
 /// What the headers say of a frame before its sections.
 #[derive(Drop)]
@@ -47,8 +36,12 @@ pub struct FrameHeader {
     pub passes: Passes,
     pub place: Place,
     pub blending: Blending,
-    pub ending: Ending,
-    pub closing: Closing,
+    pub frame_use: FrameUse,
+    /// How many bytes the frame's name has, at most 1071; they are passed.
+    pub name_len: u32,
+    pub restoration_filter: RestorationFilter,
+    /// A bit for each extension that there is; what they hold is passed.
+    pub extensions: u64,
 }
 
 // How much smaller than the picture each extra channel is coded, if the header signals it.
@@ -58,9 +51,7 @@ fn factors_if(
     there: bool,
     extra: usize,
 ) -> Result<Vec<u32>>
-    ensures gives { Parses (λ v. v.items) result (position_of bits.new)
-        ((when there (repeated extra factor) []).read (bytes_of bits.old) (position_of bits.old)) }
-    ensures bytes { bytes_of bits.new ≡ bytes_of bits.old }
+    ensures { HasRead Parses (λ v. v.items) result bits.old bits.new (when there (repeated extra factor) []) }
 {
     if there {
         factors(alloc, bits, extra)
@@ -88,9 +79,9 @@ fn factors_refused(factors: &[u32]) -> Option<Refusal>
 
 // Whether samples of colours are floats.
 fn has_floats(image: &ImageHeader) -> bool
-    ensures { result ≡ not (image.now.samples.bit_depth.exp_bits == 0) }
+    ensures { result ≡ not (image.now.bit_depth.exp_bits == 0) }
 {
-    image.samples.bit_depth.exp_bits != 0
+    image.bit_depth.exp_bits != 0
 }
 
 // Whether an extra channel has a size of its own.
@@ -115,39 +106,37 @@ impl FrameHeader {
         bits: &mut Bitstream<'_>,
         image: &ImageHeader,
     ) -> Result<FrameHeader>
-        ensures gives { Parses frame_of result (position_of bits.new)
-            ((frame_header (image_of image.now)).read (bytes_of bits.old) (position_of bits.old)) }
+        ensures reads { HasRead Parses frame_of result bits.old bits.new (frame_header (image_of image.now)) }
         ensures dim { IfOk result (λ h. 0 < h.group_dim) }
         ensures counted { IfOk result (λ h. IsPassCount h.passes.num_passes) }
-        ensures bytes { bytes_of bits.new ≡ bytes_of bits.old }
     {
-        let xyb = image.shown.xyb_encoded;
+        let xyb = image.xyb_encoded;
         let extra = image.ec_info.len();
-        let told = told_if(bits, true)?;
-        let coding = Coding::parse(bits, told, xyb)?;
+        let follows = bundle_follows(bits, true)?;
+        let coding = Coding::parse(bits, follows, xyb)?;
         let frame_type = coding.frame_type;
         let modular = coding.encoding.is_modular();
-        let ec_upsampling = factors_if(alloc, bits, told & !coding.flags.use_lf_frame, extra)?;
+        let ec_upsampling = factors_if(alloc, bits, follows & !coding.flags.use_lf_frame, extra)?;
         let shift = number_if(bits, modular, 2, 1)?;
-        number_if(bits, told & !modular & xyb, 6, 0)?;
-        let passes = Passes::parse(alloc, bits, told & !frame_type.is_reference())?;
+        number_if(bits, follows & !modular & xyb, 6, 0)?;
+        let passes = Passes::parse(alloc, bits, follows & !frame_type.is_reference())?;
         let lf_level = lf_level(bits, frame_type.is_lf())?;
-        let crop = Crop::told_if(
+        let crop = Crop::optional_if(
             bits,
-            told & !frame_type.is_lf(),
+            follows & !frame_type.is_lf(),
             image.size,
             frame_type.is_shown(),
         )?;
         let place = Place { lf_level, crop };
         let partial = place.is_partial();
-        let shown = told & frame_type.is_shown();
+        let shown = follows & frame_type.is_shown();
         let colours = BlendingInfo::parse_if(bits, shown, extra, partial)?;
         let others = read_infos_if(alloc, bits, shown, extra, partial)?;
         let replaces = colours.replaces() & !partial;
-        let ending = Ending::parse(bits, shown, image.display.animation, frame_type, replaces)?;
-        let name_bytes = name_if(bits, told)?;
-        let filter = RestorationFilter::parse(bits, told, modular)?;
-        let extensions = extensions_if(bits, told)?;
+        let frame_use = FrameUse::parse(bits, shown, image.animation, frame_type, replaces)?;
+        let name_bytes = name_if(bits, follows)?;
+        let filter = RestorationFilter::parse(bits, follows, modular)?;
+        let extensions = extensions_if(bits, follows)?;
         Ok(FrameHeader {
             coding,
             ec_upsampling,
@@ -158,12 +147,10 @@ impl FrameHeader {
                 blending_info: colours,
                 ec_blending_info: others,
             },
-            ending,
-            closing: Closing {
-                name_len: name_bytes,
-                restoration_filter: filter,
-                extensions,
-            },
+            frame_use,
+            name_len: name_bytes,
+            restoration_filter: filter,
+            extensions,
         })
     }
 
@@ -176,8 +163,8 @@ impl FrameHeader {
             .or(factors_refused(&self.ec_upsampling))
             .or(self.place.refused(self.coding.frame_type))
             .or(self.blending.refused())
-            .or(self.ending.refused(self.coding.frame_type))
-            .or(self.closing.restoration_filter.refused())
+            .or(self.frame_use.refused(self.coding.frame_type))
+            .or(self.restoration_filter.refused())
     }
 
     /// Whether the frame is not shown, but saved for those after it.

@@ -2,13 +2,12 @@
 
 ghost use Rattle.std.specs.Prelude.{◌≡◌, ◌<◌, ◌≤◌, nat_lt, suc, None, true, IfOk};
 ghost use Rattle.std.specs.Option.{option_map_or};
-ghost use Rattle.jxlm_bits.specs.Bits.{bytes_of, position_of};
 ghost use Rattle.jxlm_bits.specs.Grammar.{Reads, repeated, u32};
 ghost use Rattle.jxlm_bits.specs.declared.bits.U32Spec.TheVariants.{Const, Offset};
 ghost use Rattle.jxl_image_header.specs.Fields.{when};
-ghost use Rattle.jxl_image_header.specs.Reading.{Parses};
+ghost use Rattle.jxl_image_header.specs.Reading.{HasRead, Parses};
 ghost use Rattle.jxl_frame_header.specs.Codings.{factor};
-ghost use Rattle.jxl_frame_header.specs.Passes.{IsPassCount, passes_of, in_turn as the_list, passes, shift_of as the_shift_of, least_shift as the_least_shift, shifts_held};
+ghost use Rattle.jxl_frame_header.specs.Passes.{IsPassCount, passes_of, in_turn as the_list, passes, shift_of as the_shift_of, least_shift as the_least_shift, pass_shifts};
 ghost use Rattle.jxl_frame_header.specs.Inner.Checked.{finer as the_finer, later as the_later, next as the_next, resolutions as the_resolutions};
 ghost use Rattle.jxl_frame_header.specs.Inner.Ended.{ended as the_ended};
 
@@ -42,10 +41,8 @@ enum Order {
 }
 
 fn shifts(alloc: Global, bits: &mut Bitstream<'_>, count: usize) -> Result<Vec<u32>>
-    ensures gives { Parses (λ v. v.items) result (position_of bits.new)
-        ((repeated count (u32 (Const 0) (Const 1) (Const 2) (Const 3))).read
-        (bytes_of bits.old) (position_of bits.old)) }
-    ensures bytes { bytes_of bits.new ≡ bytes_of bits.old }
+    ensures { HasRead Parses (λ v. v.items) result bits.old bits.new
+        (repeated count (u32 (Const 0) (Const 1) (Const 2) (Const 3))) }
 {
     fields_of(
         alloc,
@@ -61,9 +58,7 @@ fn shifts(alloc: Global, bits: &mut Bitstream<'_>, count: usize) -> Result<Vec<u
 /// This number of factors: 1, 2, 4 or 8.
 #[tactic(auto, unfolding(crate::specs::Codings::factor))]
 pub fn factors(alloc: Global, bits: &mut Bitstream<'_>, count: usize) -> Result<Vec<u32>>
-    ensures gives { Parses (λ v. v.items) result (position_of bits.new)
-        ((repeated count factor).read (bytes_of bits.old) (position_of bits.old)) }
-    ensures bytes { bytes_of bits.new ≡ bytes_of bits.old }
+    ensures { HasRead Parses (λ v. v.items) result bits.old bits.new (repeated count factor) }
 {
     fields_of(
         alloc,
@@ -77,9 +72,7 @@ pub fn factors(alloc: Global, bits: &mut Bitstream<'_>, count: usize) -> Result<
 }
 
 fn resolutions(bits: &mut Bitstream<'_>, count: u32) -> fields::Result<u32>
-    ensures gives { Reads (λ v. v) result (position_of bits.new)
-        ((the_resolutions count).read (bytes_of bits.old) (position_of bits.old)) }
-    ensures bytes { bytes_of bits.new ≡ bytes_of bits.old }
+    ensures { HasRead Reads (λ v. v) result bits.old bits.new (the_resolutions count) }
 {
     let value = bits.read_u32(
         U32Spec::Const(0),
@@ -96,9 +89,7 @@ fn resolutions(bits: &mut Bitstream<'_>, count: u32) -> fields::Result<u32>
 }
 
 fn resolutions_if(bits: &mut Bitstream<'_>, there: bool, count: u32) -> fields::Result<u32>
-    ensures gives { Reads (λ v. v) result (position_of bits.new)
-        ((when there (the_resolutions count) 0).read (bytes_of bits.old) (position_of bits.old)) }
-    ensures bytes { bytes_of bits.new ≡ bytes_of bits.old }
+    ensures { HasRead Reads (λ v. v) result bits.old bits.new (when there (the_resolutions count) 0) }
 {
     if there {
         resolutions(bits, count)
@@ -127,9 +118,7 @@ fn is_above(before: Option<u32>, value: u32) -> bool
 
 #[tactic(auto, unfolding(crate::specs::Codings::factor))]
 fn finer(bits: &mut Bitstream<'_>, before: Option<u32>) -> fields::Result<u32>
-    ensures gives { Reads (λ v. v) result (position_of bits.new)
-        ((the_finer before).read (bytes_of bits.old) (position_of bits.old)) }
-    ensures bytes { bytes_of bits.new ≡ bytes_of bits.old }
+    ensures { HasRead Reads (λ v. v) result bits.old bits.new (the_finer before) }
 {
     let value = bits.read_u32(
         U32Spec::Const(1),
@@ -146,9 +135,7 @@ fn finer(bits: &mut Bitstream<'_>, before: Option<u32>) -> fields::Result<u32>
 }
 
 fn later(bits: &mut Bitstream<'_>, count: u32, before: Option<u32>) -> fields::Result<u32>
-    ensures gives { Reads (λ v. v) result (position_of bits.new)
-        ((the_later count before).read (bytes_of bits.old) (position_of bits.old)) }
-    ensures bytes { bytes_of bits.new ≡ bytes_of bits.old }
+    ensures { HasRead Reads (λ v. v) result bits.old bits.new (the_later count before) }
 {
     let value = bits.read_u32(
         U32Spec::Const(0),
@@ -166,9 +153,7 @@ fn later(bits: &mut Bitstream<'_>, count: u32, before: Option<u32>) -> fields::R
 
 // The next number of such a list.
 fn next(bits: &mut Bitstream<'_>, order: Order, before: Option<u32>) -> fields::Result<u32>
-    ensures gives { Reads (λ v. v) result (position_of bits.new)
-        ((the_next order before).read (bytes_of bits.old) (position_of bits.old)) }
-    ensures bytes { bytes_of bits.new ≡ bytes_of bits.old }
+    ensures { HasRead Reads (λ v. v) result bits.old bits.new (the_next order before) }
 {
     match order {
         Order::Finer => finer(bits, before),
@@ -178,9 +163,7 @@ fn next(bits: &mut Bitstream<'_>, order: Order, before: Option<u32>) -> fields::
 
 // This number of numbers in this order.
 fn in_turn(alloc: Global, bits: &mut Bitstream<'_>, n: usize, order: Order) -> Result<Vec<u32>>
-    ensures gives { Parses (λ v. v.items) result (position_of bits.new)
-        ((the_list n (the_next order) None).read (bytes_of bits.old) (position_of bits.old)) }
-    ensures bytes { bytes_of bits.new ≡ bytes_of bits.old }
+    ensures { HasRead Parses (λ v. v.items) result bits.old bits.new (the_list n (the_next order) None) }
 {
     let mut values = Vec::new(alloc);
     let mut before = None;
@@ -194,10 +177,8 @@ fn in_turn(alloc: Global, bits: &mut Bitstream<'_>, n: usize, order: Order) -> R
 
 // How many passes there are.
 fn pass_count(bits: &mut Bitstream<'_>) -> fields::Result<u32>
-    ensures gives { Reads (λ v. v) result (position_of bits.new)
-        ((u32 (Const 1) (Const 2) (Const 3) (Offset 4 3)).read (bytes_of bits.old) (position_of bits.old)) }
+    ensures reads { HasRead Reads (λ v. v) result bits.old bits.new (u32 (Const 1) (Const 2) (Const 3) (Offset 4 3)) }
     ensures counted { IfOk result IsPassCount }
-    ensures bytes { bytes_of bits.new ≡ bytes_of bits.old }
 {
     bits.read_u32(
         U32Spec::Const(1),
@@ -208,11 +189,9 @@ fn pass_count(bits: &mut Bitstream<'_>) -> fields::Result<u32>
 }
 
 fn pass_count_if(bits: &mut Bitstream<'_>, there: bool) -> fields::Result<u32>
-    ensures gives { Reads (λ v. v) result (position_of bits.new)
-        ((when there (u32 (Const 1) (Const 2) (Const 3) (Offset 4 3)) 1).read
-        (bytes_of bits.old) (position_of bits.old)) }
+    ensures reads { HasRead Reads (λ v. v) result bits.old bits.new
+        (when there (u32 (Const 1) (Const 2) (Const 3) (Offset 4 3)) 1) }
     ensures counted { IfOk result IsPassCount }
-    ensures bytes { bytes_of bits.new ≡ bytes_of bits.old }
 {
     if there { pass_count(bits) } else { Ok(1) }
 }
@@ -238,10 +217,8 @@ impl Passes {
     /// before, and of `last_pass` for a last pass that there is not, or that is not later than the one before.
     #[tactic(auto, unfolding(crate::specs::Passes::passes))]
     pub fn parse(alloc: Global, bits: &mut Bitstream<'_>, there: bool) -> Result<Passes>
-        ensures gives { Parses passes_of result (position_of bits.new)
-            ((passes there).read (bytes_of bits.old) (position_of bits.old)) }
+        ensures reads { HasRead Parses passes_of result bits.old bits.new (passes there) }
         ensures counted { IfOk result (λ p. IsPassCount p.num_passes) }
-        ensures bytes { bytes_of bits.new ≡ bytes_of bits.old }
     {
         let count = pass_count_if(bits, there)?;
         let n = resolutions_if(bits, count != 1, count)?;
@@ -296,7 +273,7 @@ impl Passes {
         &self,
         alloc: Global,
     ) -> std::result::Result<BTreeMap<u32, (i32, i32)>, OutOfMemory>
-        ensures { IfOk result (λ held. held.entries ≡ shifts_held (passes_of self.now)) }
+        ensures { IfOk result (λ held. held.entries ≡ pass_shifts (passes_of self.now)) }
     {
         let mut held = BTreeMap::new(alloc);
         let mut end = 3;

@@ -2,11 +2,11 @@
 
 ghost use Rattle.std.specs.Prelude.{◌≡◌, ◌≤◌, ◌<◌, ◌^◌, ◌==◌, ◌&&◌, ◌||◌, not, is_some, IfOk, if◌then◌else◌, Some, None, false};
 ghost use Rattle.std.specs.Option.{option_map_or};
-ghost use Rattle.jxlm_bits.specs.Bits.{bytes_of, position_of};
 ghost use Rattle.jxlm_bits.specs.Grammar.{Reads, u32};
 ghost use Rattle.jxlm_bits.specs.Numbers.{unpack};
 ghost use Rattle.jxlm_bits.specs.declared.bits.U32Spec.TheVariants.{Const};
 ghost use Rattle.jxl_image_header.specs.Fields.{optional, when};
+ghost use Rattle.jxl_image_header.specs.Reading.{HasRead};
 ghost use Rattle.jxl_frame_header.specs.Places.{is_shown as the_is_shown, is_lf as the_is_lf, is_reference as the_is_reference, extent as the_extent, covers as the_covers, crop};
 ghost use Rattle.jxl_frame_header.specs.declared.refusal.Refusal.TheVariants as refusals;
 
@@ -73,9 +73,8 @@ impl FrameType {
 
 /// How often the low frequencies of a frame are low frequencies, if the header signals it.
 pub(crate) fn lf_level(bits: &mut Bitstream<'_>, there: bool) -> Result<u32>
-    ensures gives { Reads (λ v. v) result (position_of bits.new)
-        ((when there (u32 (Const 1) (Const 2) (Const 3) (Const 4)) 0).read (bytes_of bits.old) (position_of bits.old)) }
-    ensures bytes { bytes_of bits.new ≡ bytes_of bits.old }
+    ensures { HasRead Reads (λ v. v) result bits.old bits.new
+        (when there (u32 (Const 1) (Const 2) (Const 3) (Const 4)) 0) }
 {
     field_if(
         bits,
@@ -90,10 +89,8 @@ pub(crate) fn lf_level(bits: &mut Bitstream<'_>, there: bool) -> Result<u32>
 
 #[tactic(auto, unfolding(crate::specs::Places::extent))]
 fn extent(bits: &mut Bitstream<'_>) -> Result<u32>
-    ensures gives { Reads (λ v. v) result (position_of bits.new)
-        (the_extent.read (bytes_of bits.old) (position_of bits.old)) }
+    ensures reads { HasRead Reads (λ v. v) result bits.old bits.new the_extent }
     ensures most { IfOk result (λ v. v < 2 ^ 31) }
-    ensures bytes { bytes_of bits.new ≡ bytes_of bits.old }
 {
     field(
         bits,
@@ -105,10 +102,8 @@ fn extent(bits: &mut Bitstream<'_>) -> Result<u32>
 }
 
 fn extent_if(bits: &mut Bitstream<'_>, there: bool) -> Result<u32>
-    ensures gives { Reads (λ v. v) result (position_of bits.new)
-        ((when there the_extent 0).read (bytes_of bits.old) (position_of bits.old)) }
+    ensures reads { HasRead Reads (λ v. v) result bits.old bits.new (when there the_extent 0) }
     ensures most { IfOk result (λ v. v < 2 ^ 31) }
-    ensures bytes { bytes_of bits.new ≡ bytes_of bits.old }
 {
     if there { extent(bits) } else { Ok(0) }
 }
@@ -132,9 +127,7 @@ fn covers(corner: u32, side: u32, whole: u32) -> bool
 impl Crop {
     #[tactic(auto, unfolding(crate::specs::Places::crop))]
     fn parse(bits: &mut Bitstream<'_>, size: Size, shown: bool) -> Result<Crop>
-        ensures gives { Reads (λ v. v) result (position_of bits.new)
-            ((crop size shown).read (bytes_of bits.old) (position_of bits.old)) }
-        ensures bytes { bytes_of bits.new ≡ bytes_of bits.old }
+        ensures { HasRead Reads (λ v. v) result bits.old bits.new (crop size shown) }
     {
         let x = extent_if(bits, shown)?;
         let y = extent_if(bits, shown)?;
@@ -150,10 +143,8 @@ impl Crop {
         })
     }
 
-    fn told(bits: &mut Bitstream<'_>, size: Size, shown: bool) -> Result<Option<Crop>>
-        ensures gives { Reads (λ v. v) result (position_of bits.new)
-            ((optional (crop size shown)).read (bytes_of bits.old) (position_of bits.old)) }
-        ensures bytes { bytes_of bits.new ≡ bytes_of bits.old }
+    fn optional(bits: &mut Bitstream<'_>, size: Size, shown: bool) -> Result<Option<Crop>>
+        ensures { HasRead Reads (λ v. v) result bits.old bits.new (optional (crop size shown)) }
     {
         if !bits.read_bool()? {
             return Ok(None);
@@ -163,18 +154,16 @@ impl Crop {
     }
 
     /// A size and a place of its own, where they may be told.
-    pub(crate) fn told_if(
+    pub(crate) fn optional_if(
         bits: &mut Bitstream<'_>,
         there: bool,
         size: Size,
         shown: bool,
     ) -> Result<Option<Crop>>
-        ensures gives { Reads (λ v. v) result (position_of bits.new)
-            ((when there (optional (crop size shown)) None).read (bytes_of bits.old) (position_of bits.old)) }
-        ensures bytes { bytes_of bits.new ≡ bytes_of bits.old }
+        ensures { HasRead Reads (λ v. v) result bits.old bits.new (when there (optional (crop size shown)) None) }
     {
         if there {
-            Crop::told(bits, size, shown)
+            Crop::optional(bits, size, shown)
         } else {
             Ok(None)
         }

@@ -32,8 +32,8 @@ shifts_low (c ∷ cs) e =
 -- in an image that is supported the shifts of extra channels are at most 3
 pub low_shifts : (image : Image) → image_refusal image ≡ None → All (λ c. c.dim_shift ≤ 3) image.ec_info
 low_shifts image supported =
-    let d = image.samples.bit_depth in
-    let still = unless (is_some image.display.preview) Preview _ supported in
-    let depth = unless (is_some image.display.animation) Animation _ still.1 in
+    let d = image.bit_depth in
+    let still = unless (is_some image.preview) Preview _ supported in
+    let depth = unless (is_some image.animation) Animation _ still.1 in
     let rest = unless (not (d.exp_bits == 0) && not ((d.exp_bits == 8) && (d.bits_per_sample == 32))) FloatDepth _ depth.1 in
     shifts_low image.ec_info (first_none (channels_refusal image.ec_info) _ rest.1)

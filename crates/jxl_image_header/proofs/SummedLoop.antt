@@ -6,7 +6,7 @@ use Rattle.jxlm_bits.specs.ErrorKind.{ErrorAt, ◌>>=◌}
 use Rattle.jxlm_bits.specs.Grammar.{Grammar, number, repeated, give}
 use Rattle.jxlm_bits.specs.Grammar as grammar
 use Rattle.jxl_image_header.specs.Fields.{long, extensions}
-use Rattle.jxl_image_header.specs.Inner.Groups.{extension_bits, skipped_bits}
+use Rattle.jxl_image_header.specs.Inner.Groups.{extension_bits, ignored_bits}
 
 -- the sum of what was read before, and of what is still read
 abbrev pub with_sum : ℕ → Result (Found (List ℕ)) ErrorAt → Result (Found ℕ) ErrorAt
@@ -73,10 +73,10 @@ passed mask (Err e) = refl
 
 -- what extensions give after their mask, by the sum of their sizes
 abbrev pub after_mask : ℕ → Grammar ℕ
-after_mask mask = grammar.◌>>=◌ (extension_bits (count_ones mask)) (λ n. grammar.◌>>=◌ (skipped_bits n) (λ u. give mask))
+after_mask mask = grammar.◌>>=◌ (extension_bits (count_ones mask)) (λ n. grammar.◌>>=◌ (ignored_bits n) (λ u. give mask))
 
 pub by_sum : (bytes : List ℕ) (p mask q : ℕ) → long.read bytes p ≡ Ok (record { value = mask; position = q }) → extensions.read bytes p ≡ (after_mask mask).read bytes q
 unfolding extensions extension_bits
 by_sum bytes p mask q h =
     rw h (summed_first {Y = ℕ} ((repeated (count_ones mask) long).read bytes q) (λ n m. (grammar.◌>>=◌ (number n) (λ v. give mask)).read bytes m)
-    (λ n m. (grammar.◌>>=◌ (skipped_bits n) (λ u. give mask)).read bytes m) (λ n m. passed mask ((number n).read bytes m)))
+    (λ n m. (grammar.◌>>=◌ (ignored_bits n) (λ u. give mask)).read bytes m) (λ n m. passed mask ((number n).read bytes m)))

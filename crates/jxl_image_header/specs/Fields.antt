@@ -1,6 +1,6 @@
 -- Fields of headers (ISO/IEC 18181-1, notation of bundles and fields). In a record `(← field)` is what is read there.
 use Rattle.std.specs.Prelude.{◌≡◌, ℕ, zero, suc, ◌+◌, ◌-◌, ◌*◌, ◌%◌, List, Bool, false, not, ◌==◌, Option, Some, None, Ok, codes, count_ones, sum}
-use Rattle.jxlm_bits.specs.ErrorKind.{BadEnum}
+use Rattle.jxlm_bits.specs.ErrorKind.{ErrorKind, BadEnum}
 use Rattle.jxlm_bits.specs.Grammar.{Grammar, number, flag, part, u32, give, fail, either, repeated, ◌>>=◌}
 use Rattle.jxlm_bits.specs.declared.bits.U32Spec.TheVariants.{Const, Offset}
 
@@ -25,24 +25,33 @@ abbrev pub optional : {X : Type 0} → Grammar X → Grammar (Option X)
 optional field = flag >>= λ there. when there (field >>= λ v. give (Some v)) None
 
 -- whether a bundle is coded: it may be there, and no flag says that all of it is as by default
-abbrev pub told_if : Bool → Grammar Bool
-told_if there = when there (flag >>= λ all_default. give (not all_default)) false
+abbrev pub bundle_follows : Bool → Grammar Bool
+bundle_follows there = when there (flag >>= λ all_default. give (not all_default)) false
 
 -- the number of an enumeration, before it is known to mean something
-unfoldable pub enumerated : Grammar ℕ
-enumerated = u32 (Const 0) (Const 1) (Offset 2 4) (Offset 18 6)
+unfoldable pub enum_number : Grammar ℕ
+enum_number = u32 (Const 0) (Const 1) (Offset 2 4) (Offset 18 6)
+
+-- a value, or this error where there is none
+abbrev pub value_or : {X : Type 0} → ErrorKind → Option X → Grammar X
+value_or error (Some x) = give x
+value_or error None = fail error
+
+-- the variant that the number of an enumeration stands for in this table, or the error of this name
+abbrev pub variant : {X : Type 0} → List ℕ → (ℕ → Option X) → Grammar X
+variant name table = enum_number >>= λ v. value_or (BadEnum name v) (table v)
 
 -- a number that has a meaning, or the error of this name
 abbrev pub number_meant : List ℕ → Bool → ℕ → Grammar ℕ
 number_meant name means v = either means (give v) (fail (BadEnum name v))
 
 -- a number of which this holds, or the error of this name
-abbrev pub checked : List ℕ → (ℕ → Bool) → Grammar ℕ → Grammar ℕ
-checked name holds field = field >>= λ v. number_meant name (holds v) v
+abbrev pub number_where : List ℕ → (ℕ → Bool) → Grammar ℕ → Grammar ℕ
+number_where name holds field = field >>= λ v. number_meant name (holds v) v
 
 -- n bytes that are not looked at
-abbrev pub skipped : ℕ → Grammar (Unit {0})
-skipped n = number (8 * n) >>= λ v. give tt
+abbrev pub ignored_bytes : ℕ → Grammar (Unit {0})
+ignored_bytes n = number (8 * n) >>= λ v. give tt
 
 -- extensions: which there are, as the bits of a mask, how many bits each has, and these, which are not looked at
 unfoldable pub extensions : Grammar ℕ
@@ -53,7 +62,7 @@ extensions = do
 
 -- a name: how many bytes it has, which are not looked at
 unfoldable pub name : Grammar ℕ
-name = u32 (Const 0) (Offset 0 4) (Offset 16 5) (Offset 48 10) >>= λ n. skipped n >>= λ u. give n
+name = u32 (Const 0) (Offset 0 4) (Offset 16 5) (Offset 48 10) >>= λ n. ignored_bytes n >>= λ u. give n
 
 -- the bit position
 abbrev pub here : Grammar ℕ
@@ -61,4 +70,4 @@ here = record { read = λ bytes p. Ok (record { value = p; position = p }); Stan
 
 -- the bits up to the next byte, which are 0
 unfoldable pub aligned : Grammar ℕ
-aligned = here >>= λ p. checked (codes "padding") (λ v. v == 0) (number ((8 - p % 8) % 8))
+aligned = here >>= λ p. number_where (codes "padding") (λ v. v == 0) (number ((8 - p % 8) % 8))

@@ -1,18 +1,18 @@
 -- The image header (ISO/IEC 18181-1, image header: ImageMetadata and what is before and after it).
-use Rattle.std.specs.Prelude.{◌+◌, ◌/◌, ◌%◌, ◌==◌, ◌&&◌, not, nat_lt, List, [], ◌∷◌, Bool, true, false, if◌then◌else◌, Option, Some, None, is_some, codes}
+use Rattle.std.specs.Prelude.{ℕ, ◌+◌, ◌/◌, ◌%◌, ◌==◌, ◌&&◌, not, nat_lt, List, [], ◌∷◌, Bool, true, false, if◌then◌else◌, Option, Some, None, is_some, codes}
 use Rattle.std.specs.Option.{option_or}
 use Rattle.jxlm_bits.specs.Grammar.{Grammar, number, flag, u32, give, repeated, ◌>>=◌}
 use Rattle.jxlm_bits.specs.declared.bits.U32Spec.TheVariants.{Const, Offset}
-use Rattle.jxl_image_header.specs.Fields.{checked, extensions, optional, skipped, told_if, when}
+use Rattle.jxl_image_header.specs.Fields.{number_where, extensions, optional, ignored_bytes, bundle_follows, when}
 use Rattle.jxl_image_header.specs.Sizes.{size}
 use Rattle.jxl_image_header.specs.Channels.{bit_depth, extra_channel}
 use Rattle.jxl_image_header.specs.Colours.{colour_encoding, tone_mapping}
 use Rattle.jxl_image_header.specs.declared.size.Size.{Size}
+use Rattle.jxl_image_header.specs.declared.channel.BitDepth.{BitDepth}
 use Rattle.jxl_image_header.specs.declared.channel.ExtraChannel.{ExtraChannel}
+use Rattle.jxl_image_header.specs.declared.colour.ColourEncoding.{ColourEncoding}
+use Rattle.jxl_image_header.specs.declared.colour.ToneMapping.{ToneMapping}
 use Rattle.jxl_image_header.specs.declared.image.Animation.{Animation}
-use Rattle.jxl_image_header.specs.declared.image.Display.{Display}
-use Rattle.jxl_image_header.specs.declared.image.Samples.{Samples}
-use Rattle.jxl_image_header.specs.declared.image.Shown.{Shown}
 use Rattle.jxl_image_header.specs.declared.image.ImageHeader.{ImageHeader}
 use Rattle.jxl_image_header.specs.declared.refusal.Refusal.{Refusal}
 use Rattle.jxl_image_header.specs.declared.refusal.Refusal.TheVariants.{Preview, Animation as Animated, FloatDepth, ExtraFloats, ExtraSize, Xyb}
@@ -20,13 +20,33 @@ use Rattle.jxl_image_header.specs.declared.refusal.Refusal.TheVariants.{Preview,
 -- an image header, seen without its memory
 pub record Image : Type 0 where
   pub size : Size
-  pub display : Display
-  pub samples : Samples
+  pub orientation : ℕ
+  pub intrinsic_size : Option Size
+  pub preview : Option Size
+  pub animation : Option Animation
+  pub bit_depth : BitDepth
+  pub modular_16bit_buffers : Bool
   pub ec_info : List ExtraChannel
-  pub shown : Shown
+  pub xyb_encoded : Bool
+  pub colour_encoding : ColourEncoding
+  pub tone_mapping : ToneMapping
+  pub extensions : ℕ
 
 abbrev pub image_of : ImageHeader → Image
-image_of h = record { size = h.size; display = h.display; samples = h.samples; ec_info = h.ec_info.items; shown = h.shown }
+image_of h = record {
+  size = h.size;
+  orientation = h.orientation;
+  intrinsic_size = h.intrinsic_size;
+  preview = h.preview;
+  animation = h.animation;
+  bit_depth = h.bit_depth;
+  modular_16bit_buffers = h.modular_16bit_buffers;
+  ec_info = h.ec_info.items;
+  xyb_encoded = h.xyb_encoded;
+  colour_encoding = h.colour_encoding;
+  tone_mapping = h.tone_mapping;
+  extensions = h.extensions;
+}
 
 -- how often pictures change a second, as a fraction; how often all are shown, 0 for ever; whether there are time codes
 unfoldable pub animation : Grammar Animation
@@ -39,38 +59,48 @@ animation = do
 -- what is not looked at: floats of 16 bits, the matrix of XYB of 16, and by a mask weights of upsampling, 15, 55, 210
 unfoldable pub matrices : Bool → Grammar (Unit {0})
 matrices xyb = do
-  told ← told_if true
-  opsin ← told_if (told && xyb)
-  _ ← when opsin (skipped 32) tt
-  mask ← when told (number 3) 0
-  _ ← when (mask % 2 == 1) (skipped 30) tt
-  _ ← when (mask / 2 % 2 == 1) (skipped 110) tt
-  when (mask / 4 == 1) (skipped 420) tt
+  follows ← bundle_follows true
+  opsin ← bundle_follows (follows && xyb)
+  _ ← when opsin (ignored_bytes 32) tt
+  mask ← when follows (number 3) 0
+  _ ← when (mask % 2 == 1) (ignored_bytes 30) tt
+  _ ← when (mask / 2 % 2 == 1) (ignored_bytes 110) tt
+  when (mask / 4 == 1) (ignored_bytes 420) tt
 
 -- The image header: the first 16 bits of each codestream; its size; how it is shown; how samples are stored; whether
 -- 16 bits are enough for all of decoding; channels beside the colours; what colours mean; which extensions there are.
 unfoldable pub image_header : Grammar Image
 image_header = do
-  _ ← checked (codes "signature") (λ v. v == 0x0AFF) (number 16)
+  _ ← number_where (codes "signature") (λ v. v == 0x0AFF) (number 16)
   sides ← size false
-  told ← told_if true
-  more ← when told flag false
+  follows ← bundle_follows true
+  more ← when follows flag false
   turned ← when more (number 3) 0
   own ← when more (optional (size false)) None
   preview ← when more (optional (size true)) None
   animation ← when more (optional animation) None
-  depth ← when told bit_depth (record { bits_per_sample = 8; exp_bits = 0 })
-  narrow ← when told flag true
-  extra ← when told (u32 (Const 0) (Const 1) (Offset 2 4) (Offset 1 12) >>= λ n. repeated n extra_channel) []
-  xyb ← when told flag true
-  colour ← colour_encoding told
+  depth ← when follows bit_depth (record { bits_per_sample = 8; exp_bits = 0 })
+  narrow ← when follows flag true
+  extra ← when follows (u32 (Const 0) (Const 1) (Offset 2 4) (Offset 1 12) >>= λ n. repeated n extra_channel) []
+  xyb ← when follows flag true
+  colour ← colour_encoding follows
   tone ← tone_mapping more
-  extensions ← when told extensions 0
+  extensions ← when follows extensions 0
   _ ← matrices xyb
-  let display : Display = record { orientation = turned + 1; intrinsic_size = own; preview = preview; animation = animation }
-  let samples : Samples = record { bit_depth = depth; modular_16bit_buffers = narrow }
-  let shown : Shown = record { xyb_encoded = xyb; colour_encoding = colour; tone_mapping = tone; extensions = extensions }
-  give (record { size = sides; display = display; samples = samples; ec_info = extra; shown = shown })
+  give (record {
+    size = sides;
+    orientation = turned + 1;
+    intrinsic_size = own;
+    preview = preview;
+    animation = animation;
+    bit_depth = depth;
+    modular_16bit_buffers = narrow;
+    ec_info = extra;
+    xyb_encoded = xyb;
+    colour_encoding = colour;
+    tone_mapping = tone;
+    extensions = extensions;
+  })
 
 -- what extra channels have that is not supported, by the first that has something
 abbrev pub channels_refusal : List ExtraChannel → Option Refusal
@@ -81,7 +111,7 @@ channels_refusal (c ∷ cs) =
 -- what an image has that is not supported, by the first of its fields that says so
 abbrev pub image_refusal : Image → Option Refusal
 image_refusal h =
-    if is_some h.display.preview then Some Preview else
-    if is_some h.display.animation then Some Animated else
-    if not (h.samples.bit_depth.exp_bits == 0) && not ((h.samples.bit_depth.exp_bits == 8) && (h.samples.bit_depth.bits_per_sample == 32)) then Some FloatDepth else
-    option_or (channels_refusal h.ec_info) (if h.shown.xyb_encoded then Some Xyb else None)
+    if is_some h.preview then Some Preview else
+    if is_some h.animation then Some Animated else
+    if not (h.bit_depth.exp_bits == 0) && not ((h.bit_depth.exp_bits == 8) && (h.bit_depth.bits_per_sample == 32)) then Some FloatDepth else
+    option_or (channels_refusal h.ec_info) (if h.xyb_encoded then Some Xyb else None)

@@ -1,13 +1,13 @@
 //! Depths of samples, and extra channels.
 
-ghost use Rattle.std.specs.Prelude.{◌≡◌, ◌≤◌, ◌==◌, ◌||◌, nat_lt, false, codes};
-ghost use Rattle.jxlm_bits.specs.Bits.{bytes_of, position_of};
+ghost use Rattle.std.specs.Prelude.{◌≡◌, ◌≤◌, nat_lt, false, codes};
 ghost use Rattle.jxlm_bits.specs.Grammar.{Reads, either, flag, part, u32};
 ghost use Rattle.jxlm_bits.specs.declared.bits.U32Spec.TheVariants.{Const, Offset};
-ghost use Rattle.jxl_image_header.specs.Fields.{checked, enumerated as the_enumerated, skipped, when};
-ghost use Rattle.jxl_image_header.specs.Channels.{bit_depth, extra_channel, fits_float as the_fits_float};
+ghost use Rattle.jxl_image_header.specs.Fields.{number_where, ignored_bytes, variant, when};
+ghost use Rattle.jxl_image_header.specs.Channels.{bit_depth, extra_channel, fits_float as the_fits_float, kind_of as the_kind_of, is_alpha as the_is_alpha, is_black as the_is_black, is_cfa as the_is_cfa, is_spot_colour as the_is_spot_colour};
+ghost use Rattle.jxl_image_header.specs.Reading.{HasRead};
 
-use crate::fields::{Result, enumerated, name, number, skip};
+use crate::fields::{Result, enum_number, name, number, skip};
 use jxlm_bits::bits::{Bitstream, BitstreamError, U32Spec};
 
 /// How a sample is stored.
@@ -19,12 +19,33 @@ pub struct BitDepth {
     pub exp_bits: u32,
 }
 
+/// What the samples of an extra channel are.
+#[derive(Clone, Copy, Debug, PartialEq, Eq)]
+pub enum ExtraChannelKind {
+    /// Opacity.
+    Alpha = 0,
+    /// Distance from the viewer.
+    Depth = 1,
+    /// The amount of an ink or colour of its own.
+    SpotColour = 2,
+    /// Which parts of the picture are selected.
+    SelectionMask = 3,
+    /// The black of CMYK.
+    Black = 4,
+    /// A channel of a colour filter array.
+    Cfa = 5,
+    /// Temperature.
+    Thermal = 6,
+    /// Not known; a decoder that does not know it refuses the image.
+    Unknown = 15,
+    /// Not known; a decoder may ignore it.
+    Optional = 16,
+}
+
 /// What the headers say of a channel beside the colours.
 #[derive(Clone, Copy)]
 pub struct ExtraChannel {
-    /// What it is: 0 alpha, 1 depth, 2 a spot colour, 3 a selection mask, 4 black, 5 a colour filter, 6 heat, 15 not
-    /// known, 16 something that may be left out.
-    pub kind: u32,
+    pub kind: ExtraChannelKind,
     /// How its samples are stored.
     pub bit_depth: BitDepth,
     /// Its sides are those of the picture by 2 to the power of this, rounded up.
@@ -41,7 +62,7 @@ const USUAL_DEPTH: BitDepth = BitDepth {
 };
 
 const USUAL_CHANNEL: ExtraChannel = ExtraChannel {
-    kind: 0,
+    kind: ExtraChannelKind::Alpha,
     bit_depth: USUAL_DEPTH,
     dim_shift: 0,
     name_len: 0,
@@ -50,11 +71,9 @@ const USUAL_CHANNEL: ExtraChannel = ExtraChannel {
 
 // How many bits a sample has.
 fn sample_bits(bits: &mut Bitstream<'_>, float: bool) -> Result<u32>
-    ensures gives { Reads (λ v. v) result (position_of bits.new)
-        ((either float (u32 (Const 32) (Const 16) (Const 24) (Offset 1 6))
-        (checked (codes "bits_per_sample") (λ n. nat_lt n 32) (u32 (Const 8) (Const 10) (Const 12) (Offset 1 6)))).read
-        (bytes_of bits.old) (position_of bits.old)) }
-    ensures bytes { bytes_of bits.new ≡ bytes_of bits.old }
+    ensures { HasRead Reads (λ v. v) result bits.old bits.new
+        (either float (u32 (Const 32) (Const 16) (Const 24) (Offset 1 6))
+        (number_where (codes "bits_per_sample") (λ n. nat_lt n 32) (u32 (Const 8) (Const 10) (Const 12) (Offset 1 6)))) }
 {
     if float {
         return bits.read_u32(
@@ -87,10 +106,8 @@ fn fits_float(bits: u32, exponent: u32) -> bool
 
 // How many of this number of bits are an exponent: none of a whole number.
 fn exponent_bits(bits: &mut Bitstream<'_>, float: bool, all: u32) -> Result<u32>
-    ensures gives { Reads (λ v. v) result (position_of bits.new)
-        ((when float (checked (codes "exponent_bits") (the_fits_float all) (part (Offset 1 4))) 0).read
-        (bytes_of bits.old) (position_of bits.old)) }
-    ensures bytes { bytes_of bits.new ≡ bytes_of bits.old }
+    ensures { HasRead Reads (λ v. v) result bits.old bits.new
+        (when float (number_where (codes "exponent_bits") (the_fits_float all) (part (Offset 1 4))) 0) }
 {
     if !float {
         return Ok(0);
@@ -109,9 +126,7 @@ impl BitDepth {
     /// bits, and for floats whose exponent or mantissa has a size that none may have.
     #[tactic(auto, unfolding(crate::specs::Channels::bit_depth))]
     pub fn parse(bits: &mut Bitstream<'_>) -> Result<BitDepth>
-        ensures gives { Reads (λ v. v) result (position_of bits.new)
-            (bit_depth.read (bytes_of bits.old) (position_of bits.old)) }
-        ensures bytes { bytes_of bits.new ≡ bytes_of bits.old }
+        ensures { HasRead Reads (λ v. v) result bits.old bits.new bit_depth }
     {
         let float = bits.read_bool()?;
         let all = sample_bits(bits, float)?;
@@ -124,10 +139,8 @@ impl BitDepth {
 
     // How samples are stored, if the header signals it.
     pub(crate) fn parse_if(bits: &mut Bitstream<'_>, there: bool) -> Result<BitDepth>
-        ensures gives { Reads (λ v. v) result (position_of bits.new)
-            ((when there bit_depth (record { bits_per_sample = 8; exp_bits = 0 })).read
-            (bytes_of bits.old) (position_of bits.old)) }
-        ensures bytes { bytes_of bits.new ≡ bytes_of bits.old }
+        ensures { HasRead Reads (λ v. v) result bits.old bits.new
+            (when there bit_depth (record { bits_per_sample = 8; exp_bits = 0 })) }
     {
         if there {
             BitDepth::parse(bits)
@@ -137,28 +150,70 @@ impl BitDepth {
     }
 }
 
-fn channel_kind(bits: &mut Bitstream<'_>) -> Result<u32>
-    ensures gives { Reads (λ v. v) result (position_of bits.new)
-        ((checked (codes "ExtraChannelType") (λ v. nat_lt v 7 || (v == 15) || (v == 16)) the_enumerated).read
-        (bytes_of bits.old) (position_of bits.old)) }
-    ensures bytes { bytes_of bits.new ≡ bytes_of bits.old }
+// The kind that a number stands for.
+fn kind_of(value: u32) -> Option<ExtraChannelKind>
+    ensures { result ≡ the_kind_of value }
 {
-    let value = enumerated(bits)?;
-    if value < 7 || value == 15 || value == 16 {
-        Ok(value)
-    } else {
-        let name = "ExtraChannelType";
-        Err(BitstreamError::InvalidEnum { name, value })
+    match value {
+        0 => Some(ExtraChannelKind::Alpha),
+        1 => Some(ExtraChannelKind::Depth),
+        2 => Some(ExtraChannelKind::SpotColour),
+        3 => Some(ExtraChannelKind::SelectionMask),
+        4 => Some(ExtraChannelKind::Black),
+        5 => Some(ExtraChannelKind::Cfa),
+        6 => Some(ExtraChannelKind::Thermal),
+        15 => Some(ExtraChannelKind::Unknown),
+        16 => Some(ExtraChannelKind::Optional),
+        _ => None,
+    }
+}
+
+impl ExtraChannelKind {
+    /// Whether it is alpha.
+    pub fn is_alpha(&self) -> bool
+        ensures { result ≡ the_is_alpha self.now }
+    {
+        matches!(self, ExtraChannelKind::Alpha)
+    }
+
+    /// Whether it is the black of CMYK.
+    pub fn is_black(&self) -> bool
+        ensures { result ≡ the_is_black self.now }
+    {
+        matches!(self, ExtraChannelKind::Black)
+    }
+
+    fn is_spot_colour(&self) -> bool
+        ensures { result ≡ the_is_spot_colour self.now }
+    {
+        matches!(self, ExtraChannelKind::SpotColour)
+    }
+
+    fn is_cfa(&self) -> bool
+        ensures { result ≡ the_is_cfa self.now }
+    {
+        matches!(self, ExtraChannelKind::Cfa)
+    }
+
+    fn parse(bits: &mut Bitstream<'_>) -> Result<ExtraChannelKind>
+        ensures { HasRead Reads (λ v. v) result bits.old bits.new (variant (codes "ExtraChannelType") the_kind_of) }
+    {
+        let value = enum_number(bits)?;
+        match kind_of(value) {
+            Some(kind) => Ok(kind),
+            None => {
+                let name = "ExtraChannelType";
+                Err(BitstreamError::InvalidEnum { name, value })
+            }
+        }
     }
 }
 
 // Of alpha, whether colours were multiplied by it.
-fn premultiplied(bits: &mut Bitstream<'_>, kind: u32) -> Result<bool>
-    ensures gives { Reads (λ v. v) result (position_of bits.new)
-        ((when (kind == 0) flag false).read (bytes_of bits.old) (position_of bits.old)) }
-    ensures bytes { bytes_of bits.new ≡ bytes_of bits.old }
+fn premultiplied(bits: &mut Bitstream<'_>, kind: ExtraChannelKind) -> Result<bool>
+    ensures { HasRead Reads (λ v. v) result bits.old bits.new (when (the_is_alpha kind) flag false) }
 {
-    if kind == 0 {
+    if kind.is_alpha() {
         bits.read_bool()
     } else {
         Ok(false)
@@ -166,22 +221,22 @@ fn premultiplied(bits: &mut Bitstream<'_>, kind: u32) -> Result<bool>
 }
 
 // Passes the four numbers of a spot colour.
-fn spot_colour(bits: &mut Bitstream<'_>, kind: u32) -> Result<()>
-    ensures gives { Reads (λ v. v) result (position_of bits.new)
-        ((when (kind == 2) (skipped 8) tt).read (bytes_of bits.old) (position_of bits.old)) }
-    ensures bytes { bytes_of bits.new ≡ bytes_of bits.old }
+fn spot_colour(bits: &mut Bitstream<'_>, kind: ExtraChannelKind) -> Result<()>
+    ensures { HasRead Reads (λ v. v) result bits.old bits.new (when (the_is_spot_colour kind) (ignored_bytes 8) tt) }
 {
-    if kind == 2 { skip(bits, 8) } else { Ok(()) }
+    if kind.is_spot_colour() {
+        skip(bits, 8)
+    } else {
+        Ok(())
+    }
 }
 
 // The number of a colour filter's channel; 0 of other kinds.
-fn filter_channel(bits: &mut Bitstream<'_>, kind: u32) -> Result<u32>
-    ensures gives { Reads (λ v. v) result (position_of bits.new)
-        ((when (kind == 5) (u32 (Const 1) (Offset 0 2) (Offset 3 4) (Offset 19 8)) 0).read
-        (bytes_of bits.old) (position_of bits.old)) }
-    ensures bytes { bytes_of bits.new ≡ bytes_of bits.old }
+fn filter_channel(bits: &mut Bitstream<'_>, kind: ExtraChannelKind) -> Result<u32>
+    ensures { HasRead Reads (λ v. v) result bits.old bits.new
+        (when (the_is_cfa kind) (u32 (Const 1) (Offset 0 2) (Offset 3 4) (Offset 19 8)) 0) }
 {
-    if kind != 5 {
+    if !kind.is_cfa() {
         return Ok(0);
     }
     bits.read_u32(
@@ -196,14 +251,12 @@ impl ExtraChannel {
     /// The channel that stands at the reader's position; its name and what a kind has of its own are passed.
     #[tactic(auto, unfolding(crate::specs::Channels::extra_channel))]
     pub fn parse(bits: &mut Bitstream<'_>) -> Result<ExtraChannel>
-        ensures gives { Reads (λ v. v) result (position_of bits.new)
-            (extra_channel.read (bytes_of bits.old) (position_of bits.old)) }
-        ensures bytes { bytes_of bits.new ≡ bytes_of bits.old }
+        ensures { HasRead Reads (λ v. v) result bits.old bits.new extra_channel }
     {
         if bits.read_bool()? {
             return Ok(USUAL_CHANNEL);
         }
-        let kind = channel_kind(bits)?;
+        let kind = ExtraChannelKind::parse(bits)?;
         let depth = BitDepth::parse(bits)?;
         let shift = bits.read_u32(
             U32Spec::Const(0),

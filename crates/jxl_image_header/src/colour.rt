@@ -1,12 +1,14 @@
 //! Colour encodings, and what the header says of brightness.
 
-ghost use Rattle.std.specs.Prelude.{◌≡◌, ◌==◌, ◌||◌, ◌&&◌, not, nat_lt, nat_le, ◌*◌, true, codes};
-ghost use Rattle.jxlm_bits.specs.Bits.{bytes_of, position_of};
+ghost use Rattle.std.specs.Prelude.{◌≡◌, ◌==◌, ◌||◌, ◌&&◌, not, nat_le, ◌*◌, true, codes};
 ghost use Rattle.jxlm_bits.specs.Grammar.{Reads, number as the_number};
-ghost use Rattle.jxl_image_header.specs.Fields.{checked, enumerated as the_enumerated, when};
-ghost use Rattle.jxl_image_header.specs.Colours.{coordinate as the_coordinate, chromaticity, primary_colours, white as the_white, basis as the_basis, transfer as the_transfer, colour_encoding, tone_mapping};
+ghost use Rattle.jxl_image_header.specs.Fields.{number_where, enum_number as the_enum_number, variant, when};
+ghost use Rattle.jxl_image_header.specs.Colours.{coordinate as the_coordinate, chromaticity, custom_primaries, white_of as the_white_of, white_point, primaries_of as the_primaries_of, primaries, function_of as the_function_of, transfer_function, space_of as the_space_of, is_grey as the_is_grey, is_xyb as the_is_xyb, intent_of as the_intent_of, colour_encoding, tone_mapping};
+ghost use Rattle.jxl_image_header.specs.declared.colour.ColourSpace.TheVariants.{Rgb};
+ghost use Rattle.jxl_image_header.specs.declared.colour.RenderingIntent.TheVariants.{Relative};
+ghost use Rattle.jxl_image_header.specs.Reading.{HasRead};
 
-use crate::fields::{Result, enumerated, flag_if, number, number_if, told_if};
+use crate::fields::{Result, bundle_follows, enum_number, flag_if, number, number_if};
 use jxlm_bits::bits::{Bitstream, BitstreamError, U32Spec};
 
 /// A colour without its brightness.
@@ -20,37 +22,66 @@ pub struct Chromaticity {
 
 /// Three colours that are mixed.
 #[derive(Clone, Copy)]
-pub struct Primaries {
+pub struct CustomPrimaries {
     pub red: Chromaticity,
     pub green: Chromaticity,
     pub blue: Chromaticity,
 }
 
+/// The colour space of the samples.
+#[derive(Clone, Copy, Debug, PartialEq, Eq)]
+pub enum ColourSpace {
+    /// Red, green and blue.
+    Rgb = 0,
+    /// One channel.
+    Grey = 1,
+    Xyb = 2,
+    /// Only the profile says it.
+    Unknown = 3,
+}
+
 /// The colour of white.
 #[derive(Clone, Copy)]
-pub struct White {
-    /// 1 for D65, 2 for one of its own, 10 for E, 11 for DCI.
-    pub number: u32,
-    /// Where the number is 2, the colour; else zeros.
-    pub own: Chromaticity,
+pub enum WhitePoint {
+    D65,
+    /// By its coordinates.
+    Custom(Chromaticity),
+    /// The equal-energy point.
+    E,
+    /// That of DCI-P3.
+    Dci,
 }
 
 /// The colours that are mixed.
 #[derive(Clone, Copy)]
-pub struct Basis {
-    /// 1 for those of sRGB, 2 for its own, 9 for those of BT.2100, 11 for those of P3.
-    pub number: u32,
-    /// Where the number is 2, the colours; else zeros.
-    pub own: Primaries,
+pub enum Primaries {
+    Srgb,
+    /// By their coordinates.
+    Custom(CustomPrimaries),
+    Bt2100,
+    P3,
 }
 
 /// How light follows from samples.
 #[derive(Clone, Copy)]
-pub struct Transfer {
-    /// 1 for BT.709, 8 for linear, 13 for sRGB, 16 for PQ, 17 for DCI, 18 for HLG; 0 where it is by an exponent.
-    pub number: u32,
-    /// The exponent in 10 millionths, 0 where there is none.
-    pub gamma: u32,
+pub enum TransferFunction {
+    /// By an exponent, in 10 millionths.
+    Gamma(u32),
+    Bt709,
+    Linear,
+    Srgb,
+    Pq,
+    Dci,
+    Hlg,
+}
+
+/// How colours outside the range of a display are shown.
+#[derive(Clone, Copy, Debug, PartialEq, Eq)]
+pub enum RenderingIntent {
+    Perceptual = 0,
+    Relative = 1,
+    Saturation = 2,
+    Absolute = 3,
 }
 
 /// What the samples of colours mean. Of what is not told the usual is given: sRGB's.
@@ -58,13 +89,11 @@ pub struct Transfer {
 pub struct ColourEncoding {
     /// Whether a profile follows the headers, which tells it.
     pub want_icc: bool,
-    /// 0 for red, green and blue, 1 for grey, 2 for XYB, 3 for one that the profile alone tells.
-    pub colour_space: u32,
-    pub white_point: White,
-    pub primaries: Basis,
-    pub transfer_function: Transfer,
-    /// 0 perceptual, 1 relative, 2 by saturation, 3 absolute.
-    pub rendering_intent: u32,
+    pub colour_space: ColourSpace,
+    pub white_point: WhitePoint,
+    pub primaries: Primaries,
+    pub transfer_function: TransferFunction,
+    pub rendering_intent: RenderingIntent,
 }
 
 /// What the header says of brightness: floats of 16 bits, as the numbers of their bits.
@@ -82,9 +111,7 @@ pub struct ToneMapping {
 
 #[tactic(auto, unfolding(crate::specs::Colours::coordinate))]
 fn coordinate(bits: &mut Bitstream<'_>, there: bool) -> Result<u32>
-    ensures gives { Reads (λ v. v) result (position_of bits.new)
-        ((the_coordinate there).read (bytes_of bits.old) (position_of bits.old)) }
-    ensures bytes { bytes_of bits.new ≡ bytes_of bits.old }
+    ensures { HasRead Reads (λ v. v) result bits.old bits.new (the_coordinate there) }
 {
     if !there {
         return Ok(0);
@@ -100,9 +127,7 @@ fn coordinate(bits: &mut Bitstream<'_>, there: bool) -> Result<u32>
 impl Chromaticity {
     #[tactic(auto, unfolding(crate::specs::Colours::chromaticity))]
     fn parse(bits: &mut Bitstream<'_>, there: bool) -> Result<Chromaticity>
-        ensures gives { Reads (λ v. v) result (position_of bits.new)
-            ((chromaticity there).read (bytes_of bits.old) (position_of bits.old)) }
-        ensures bytes { bytes_of bits.new ≡ bytes_of bits.old }
+        ensures { HasRead Reads (λ v. v) result bits.old bits.new (chromaticity there) }
     {
         let x = coordinate(bits, there)?;
         let y = coordinate(bits, there)?;
@@ -110,30 +135,27 @@ impl Chromaticity {
     }
 }
 
-impl Primaries {
-    #[tactic(auto, unfolding(crate::specs::Colours::primary_colours))]
-    fn parse(bits: &mut Bitstream<'_>, there: bool) -> Result<Primaries>
-        ensures gives { Reads (λ v. v) result (position_of bits.new)
-            ((primary_colours there).read (bytes_of bits.old) (position_of bits.old)) }
-        ensures bytes { bytes_of bits.new ≡ bytes_of bits.old }
+impl CustomPrimaries {
+    #[tactic(auto, unfolding(crate::specs::Colours::custom_primaries))]
+    fn parse(bits: &mut Bitstream<'_>, there: bool) -> Result<CustomPrimaries>
+        ensures { HasRead Reads (λ v. v) result bits.old bits.new (custom_primaries there) }
     {
         let red = Chromaticity::parse(bits, there)?;
         let green = Chromaticity::parse(bits, there)?;
         let blue = Chromaticity::parse(bits, there)?;
-        Ok(Primaries { red, green, blue })
+        Ok(CustomPrimaries { red, green, blue })
     }
 }
 
 fn white_number(bits: &mut Bitstream<'_>, there: bool) -> Result<u32>
-    ensures gives { Reads (λ v. v) result (position_of bits.new)
-        ((when there (checked (codes "WhitePoint") (λ v. (v == 1) || (v == 2) || (v == 10) || (v == 11))
-        the_enumerated) 1).read (bytes_of bits.old) (position_of bits.old)) }
-    ensures bytes { bytes_of bits.new ≡ bytes_of bits.old }
+    ensures { HasRead Reads (λ v. v) result bits.old bits.new
+        (when there (number_where (codes "WhitePoint") (λ v. (v == 1) || (v == 2) || (v == 10) || (v == 11))
+        the_enum_number) 1) }
 {
     if !there {
         return Ok(1);
     }
-    let value = enumerated(bits)?;
+    let value = enum_number(bits)?;
     if value == 1 || value == 2 || value == 10 || value == 11 {
         Ok(value)
     } else {
@@ -142,29 +164,38 @@ fn white_number(bits: &mut Bitstream<'_>, there: bool) -> Result<u32>
     }
 }
 
-impl White {
-    #[tactic(auto, unfolding(crate::specs::Colours::white))]
-    fn parse(bits: &mut Bitstream<'_>, there: bool) -> Result<White>
-        ensures gives { Reads (λ v. v) result (position_of bits.new)
-            ((the_white there).read (bytes_of bits.old) (position_of bits.old)) }
-        ensures bytes { bytes_of bits.new ≡ bytes_of bits.old }
-    {
-        let number = white_number(bits, there)?;
-        let own = Chromaticity::parse(bits, number == 2)?;
-        Ok(White { number, own })
+// The white point that a number stands for, with these coordinates if it has its own.
+fn white_of(number: u32, custom: Chromaticity) -> WhitePoint
+    ensures { result ≡ the_white_of number custom }
+{
+    match number {
+        1 => WhitePoint::D65,
+        2 => WhitePoint::Custom(custom),
+        10 => WhitePoint::E,
+        _ => WhitePoint::Dci,
     }
 }
 
-fn basis_number(bits: &mut Bitstream<'_>, there: bool) -> Result<u32>
-    ensures gives { Reads (λ v. v) result (position_of bits.new)
-        ((when there (checked (codes "Primaries") (λ v. (v == 1) || (v == 2) || (v == 9) || (v == 11))
-        the_enumerated) 1).read (bytes_of bits.old) (position_of bits.old)) }
-    ensures bytes { bytes_of bits.new ≡ bytes_of bits.old }
+impl WhitePoint {
+    #[tactic(auto, unfolding(crate::specs::Colours::white_point))]
+    fn parse(bits: &mut Bitstream<'_>, there: bool) -> Result<WhitePoint>
+        ensures { HasRead Reads (λ v. v) result bits.old bits.new (white_point there) }
+    {
+        let number = white_number(bits, there)?;
+        let custom = Chromaticity::parse(bits, number == 2)?;
+        Ok(white_of(number, custom))
+    }
+}
+
+fn primaries_number(bits: &mut Bitstream<'_>, there: bool) -> Result<u32>
+    ensures { HasRead Reads (λ v. v) result bits.old bits.new
+        (when there (number_where (codes "Primaries") (λ v. (v == 1) || (v == 2) || (v == 9) || (v == 11)) the_enum_number)
+        1) }
 {
     if !there {
         return Ok(1);
     }
-    let value = enumerated(bits)?;
+    let value = enum_number(bits)?;
     if value == 1 || value == 2 || value == 9 || value == 11 {
         Ok(value)
     } else {
@@ -173,16 +204,26 @@ fn basis_number(bits: &mut Bitstream<'_>, there: bool) -> Result<u32>
     }
 }
 
-impl Basis {
-    #[tactic(auto, unfolding(crate::specs::Colours::basis))]
-    fn parse(bits: &mut Bitstream<'_>, there: bool) -> Result<Basis>
-        ensures gives { Reads (λ v. v) result (position_of bits.new)
-            ((the_basis there).read (bytes_of bits.old) (position_of bits.old)) }
-        ensures bytes { bytes_of bits.new ≡ bytes_of bits.old }
+// The primaries that a number stands for, with these coordinates if they have their own.
+fn primaries_of(number: u32, custom: CustomPrimaries) -> Primaries
+    ensures { result ≡ the_primaries_of number custom }
+{
+    match number {
+        1 => Primaries::Srgb,
+        2 => Primaries::Custom(custom),
+        9 => Primaries::Bt2100,
+        _ => Primaries::P3,
+    }
+}
+
+impl Primaries {
+    #[tactic(auto, unfolding(crate::specs::Colours::primaries))]
+    fn parse(bits: &mut Bitstream<'_>, there: bool) -> Result<Primaries>
+        ensures { HasRead Reads (λ v. v) result bits.old bits.new (primaries there) }
     {
-        let number = basis_number(bits, there)?;
-        let own = Primaries::parse(bits, number == 2)?;
-        Ok(Basis { number, own })
+        let number = primaries_number(bits, there)?;
+        let custom = CustomPrimaries::parse(bits, number == 2)?;
+        Ok(primaries_of(number, custom))
     }
 }
 
@@ -195,10 +236,9 @@ fn is_gamma(value: u32) -> bool
 
 // The exponent, or 0 where there is none.
 fn gamma(bits: &mut Bitstream<'_>, by_gamma: bool) -> Result<u32>
-    ensures gives { Reads (λ v. v) result (position_of bits.new)
-        ((when by_gamma (checked (codes "gamma") (λ v. nat_le v 10000000 && nat_le 10000000 (8192 * v))
-        (the_number 24)) 0).read (bytes_of bits.old) (position_of bits.old)) }
-    ensures bytes { bytes_of bits.new ≡ bytes_of bits.old }
+    ensures { HasRead Reads (λ v. v) result bits.old bits.new
+        (when by_gamma (number_where (codes "gamma") (λ v. nat_le v 10000000 && nat_le 10000000 (8192 * v))
+        (the_number 24)) 0) }
 {
     if !by_gamma {
         return Ok(0);
@@ -214,16 +254,14 @@ fn gamma(bits: &mut Bitstream<'_>, by_gamma: bool) -> Result<u32>
 
 // The number of a curve, by default 13.
 fn curve(bits: &mut Bitstream<'_>, there: bool) -> Result<u32>
-    ensures gives { Reads (λ v. v) result (position_of bits.new)
-        ((when there (checked (codes "TransferFunction")
-        (λ v. (v == 1) || (v == 8) || (v == 13) || (v == 16) || (v == 17) || (v == 18)) the_enumerated) 13).read
-        (bytes_of bits.old) (position_of bits.old)) }
-    ensures bytes { bytes_of bits.new ≡ bytes_of bits.old }
+    ensures { HasRead Reads (λ v. v) result bits.old bits.new
+        (when there (number_where (codes "TransferFunction")
+        (λ v. (v == 1) || (v == 8) || (v == 13) || (v == 16) || (v == 17) || (v == 18)) the_enum_number) 13) }
 {
     if !there {
         return Ok(13);
     }
-    let value = enumerated(bits)?;
+    let value = enum_number(bits)?;
     match value {
         1 | 8 | 13 | 16 | 17 | 18 => Ok(value),
         _ => {
@@ -235,63 +273,130 @@ fn curve(bits: &mut Bitstream<'_>, there: bool) -> Result<u32>
 
 // The number of a curve, or 0 where it is by an exponent.
 fn curve_if(bits: &mut Bitstream<'_>, by_gamma: bool, there: bool) -> Result<u32>
-    ensures gives { Reads (λ v. v) result (position_of bits.new)
-        ((when (not by_gamma) (when there (checked (codes "TransferFunction")
-        (λ v. (v == 1) || (v == 8) || (v == 13) || (v == 16) || (v == 17) || (v == 18)) the_enumerated) 13) 0).read
-        (bytes_of bits.old) (position_of bits.old)) }
-    ensures bytes { bytes_of bits.new ≡ bytes_of bits.old }
+    ensures { HasRead Reads (λ v. v) result bits.old bits.new
+        (when (not by_gamma) (when there (number_where (codes "TransferFunction")
+        (λ v. (v == 1) || (v == 8) || (v == 13) || (v == 16) || (v == 17) || (v == 18)) the_enum_number) 13) 0) }
 {
     if by_gamma { Ok(0) } else { curve(bits, there) }
 }
 
-impl Transfer {
-    #[tactic(auto, unfolding(crate::specs::Colours::transfer))]
-    fn parse(bits: &mut Bitstream<'_>, there: bool) -> Result<Transfer>
-        ensures gives { Reads (λ v. v) result (position_of bits.new)
-            ((the_transfer there).read (bytes_of bits.old) (position_of bits.old)) }
-        ensures bytes { bytes_of bits.new ≡ bytes_of bits.old }
+// The transfer function that a number stands for, of 0 the one with this exponent.
+fn function_of(number: u32, gamma: u32) -> TransferFunction
+    ensures { result ≡ the_function_of number gamma }
+{
+    match number {
+        0 => TransferFunction::Gamma(gamma),
+        1 => TransferFunction::Bt709,
+        8 => TransferFunction::Linear,
+        13 => TransferFunction::Srgb,
+        16 => TransferFunction::Pq,
+        17 => TransferFunction::Dci,
+        _ => TransferFunction::Hlg,
+    }
+}
+
+impl TransferFunction {
+    #[tactic(auto, unfolding(crate::specs::Colours::transfer_function))]
+    fn parse(bits: &mut Bitstream<'_>, there: bool) -> Result<TransferFunction>
+        ensures { HasRead Reads (λ v. v) result bits.old bits.new (transfer_function there) }
     {
         let by_gamma = flag_if(bits, there, false)?;
         let gamma = gamma(bits, by_gamma)?;
         let number = curve_if(bits, by_gamma, there)?;
-        Ok(Transfer { number, gamma })
+        Ok(function_of(number, gamma))
     }
 }
 
-// How colours outside a range are shown.
-fn intent(bits: &mut Bitstream<'_>, there: bool) -> Result<u32>
-    ensures gives { Reads (λ v. v) result (position_of bits.new)
-        ((when there (checked (codes "RenderingIntent") (λ v. nat_lt v 4) the_enumerated) 1).read
-        (bytes_of bits.old) (position_of bits.old)) }
-    ensures bytes { bytes_of bits.new ≡ bytes_of bits.old }
+// The rendering intent that a number stands for.
+fn intent_of(value: u32) -> Option<RenderingIntent>
+    ensures { result ≡ the_intent_of value }
 {
-    if !there {
-        return Ok(1);
-    }
-    let value = enumerated(bits)?;
-    if value < 4 {
-        Ok(value)
-    } else {
-        let name = "RenderingIntent";
-        Err(BitstreamError::InvalidEnum { name, value })
+    match value {
+        0 => Some(RenderingIntent::Perceptual),
+        1 => Some(RenderingIntent::Relative),
+        2 => Some(RenderingIntent::Saturation),
+        3 => Some(RenderingIntent::Absolute),
+        _ => None,
     }
 }
 
-fn space(bits: &mut Bitstream<'_>, there: bool, profile: bool) -> Result<u32>
-    ensures gives { Reads (λ v. v) result (position_of bits.new)
-        ((when there (checked (codes "ColourSpace") (λ v. nat_lt v 3 || (v == 3) && profile) the_enumerated) 0).read
-        (bytes_of bits.old) (position_of bits.old)) }
-    ensures bytes { bytes_of bits.new ≡ bytes_of bits.old }
-{
-    if !there {
-        return Ok(0);
+impl RenderingIntent {
+    fn parse(bits: &mut Bitstream<'_>) -> Result<RenderingIntent>
+        ensures { HasRead Reads (λ v. v) result bits.old bits.new (variant (codes "RenderingIntent") the_intent_of) }
+    {
+        let value = enum_number(bits)?;
+        match intent_of(value) {
+            Some(intent) => Ok(intent),
+            None => {
+                let name = "RenderingIntent";
+                Err(BitstreamError::InvalidEnum { name, value })
+            }
+        }
     }
-    let value = enumerated(bits)?;
-    if value < 3 || value == 3 && profile {
-        Ok(value)
-    } else {
-        let name = "ColourSpace";
-        Err(BitstreamError::InvalidEnum { name, value })
+
+    fn parse_if(bits: &mut Bitstream<'_>, there: bool) -> Result<RenderingIntent>
+        ensures { HasRead Reads (λ v. v) result bits.old bits.new
+            (when there (variant (codes "RenderingIntent") the_intent_of) Relative) }
+    {
+        if there {
+            RenderingIntent::parse(bits)
+        } else {
+            Ok(RenderingIntent::Relative)
+        }
+    }
+}
+
+// The colour space that a number stands for; one that only a profile says needs a profile.
+fn space_of(value: u32, profile: bool) -> Option<ColourSpace>
+    ensures { result ≡ the_space_of profile value }
+{
+    match value {
+        0 => Some(ColourSpace::Rgb),
+        1 => Some(ColourSpace::Grey),
+        2 => Some(ColourSpace::Xyb),
+        3 if profile => Some(ColourSpace::Unknown),
+        _ => None,
+    }
+}
+
+impl ColourSpace {
+    /// Whether it is grey, which has one channel.
+    pub fn is_grey(&self) -> bool
+        ensures { result ≡ the_is_grey self.now }
+    {
+        matches!(self, ColourSpace::Grey)
+    }
+
+    /// Whether it is XYB.
+    pub fn is_xyb(&self) -> bool
+        ensures { result ≡ the_is_xyb self.now }
+    {
+        matches!(self, ColourSpace::Xyb)
+    }
+
+    fn parse(bits: &mut Bitstream<'_>, profile: bool) -> Result<ColourSpace>
+        ensures { HasRead Reads (λ v. v) result bits.old bits.new
+            (variant (codes "ColourSpace") (the_space_of profile)) }
+    {
+        let value = enum_number(bits)?;
+        match space_of(value, profile) {
+            Some(space) => Ok(space),
+            None => {
+                let name = "ColourSpace";
+                Err(BitstreamError::InvalidEnum { name, value })
+            }
+        }
+    }
+
+    fn parse_if(bits: &mut Bitstream<'_>, there: bool, profile: bool) -> Result<ColourSpace>
+        ensures { HasRead Reads (λ v. v) result bits.old bits.new
+            (when there (variant (codes "ColourSpace") (the_space_of profile)) Rgb) }
+    {
+        if there {
+            ColourSpace::parse(bits, profile)
+        } else {
+            Ok(ColourSpace::Rgb)
+        }
     }
 }
 
@@ -299,9 +404,7 @@ impl ColourEncoding {
     /// What the samples of colours mean, as it stands at the reader's position. `InvalidEnum` for a number that names
     /// nothing, for a space that only a profile could tell where there is none, and for an exponent out of range.
     pub fn parse(bits: &mut Bitstream<'_>) -> Result<ColourEncoding>
-        ensures gives { Reads (λ v. v) result (position_of bits.new)
-            ((colour_encoding true).read (bytes_of bits.old) (position_of bits.old)) }
-        ensures bytes { bytes_of bits.new ≡ bytes_of bits.old }
+        ensures { HasRead Reads (λ v. v) result bits.old bits.new (colour_encoding true) }
     {
         ColourEncoding::parse_if(bits, true)
     }
@@ -309,24 +412,23 @@ impl ColourEncoding {
     // What the samples of colours mean, where that may be told.
     #[tactic(auto, unfolding(crate::specs::Colours::colour_encoding))]
     pub(crate) fn parse_if(bits: &mut Bitstream<'_>, there: bool) -> Result<ColourEncoding>
-        ensures gives { Reads (λ v. v) result (position_of bits.new)
-            ((colour_encoding there).read (bytes_of bits.old) (position_of bits.old)) }
-        ensures bytes { bytes_of bits.new ≡ bytes_of bits.old }
+        ensures { HasRead Reads (λ v. v) result bits.old bits.new (colour_encoding there) }
     {
-        let told = told_if(bits, there)?;
-        let profile = flag_if(bits, told, false)?;
-        let space = space(bits, told, profile)?;
-        let listed = told & !profile;
-        let white = White::parse(bits, listed & (space != 2))?;
-        let basis = Basis::parse(bits, listed & !((space == 1) | (space == 2)))?;
-        let transfer = Transfer::parse(bits, listed & (space != 2))?;
-        let intent = intent(bits, listed)?;
+        let follows = bundle_follows(bits, there)?;
+        let profile = flag_if(bits, follows, false)?;
+        let space = ColourSpace::parse_if(bits, follows, profile)?;
+        let explicit = follows & !profile;
+        let xyb = space.is_xyb();
+        let white = WhitePoint::parse(bits, explicit & !xyb)?;
+        let mixed = Primaries::parse(bits, explicit & !(space.is_grey() | xyb))?;
+        let function = TransferFunction::parse(bits, explicit & !xyb)?;
+        let intent = RenderingIntent::parse_if(bits, explicit)?;
         Ok(ColourEncoding {
             want_icc: profile,
             colour_space: space,
             white_point: white,
-            primaries: basis,
-            transfer_function: transfer,
+            primaries: mixed,
+            transfer_function: function,
             rendering_intent: intent,
         })
     }
@@ -335,9 +437,7 @@ impl ColourEncoding {
 impl ToneMapping {
     /// What the header says of brightness at the reader's position. The floats are not looked at.
     pub fn parse(bits: &mut Bitstream<'_>) -> Result<ToneMapping>
-        ensures gives { Reads (λ v. v) result (position_of bits.new)
-            ((tone_mapping true).read (bytes_of bits.old) (position_of bits.old)) }
-        ensures bytes { bytes_of bits.new ≡ bytes_of bits.old }
+        ensures { HasRead Reads (λ v. v) result bits.old bits.new (tone_mapping true) }
     {
         ToneMapping::parse_if(bits, true)
     }
@@ -345,15 +445,13 @@ impl ToneMapping {
     // What the header says of brightness, where something may be.
     #[tactic(auto, unfolding(crate::specs::Colours::tone_mapping))]
     pub(crate) fn parse_if(bits: &mut Bitstream<'_>, there: bool) -> Result<ToneMapping>
-        ensures gives { Reads (λ v. v) result (position_of bits.new)
-            ((tone_mapping there).read (bytes_of bits.old) (position_of bits.old)) }
-        ensures bytes { bytes_of bits.new ≡ bytes_of bits.old }
+        ensures { HasRead Reads (λ v. v) result bits.old bits.new (tone_mapping there) }
     {
-        let told = told_if(bits, there)?;
-        let intensity_target = number_if(bits, told, 16, 0x5BF8)?;
-        let min_nits = number_if(bits, told, 16, 0)?;
-        let relative = flag_if(bits, told, false)?;
-        let linear_below = number_if(bits, told, 16, 0)?;
+        let follows = bundle_follows(bits, there)?;
+        let intensity_target = number_if(bits, follows, 16, 0x5BF8)?;
+        let min_nits = number_if(bits, follows, 16, 0)?;
+        let relative = flag_if(bits, follows, false)?;
+        let linear_below = number_if(bits, follows, 16, 0)?;
         Ok(ToneMapping {
             intensity_target,
             min_nits,

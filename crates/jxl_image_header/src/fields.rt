@@ -1,11 +1,12 @@
 //! Fields of headers.
 
-ghost use Rattle.std.specs.Prelude.{◌≡◌, ℕ, ◌+◌, ◌-◌, ◌*◌, ◌%◌, ◌^◌, ◌<◌, ◌≤◌, IfOk, length};
-ghost use Rattle.jxlm_bits.specs.Bits.{bytes_of, position_of};
+ghost use Rattle.std.specs.Prelude.{ℕ, ◌+◌, ◌-◌, ◌*◌, ◌%◌, ◌^◌, ◌<◌, ◌≤◌, IfOk, length};
+ghost use Rattle.jxlm_bits.specs.Bits.{bytes_of};
 ghost use Rattle.jxlm_bits.specs.Grammar.{FitsU32, Reads, flag, number as the_number, u32 as the_u32};
-ghost use Rattle.jxl_image_header.specs.Fields.{groups as the_groups, long as the_long, enumerated as the_enumerated, skipped, extensions as the_extensions, name as the_name, aligned, told_if as the_told_if, when};
+ghost use Rattle.jxl_image_header.specs.Fields.{groups as the_groups, long as the_long, enum_number as the_enum_number, ignored_bytes, extensions as the_extensions, name as the_name, aligned, bundle_follows as the_bundle_follows, when};
 ghost use Rattle.jxlm_bits.specs.FieldRanges.{max_of};
-ghost use Rattle.jxl_image_header.specs.Inner.Groups.{group_bound, grouped as the_grouped, extension_bits as the_extension_bits, skipped_bits};
+ghost use Rattle.jxl_image_header.specs.Inner.Groups.{group_bound, grouped as the_grouped, extension_bits as the_extension_bits, ignored_bits};
+ghost use Rattle.jxl_image_header.specs.Reading.{HasRead};
 
 use jxlm_bits::bits::{Bitstream, BitstreamError, U32Spec};
 
@@ -16,10 +17,8 @@ pub type Result<T> = std::result::Result<T, BitstreamError>;
 /// A number of n bits, at most 32.
 pub fn number(bits: &mut Bitstream<'_>, n: u32) -> Result<u32>
     requires { n ≤ 32 }
-    ensures gives { Reads (λ v. v) result (position_of bits.new)
-        ((the_number n).read (bytes_of bits.old) (position_of bits.old)) }
+    ensures reads { HasRead Reads (λ v. v) result bits.old bits.new (the_number n) }
     ensures below { IfOk result (λ v. v < 2 ^ n) }
-    ensures bytes { bytes_of bits.new ≡ bytes_of bits.old }
 {
     bits.read_bits(n)
 }
@@ -33,19 +32,15 @@ pub fn field(
     d3: U32Spec,
 ) -> Result<u32>
     requires fits { FitsU32 d0 × FitsU32 d1 × FitsU32 d2 × FitsU32 d3 }
-    ensures gives { Reads (λ v. v) result (position_of bits.new)
-        ((the_u32 d0 d1 d2 d3).read (bytes_of bits.old) (position_of bits.old)) }
+    ensures reads { HasRead Reads (λ v. v) result bits.old bits.new (the_u32 d0 d1 d2 d3) }
     ensures maximum { IfOk result (λ v. v ≤ max_of d0 d1 d2 d3) }
-    ensures bytes { bytes_of bits.new ≡ bytes_of bits.old }
 {
     bits.read_u32(d0, d1, d2, d3)
 }
 
 /// A flag where it is there, and else `usual`.
 pub fn flag_if(bits: &mut Bitstream<'_>, there: bool, usual: bool) -> Result<bool>
-    ensures gives { Reads (λ v. v) result (position_of bits.new)
-        ((when there flag usual).read (bytes_of bits.old) (position_of bits.old)) }
-    ensures bytes { bytes_of bits.new ≡ bytes_of bits.old }
+    ensures { HasRead Reads (λ v. v) result bits.old bits.new (when there flag usual) }
 {
     if there { bits.read_bool() } else { Ok(usual) }
 }
@@ -54,19 +49,15 @@ pub fn flag_if(bits: &mut Bitstream<'_>, there: bool, usual: bool) -> Result<boo
 pub fn number_if(bits: &mut Bitstream<'_>, there: bool, n: u32, usual: u32) -> Result<u32>
     requires n { n ≤ 32 }
     requires usual { usual < 2 ^ n }
-    ensures gives { Reads (λ v. v) result (position_of bits.new)
-        ((when there (the_number n) usual).read (bytes_of bits.old) (position_of bits.old)) }
+    ensures reads { HasRead Reads (λ v. v) result bits.old bits.new (when there (the_number n) usual) }
     ensures below { IfOk result (λ v. v < 2 ^ n) }
-    ensures bytes { bytes_of bits.new ≡ bytes_of bits.old }
 {
     if there { number(bits, n) } else { Ok(usual) }
 }
 
 /// Whether a bundle is coded: it may be there, and its first bit does not say that all of it is as by default.
-pub fn told_if(bits: &mut Bitstream<'_>, there: bool) -> Result<bool>
-    ensures gives { Reads (λ v. v) result (position_of bits.new)
-        ((the_told_if there).read (bytes_of bits.old) (position_of bits.old)) }
-    ensures bytes { bytes_of bits.new ≡ bytes_of bits.old }
+pub fn bundle_follows(bits: &mut Bitstream<'_>, there: bool) -> Result<bool>
+    ensures { HasRead Reads (λ v. v) result bits.old bits.new (the_bundle_follows there) }
 {
     if !there {
         return Ok(false);
@@ -78,10 +69,8 @@ pub fn told_if(bits: &mut Bitstream<'_>, there: bool) -> Result<bool>
 // `n` groups of a `U64` and its last one.
 fn groups(bits: &mut Bitstream<'_>, n: u32) -> Result<u64>
     requires { n ≤ 6 }
-    ensures gives { Reads (λ v. v) result (position_of bits.new)
-        ((the_groups n).read (bytes_of bits.old) (position_of bits.old)) }
+    ensures reads { HasRead Reads (λ v. v) result bits.old bits.new (the_groups n) }
     ensures below { IfOk result (λ v. v < group_bound n) }
-    ensures bytes { bytes_of bits.new ≡ bytes_of bits.old }
 {
     let more = bits.read_bool()?;
     if more {
@@ -97,9 +86,7 @@ fn groups(bits: &mut Bitstream<'_>, n: u32) -> Result<u64>
 
 // A `U64` that has groups, after the two bits that say so.
 fn grouped(bits: &mut Bitstream<'_>) -> Result<u64>
-    ensures gives { Reads (λ v. v) result (position_of bits.new)
-        (the_grouped.read (bytes_of bits.old) (position_of bits.old)) }
-    ensures bytes { bytes_of bits.new ≡ bytes_of bits.old }
+    ensures { HasRead Reads (λ v. v) result bits.old bits.new the_grouped }
 {
     let value = number(bits, 12)?;
     let rest = groups(bits, 6)?;
@@ -109,9 +96,7 @@ fn grouped(bits: &mut Bitstream<'_>) -> Result<u64>
 /// A `U64`.
 #[tactic(auto, unfolding(crate::specs::Fields::long))]
 pub fn long(bits: &mut Bitstream<'_>) -> Result<u64>
-    ensures gives { Reads (λ v. v) result (position_of bits.new)
-        (the_long.read (bytes_of bits.old) (position_of bits.old)) }
-    ensures bytes { bytes_of bits.new ≡ bytes_of bits.old }
+    ensures { HasRead Reads (λ v. v) result bits.old bits.new the_long }
 {
     let selector = number(bits, 2)?;
     if selector == 0 {
@@ -128,19 +113,15 @@ pub fn long(bits: &mut Bitstream<'_>) -> Result<u64>
 
 /// A `U64` where it is there, and else 0.
 pub fn long_if(bits: &mut Bitstream<'_>, there: bool) -> Result<u64>
-    ensures gives { Reads (λ v. v) result (position_of bits.new)
-        ((when there the_long 0).read (bytes_of bits.old) (position_of bits.old)) }
-    ensures bytes { bytes_of bits.new ≡ bytes_of bits.old }
+    ensures { HasRead Reads (λ v. v) result bits.old bits.new (when there the_long 0) }
 {
     if there { long(bits) } else { Ok(0) }
 }
 
 /// The number of an enumeration, at most 81, before it is known to mean something.
-#[tactic(auto, unfolding(crate::specs::Fields::enumerated))]
-pub fn enumerated(bits: &mut Bitstream<'_>) -> Result<u32>
-    ensures gives { Reads (λ v. v) result (position_of bits.new)
-        (the_enumerated.read (bytes_of bits.old) (position_of bits.old)) }
-    ensures bytes { bytes_of bits.new ≡ bytes_of bits.old }
+#[tactic(auto, unfolding(crate::specs::Fields::enum_number))]
+pub fn enum_number(bits: &mut Bitstream<'_>) -> Result<u32>
+    ensures { HasRead Reads (λ v. v) result bits.old bits.new the_enum_number }
 {
     bits.read_u32(
         U32Spec::Const(0),
@@ -152,9 +133,7 @@ pub fn enumerated(bits: &mut Bitstream<'_>) -> Result<u32>
 
 // Passes `count` bits; where there are fewer, the reader stays.
 fn skip_bits(bits: &mut Bitstream<'_>, count: u128) -> Result<()>
-    ensures gives { Reads (λ v. v) result (position_of bits.new)
-        ((skipped_bits count).read (bytes_of bits.old) (position_of bits.old)) }
-    ensures bytes { bytes_of bits.new ≡ bytes_of bits.old }
+    ensures { HasRead Reads (λ v. v) result bits.old bits.new (ignored_bits count) }
 {
     let mut after = *bits;
     let mut left = count;
@@ -169,18 +148,14 @@ fn skip_bits(bits: &mut Bitstream<'_>, count: u128) -> Result<()>
 
 /// Passes `count` bytes, from any bit on; where there are fewer, the reader stays.
 pub fn skip(bits: &mut Bitstream<'_>, count: u32) -> Result<()>
-    ensures gives { Reads (λ v. v) result (position_of bits.new)
-        ((skipped count).read (bytes_of bits.old) (position_of bits.old)) }
-    ensures bytes { bytes_of bits.new ≡ bytes_of bits.old }
+    ensures { HasRead Reads (λ v. v) result bits.old bits.new (ignored_bytes count) }
 {
     skip_bits(bits, 8 * u128::from(count))
 }
 
 /// Passes `count` bytes where they are there, as [`skip`] does.
 pub fn skip_if(bits: &mut Bitstream<'_>, there: bool, count: u32) -> Result<()>
-    ensures gives { Reads (λ v. v) result (position_of bits.new)
-        ((when there (skipped count) tt).read (bytes_of bits.old) (position_of bits.old)) }
-    ensures bytes { bytes_of bits.new ≡ bytes_of bits.old }
+    ensures { HasRead Reads (λ v. v) result bits.old bits.new (when there (ignored_bytes count) tt) }
 {
     if there { skip(bits, count) } else { Ok(()) }
 }
@@ -188,9 +163,7 @@ pub fn skip_if(bits: &mut Bitstream<'_>, there: bool, count: u32) -> Result<()>
 // How many bits `count` extensions have.
 fn extension_bits(bits: &mut Bitstream<'_>, count: u32) -> Result<u128>
     requires few { count ≤ 64 }
-    ensures gives { Reads (λ v. v) result (position_of bits.new)
-        ((the_extension_bits count).read (bytes_of bits.old) (position_of bits.old)) }
-    ensures bytes { bytes_of bits.new ≡ bytes_of bits.old }
+    ensures { HasRead Reads (λ v. v) result bits.old bits.new (the_extension_bits count) }
 {
     let mut total = 0u128;
     for _ in 0..count {
@@ -203,9 +176,7 @@ fn extension_bits(bits: &mut Bitstream<'_>, count: u32) -> Result<u128>
 /// Passes extensions: a bit for each that there is.
 #[tactic(auto, unfolding(crate::specs::Fields::extensions))]
 pub fn extensions(bits: &mut Bitstream<'_>) -> Result<u64>
-    ensures gives { Reads (λ v. v) result (position_of bits.new)
-        (the_extensions.read (bytes_of bits.old) (position_of bits.old)) }
-    ensures bytes { bytes_of bits.new ≡ bytes_of bits.old }
+    ensures { HasRead Reads (λ v. v) result bits.old bits.new the_extensions }
 {
     let mask = long(bits)?;
     let count = extension_bits(bits, mask.count_ones())?;
@@ -215,9 +186,7 @@ pub fn extensions(bits: &mut Bitstream<'_>) -> Result<u64>
 
 /// Passes extensions where they are there; else there are none, and it returns 0.
 pub fn extensions_if(bits: &mut Bitstream<'_>, there: bool) -> Result<u64>
-    ensures gives { Reads (λ v. v) result (position_of bits.new)
-        ((when there the_extensions 0).read (bytes_of bits.old) (position_of bits.old)) }
-    ensures bytes { bytes_of bits.new ≡ bytes_of bits.old }
+    ensures { HasRead Reads (λ v. v) result bits.old bits.new (when there the_extensions 0) }
 {
     if there { extensions(bits) } else { Ok(0) }
 }
@@ -225,9 +194,7 @@ pub fn extensions_if(bits: &mut Bitstream<'_>, there: bool) -> Result<u64>
 /// Passes a name: how many bytes it has, at most 1071.
 #[tactic(auto, unfolding(crate::specs::Fields::name))]
 pub fn name(bits: &mut Bitstream<'_>) -> Result<u32>
-    ensures gives { Reads (λ v. v) result (position_of bits.new)
-        (the_name.read (bytes_of bits.old) (position_of bits.old)) }
-    ensures bytes { bytes_of bits.new ≡ bytes_of bits.old }
+    ensures { HasRead Reads (λ v. v) result bits.old bits.new the_name }
 {
     let count = bits.read_u32(
         U32Spec::Const(0),
@@ -241,9 +208,7 @@ pub fn name(bits: &mut Bitstream<'_>) -> Result<u32>
 
 /// Passes a name where it is there; else it has no bytes.
 pub fn name_if(bits: &mut Bitstream<'_>, there: bool) -> Result<u32>
-    ensures gives { Reads (λ v. v) result (position_of bits.new)
-        ((when there the_name 0).read (bytes_of bits.old) (position_of bits.old)) }
-    ensures bytes { bytes_of bits.new ≡ bytes_of bits.old }
+    ensures { HasRead Reads (λ v. v) result bits.old bits.new (when there the_name 0) }
 {
     if there { name(bits) } else { Ok(0) }
 }
@@ -252,9 +217,7 @@ pub fn name_if(bits: &mut Bitstream<'_>, there: bool) -> Result<u32>
 #[tactic(auto, unfolding(crate::specs::Fields::aligned))]
 pub fn align(bits: &mut Bitstream<'_>) -> Result<u32>
     requires { 8 * length (bytes_of bits.old) < 2 ^ 64 }
-    ensures gives { Reads (λ v. v) result (position_of bits.new)
-        (aligned.read (bytes_of bits.old) (position_of bits.old)) }
-    ensures bytes { bytes_of bits.new ≡ bytes_of bits.old }
+    ensures { HasRead Reads (λ v. v) result bits.old bits.new aligned }
 {
     let within = (bits.position() % 8) as u32;
     let value = bits.read_bits((8 - within) % 8)?;

@@ -1,19 +1,18 @@
 //! The image header.
 
 ghost use Rattle.std.specs.Prelude.{◌≡◌, ◌==◌, ◌&&◌, not, if◌then◌else◌, Some, None, [], codes};
-ghost use Rattle.jxlm_bits.specs.Bits.{bytes_of, position_of};
 ghost use Rattle.jxlm_bits.specs.Grammar.{Reads, number as the_number, repeated};
 ghost use Rattle.jxl_image_header.specs.Channels.{extra_channel};
-ghost use Rattle.jxl_image_header.specs.Fields.{checked, optional, when};
+ghost use Rattle.jxl_image_header.specs.Fields.{number_where, optional, when};
 ghost use Rattle.jxl_image_header.specs.Inner.Groups.{extra_channels as the_extra_channels, weights as the_weights};
 ghost use Rattle.jxl_image_header.specs.Sizes.{size as the_size};
 ghost use Rattle.jxl_image_header.specs.Images.{image_of, animation as the_animation, matrices as the_matrices, image_header, channels_refusal as the_channels_refusal, image_refusal};
 ghost use Rattle.jxl_image_header.specs.declared.refusal.Refusal.TheVariants.{Xyb};
-ghost use Rattle.jxl_image_header.specs.Reading.{Parses};
+ghost use Rattle.jxl_image_header.specs.Reading.{HasRead, Parses};
 
 use crate::channel::{BitDepth, ExtraChannel};
 use crate::colour::{ColourEncoding, ToneMapping};
-use crate::fields::{Result, extensions_if, flag_if, number, number_if, skip_if, told_if};
+use crate::fields::{Result, bundle_follows, extensions_if, flag_if, number, number_if, skip_if};
 use crate::refusal::Refusal;
 use crate::size::{Size, read_size};
 use jxlm_bits::bits::{Bitstream, BitstreamError, U32Spec};
@@ -32,30 +31,24 @@ pub struct Animation {
     pub have_timecodes: bool,
 }
 
-/// How the image is to be shown.
-#[derive(Clone, Copy)]
-pub struct Display {
+/// What the headers say of an image before its frames.
+#[derive(Drop)]
+pub struct ImageHeader {
+    pub size: Size,
     /// From 1, as it is, to 8: mirrored or turned, as Exif numbers it.
     pub orientation: u32,
-    /// At which size it is to be shown.
+    /// At which size the image is to be shown.
     pub intrinsic_size: Option<Size>,
     /// The size of a smaller picture that comes first.
     pub preview: Option<Size>,
     /// When its pictures change.
     pub animation: Option<Animation>,
-}
-
-/// How the samples of colours are stored.
-#[derive(Clone, Copy)]
-pub struct Samples {
+    /// How the samples of colours are stored.
     pub bit_depth: BitDepth,
     /// Whether 16 bits are enough for each number while it is decoded.
     pub modular_16bit_buffers: bool,
-}
-
-/// What samples mean.
-#[derive(Clone, Copy)]
-pub struct Shown {
+    /// The channels beside the colours.
+    pub ec_info: Vec<ExtraChannel>,
     /// Whether colours are stored as XYB.
     pub xyb_encoded: bool,
     pub colour_encoding: ColourEncoding,
@@ -64,21 +57,8 @@ pub struct Shown {
     pub extensions: u64,
 }
 
-/// What the headers say of an image before its frames.
-#[derive(Drop)]
-pub struct ImageHeader {
-    pub size: Size,
-    pub display: Display,
-    pub samples: Samples,
-    /// The channels beside the colours.
-    pub ec_info: Vec<ExtraChannel>,
-    pub shown: Shown,
-}
-
 fn optional_size(bits: &mut Bitstream<'_>, preview: bool) -> Result<Option<Size>>
-    ensures gives { Reads (λ v. v) result (position_of bits.new)
-        ((optional (the_size preview)).read (bytes_of bits.old) (position_of bits.old)) }
-    ensures bytes { bytes_of bits.new ≡ bytes_of bits.old }
+    ensures { HasRead Reads (λ v. v) result bits.old bits.new (optional (the_size preview)) }
 {
     if !bits.read_bool()? {
         return Ok(None);
@@ -88,9 +68,7 @@ fn optional_size(bits: &mut Bitstream<'_>, preview: bool) -> Result<Option<Size>
 }
 
 fn size_if(bits: &mut Bitstream<'_>, there: bool, preview: bool) -> Result<Option<Size>>
-    ensures gives { Reads (λ v. v) result (position_of bits.new)
-        ((when there (optional (the_size preview)) None).read (bytes_of bits.old) (position_of bits.old)) }
-    ensures bytes { bytes_of bits.new ≡ bytes_of bits.old }
+    ensures { HasRead Reads (λ v. v) result bits.old bits.new (when there (optional (the_size preview)) None) }
 {
     if there {
         optional_size(bits, preview)
@@ -102,9 +80,7 @@ fn size_if(bits: &mut Bitstream<'_>, there: bool, preview: bool) -> Result<Optio
 impl Animation {
     #[tactic(auto, unfolding(crate::specs::Images::animation))]
     fn parse(bits: &mut Bitstream<'_>) -> Result<Animation>
-        ensures gives { Reads (λ v. v) result (position_of bits.new)
-            (the_animation.read (bytes_of bits.old) (position_of bits.old)) }
-        ensures bytes { bytes_of bits.new ≡ bytes_of bits.old }
+        ensures { HasRead Reads (λ v. v) result bits.old bits.new the_animation }
     {
         let numerator = bits.read_u32(
             U32Spec::Const(100),
@@ -134,9 +110,7 @@ impl Animation {
     }
 
     fn optional(bits: &mut Bitstream<'_>) -> Result<Option<Animation>>
-        ensures gives { Reads (λ v. v) result (position_of bits.new)
-            ((optional the_animation).read (bytes_of bits.old) (position_of bits.old)) }
-        ensures bytes { bytes_of bits.new ≡ bytes_of bits.old }
+        ensures { HasRead Reads (λ v. v) result bits.old bits.new (optional the_animation) }
     {
         if !bits.read_bool()? {
             return Ok(None);
@@ -146,9 +120,7 @@ impl Animation {
     }
 
     fn optional_if(bits: &mut Bitstream<'_>, there: bool) -> Result<Option<Animation>>
-        ensures gives { Reads (λ v. v) result (position_of bits.new)
-            ((when there (optional the_animation) None).read (bytes_of bits.old) (position_of bits.old)) }
-        ensures bytes { bytes_of bits.new ≡ bytes_of bits.old }
+        ensures { HasRead Reads (λ v. v) result bits.old bits.new (when there (optional the_animation) None) }
     {
         if there {
             Animation::optional(bits)
@@ -164,9 +136,7 @@ fn read_channels(
     bits: &mut Bitstream<'_>,
     count: u32,
 ) -> error::Result<Vec<ExtraChannel>>
-    ensures gives { Parses (λ v. v.items) result (position_of bits.new)
-        ((repeated count extra_channel).read (bytes_of bits.old) (position_of bits.old)) }
-    ensures bytes { bytes_of bits.new ≡ bytes_of bits.old }
+    ensures { HasRead Parses (λ v. v.items) result bits.old bits.new (repeated count extra_channel) }
 {
     let mut channels = Vec::new(alloc);
     for _ in 0..count {
@@ -177,9 +147,7 @@ fn read_channels(
 }
 
 fn extra_channels(alloc: Global, bits: &mut Bitstream<'_>) -> error::Result<Vec<ExtraChannel>>
-    ensures gives { Parses (λ v. v.items) result (position_of bits.new)
-        (the_extra_channels.read (bytes_of bits.old) (position_of bits.old)) }
-    ensures bytes { bytes_of bits.new ≡ bytes_of bits.old }
+    ensures { HasRead Parses (λ v. v.items) result bits.old bits.new the_extra_channels }
 {
     let count = bits.read_u32(
         U32Spec::Const(0),
@@ -195,9 +163,7 @@ fn channels_if(
     bits: &mut Bitstream<'_>,
     there: bool,
 ) -> error::Result<Vec<ExtraChannel>>
-    ensures gives { Parses (λ v. v.items) result (position_of bits.new)
-        ((when there the_extra_channels []).read (bytes_of bits.old) (position_of bits.old)) }
-    ensures bytes { bytes_of bits.new ≡ bytes_of bits.old }
+    ensures { HasRead Parses (λ v. v.items) result bits.old bits.new (when there the_extra_channels []) }
 {
     if there {
         extra_channels(alloc, bits)
@@ -208,9 +174,7 @@ fn channels_if(
 
 // Passes those weights of upsampling that are there.
 fn weights(bits: &mut Bitstream<'_>, first: bool, second: bool, third: bool) -> Result<()>
-    ensures gives { Reads (λ v. v) result (position_of bits.new)
-        ((the_weights first second third).read (bytes_of bits.old) (position_of bits.old)) }
-    ensures bytes { bytes_of bits.new ≡ bytes_of bits.old }
+    ensures { HasRead Reads (λ v. v) result bits.old bits.new (the_weights first second third) }
 {
     skip_if(bits, first, 30)?;
     skip_if(bits, second, 110)?;
@@ -220,22 +184,18 @@ fn weights(bits: &mut Bitstream<'_>, first: bool, second: bool, third: bool) -> 
 // The matrix of XYB, and the weights of upsampling that a mask says are there.
 #[tactic(auto, unfolding(crate::specs::Images::matrices))]
 fn matrices(bits: &mut Bitstream<'_>, xyb: bool) -> Result<()>
-    ensures gives { Reads (λ v. v) result (position_of bits.new)
-        ((the_matrices xyb).read (bytes_of bits.old) (position_of bits.old)) }
-    ensures bytes { bytes_of bits.new ≡ bytes_of bits.old }
+    ensures { HasRead Reads (λ v. v) result bits.old bits.new (the_matrices xyb) }
 {
-    let told = told_if(bits, true)?;
-    let opsin = told_if(bits, told & xyb)?;
+    let follows = bundle_follows(bits, true)?;
+    let opsin = bundle_follows(bits, follows & xyb)?;
     skip_if(bits, opsin, 32)?;
-    let mask = number_if(bits, told, 3, 0)?;
+    let mask = number_if(bits, follows, 3, 0)?;
     weights(bits, mask % 2 == 1, mask / 2 % 2 == 1, mask / 4 == 1)
 }
 
 fn signature(bits: &mut Bitstream<'_>) -> Result<u32>
-    ensures gives { Reads (λ v. v) result (position_of bits.new)
-        ((checked (codes "signature") (λ v. v == 0x0AFF) (the_number 16)).read
-        (bytes_of bits.old) (position_of bits.old)) }
-    ensures bytes { bytes_of bits.new ≡ bytes_of bits.old }
+    ensures { HasRead Reads (λ v. v) result bits.old bits.new
+        (number_where (codes "signature") (λ v. v == 0x0AFF) (the_number 16)) }
 {
     let value = number(bits, 16)?;
     if value == 0x0AFF {
@@ -283,46 +243,37 @@ impl ImageHeader {
     /// that has no meaning, which names the field. `Buffer` if it is out of memory, at any extra channel.
     #[tactic(auto, unfolding(crate::specs::Images::image_header))]
     pub fn parse(alloc: Global, bits: &mut Bitstream<'_>) -> error::Result<ImageHeader>
-        ensures gives { Parses image_of result (position_of bits.new)
-            (image_header.read (bytes_of bits.old) (position_of bits.old)) }
-        ensures bytes { bytes_of bits.new ≡ bytes_of bits.old }
+        ensures { HasRead Parses image_of result bits.old bits.new image_header }
     {
         signature(bits)?;
         let size = read_size(bits, false)?;
-        let told = told_if(bits, true)?;
-        let more = flag_if(bits, told, false)?;
+        let follows = bundle_follows(bits, true)?;
+        let more = flag_if(bits, follows, false)?;
         let orientation = number_if(bits, more, 3, 0)?;
         let intrinsic = size_if(bits, more, false)?;
         let preview = size_if(bits, more, true)?;
         let animation = Animation::optional_if(bits, more)?;
-        let depth = BitDepth::parse_if(bits, told)?;
-        let narrow = flag_if(bits, told, true)?;
-        let extra = channels_if(alloc, bits, told)?;
-        let xyb = flag_if(bits, told, true)?;
-        let colour = ColourEncoding::parse_if(bits, told)?;
+        let depth = BitDepth::parse_if(bits, follows)?;
+        let narrow = flag_if(bits, follows, true)?;
+        let extra = channels_if(alloc, bits, follows)?;
+        let xyb = flag_if(bits, follows, true)?;
+        let colour = ColourEncoding::parse_if(bits, follows)?;
         let tone = ToneMapping::parse_if(bits, more)?;
-        let extensions = extensions_if(bits, told)?;
+        let extensions = extensions_if(bits, follows)?;
         matrices(bits, xyb)?;
-        let orientation = orientation + 1;
         Ok(ImageHeader {
             size,
-            display: Display {
-                orientation,
-                intrinsic_size: intrinsic,
-                preview,
-                animation,
-            },
-            samples: Samples {
-                bit_depth: depth,
-                modular_16bit_buffers: narrow,
-            },
+            orientation: orientation + 1,
+            intrinsic_size: intrinsic,
+            preview,
+            animation,
+            bit_depth: depth,
+            modular_16bit_buffers: narrow,
             ec_info: extra,
-            shown: Shown {
-                xyb_encoded: xyb,
-                colour_encoding: colour,
-                tone_mapping: tone,
-                extensions,
-            },
+            xyb_encoded: xyb,
+            colour_encoding: colour,
+            tone_mapping: tone,
+            extensions,
         })
     }
 
@@ -330,14 +281,14 @@ impl ImageHeader {
     pub fn refused(&self) -> Option<Refusal>
         ensures { result ≡ image_refusal (image_of self.now) }
     {
-        if self.display.preview.is_some() {
+        if self.preview.is_some() {
             Some(Refusal::Preview)
-        } else if self.display.animation.is_some() {
+        } else if self.animation.is_some() {
             Some(Refusal::Animation)
-        } else if is_other_float(self.samples.bit_depth) {
+        } else if is_other_float(self.bit_depth) {
             Some(Refusal::FloatDepth)
         } else {
-            channels_refusal(&self.ec_info).or(xyb_refusal(self.shown.xyb_encoded))
+            channels_refusal(&self.ec_info).or(xyb_refusal(self.xyb_encoded))
         }
     }
 }

@@ -1,10 +1,10 @@
 //! Sizes of pictures.
 
 ghost use Rattle.std.specs.Prelude.{◌≡◌, ◌*◌, ◌^◌, ◌≤◌, ◌==◌, IfOk};
-ghost use Rattle.jxlm_bits.specs.Bits.{bytes_of, position_of};
 ghost use Rattle.jxlm_bits.specs.Grammar.{Reads, either, give};
 ghost use Rattle.jxl_image_header.specs.Inner.Sides.{image_side as the_image_side, preview_side as the_preview_side};
 ghost use Rattle.jxl_image_header.specs.Sizes.{side as the_side, width_at, size as the_size};
+ghost use Rattle.jxl_image_header.specs.Reading.{HasRead};
 
 use crate::fields::{Result, field, number};
 use jxlm_bits::bits::{Bitstream, U32Spec};
@@ -19,10 +19,8 @@ pub struct Size {
 }
 
 fn image_side(bits: &mut Bitstream<'_>, small: bool) -> Result<u32>
-    ensures gives { Reads (λ v. v) result (position_of bits.new)
-        ((the_image_side small).read (bytes_of bits.old) (position_of bits.old)) }
+    ensures reads { HasRead Reads (λ v. v) result bits.old bits.new (the_image_side small) }
     ensures most { IfOk result (λ v. v ≤ 2 ^ 30) }
-    ensures bytes { bytes_of bits.new ≡ bytes_of bits.old }
 {
     if small {
         Ok(8 * (number(bits, 5)? + 1))
@@ -38,10 +36,8 @@ fn image_side(bits: &mut Bitstream<'_>, small: bool) -> Result<u32>
 }
 
 fn preview_side(bits: &mut Bitstream<'_>, eighths: bool) -> Result<u32>
-    ensures gives { Reads (λ v. v) result (position_of bits.new)
-        ((the_preview_side eighths).read (bytes_of bits.old) (position_of bits.old)) }
+    ensures reads { HasRead Reads (λ v. v) result bits.old bits.new (the_preview_side eighths) }
     ensures most { IfOk result (λ v. v ≤ 2 ^ 30) }
-    ensures bytes { bytes_of bits.new ≡ bytes_of bits.old }
 {
     if eighths {
         let eighth = field(
@@ -65,10 +61,8 @@ fn preview_side(bits: &mut Bitstream<'_>, eighths: bool) -> Result<u32>
 
 #[tactic(auto, unfolding(crate::specs::Sizes::side))]
 fn side(bits: &mut Bitstream<'_>, preview: bool, short: bool) -> Result<u32>
-    ensures gives { Reads (λ v. v) result (position_of bits.new)
-        ((the_side preview short).read (bytes_of bits.old) (position_of bits.old)) }
+    ensures reads { HasRead Reads (λ v. v) result bits.old bits.new (the_side preview short) }
     ensures most { IfOk result (λ v. v ≤ 2 ^ 30) }
-    ensures bytes { bytes_of bits.new ≡ bytes_of bits.old }
 {
     if preview {
         preview_side(bits, short)
@@ -109,10 +103,8 @@ fn read_width(
     height: u32,
 ) -> Result<u32>
     requires { height ≤ 2 ^ 30 }
-    ensures gives { Reads (λ v. v) result (position_of bits.new)
-        ((either (ratio == 0) (the_side preview short) (give (width_at ratio height))).read
-        (bytes_of bits.old) (position_of bits.old)) }
-    ensures bytes { bytes_of bits.new ≡ bytes_of bits.old }
+    ensures { HasRead Reads (λ v. v) result bits.old bits.new
+        (either (ratio == 0) (the_side preview short) (give (width_at ratio height))) }
 {
     if ratio == 0 {
         return side(bits, preview, short);
@@ -123,9 +115,7 @@ fn read_width(
 /// The size of the picture, or of a preview.
 #[tactic(auto, unfolding(crate::specs::Sizes::size))]
 pub fn read_size(bits: &mut Bitstream<'_>, preview: bool) -> Result<Size>
-    ensures gives { Reads (λ v. v) result (position_of bits.new)
-        ((the_size preview).read (bytes_of bits.old) (position_of bits.old)) }
-    ensures bytes { bytes_of bits.new ≡ bytes_of bits.old }
+    ensures { HasRead Reads (λ v. v) result bits.old bits.new (the_size preview) }
 {
     let short = bits.read_bool()?;
     let height = side(bits, preview, short)?;

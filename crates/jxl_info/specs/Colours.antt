@@ -1,12 +1,16 @@
 -- The line of colours.
 use Rattle.std.specs.Prelude.{ℕ, ◌+◌, ◌/◌, ◌%◌, ◌==◌, ◌||◌, List, [], ◌++◌, if◌then◌else◌, codes}
 use Rattle.std.specs.Fmt.{decimal}
-use Rattle.jxl_image_header.specs.declared.colour.Basis.{Basis}
+use Rattle.jxl_image_header.specs.Colours.{is_grey, is_xyb}
 use Rattle.jxl_image_header.specs.declared.colour.Chromaticity.{Chromaticity}
 use Rattle.jxl_image_header.specs.declared.colour.ColourEncoding.{ColourEncoding}
-use Rattle.jxl_image_header.specs.declared.colour.Transfer.{Transfer}
-use Rattle.jxl_image_header.specs.declared.colour.White.{White}
-use Rattle.jxl_info.specs.Names.{basis_name, curve_name, intent_name, space_name, white_name}
+use Rattle.jxl_image_header.specs.declared.colour.Primaries.{Primaries}
+use Rattle.jxl_image_header.specs.declared.colour.Primaries.TheVariants as primary_sets
+use Rattle.jxl_image_header.specs.declared.colour.TransferFunction.{TransferFunction}
+use Rattle.jxl_image_header.specs.declared.colour.TransferFunction.TheVariants as functions
+use Rattle.jxl_image_header.specs.declared.colour.WhitePoint.{WhitePoint}
+use Rattle.jxl_image_header.specs.declared.colour.WhitePoint.TheVariants as whites
+use Rattle.jxl_info.specs.Names.{intent_name, space_name}
 
 -- three digits of a number below 1000, and six of one below a million
 unfoldable pub three_digits : ℕ → List ℕ
@@ -26,26 +30,36 @@ coordinate_text v = if v % 2 == 0 then millionths (v / 2) else codes "-" ++ mill
 unfoldable pub point_text : Chromaticity → List ℕ
 point_text c = codes "(x=" ++ coordinate_text c.x ++ codes ",y=" ++ coordinate_text c.y ++ codes ")"
 
-unfoldable pub white_text : White → List ℕ
-white_text w = if w.number == 2 then codes "Custom, white_point" ++ point_text w.own else white_name w.number
+unfoldable pub white_text : WhitePoint → List ℕ
+white_text whites.D65 = codes "D65"
+white_text (whites.Custom point) = codes "Custom, white_point" ++ point_text point
+white_text whites.E = codes "E"
+white_text whites.Dci = codes "P3"
 
-unfoldable pub basis_text : Basis → List ℕ
-basis_text b =
-    if b.number == 2 then codes "Custom primaries: red" ++ point_text b.own.red ++ codes ", green" ++ point_text b.own.green ++ codes ", blue" ++ point_text b.own.blue
-    else basis_name b.number ++ codes " primaries"
+unfoldable pub primaries_text : Primaries → List ℕ
+primaries_text primary_sets.Srgb = codes "sRGB primaries"
+primaries_text (primary_sets.Custom c) =
+    codes "Custom primaries: red" ++ point_text c.red ++ codes ", green" ++ point_text c.green ++ codes ", blue" ++ point_text c.blue
+primaries_text primary_sets.Bt2100 = codes "Rec.2100 primaries"
+primaries_text primary_sets.P3 = codes "P3 primaries"
 
 -- an exponent stands in ten millionths, with seven digits after the point
-unfoldable pub transfer_text : Transfer → List ℕ
-transfer_text t =
-    if t.number == 0 then codes "gamma(" ++ millionths (t.gamma / 10) ++ decimal (t.gamma % 10) ++ codes ")" else curve_name t.number
+unfoldable pub transfer_text : TransferFunction → List ℕ
+transfer_text (functions.Gamma exponent) = codes "gamma(" ++ millionths (exponent / 10) ++ decimal (exponent % 10) ++ codes ")"
+transfer_text functions.Bt709 = codes "709"
+transfer_text functions.Linear = codes "Linear"
+transfer_text functions.Srgb = codes "sRGB"
+transfer_text functions.Pq = codes "PQ"
+transfer_text functions.Dci = codes "DCI"
+transfer_text functions.Hlg = codes "HLG"
 
 -- grey mixes no colours, and XYB has its own white, colours and curve
 unfoldable pub mixed_text : ColourEncoding → List ℕ
-mixed_text c = if c.colour_space == 1 then [] else codes ", " ++ basis_text c.primaries
+mixed_text c = if is_grey c.colour_space then [] else codes ", " ++ primaries_text c.primaries
 
 unfoldable pub light_text : ColourEncoding → List ℕ
 light_text c =
-    if c.colour_space == 2 then [] else codes ", " ++ white_text c.white_point ++ mixed_text c ++ codes ", " ++ transfer_text c.transfer_function ++ codes " transfer function"
+    if is_xyb c.colour_space then [] else codes ", " ++ white_text c.white_point ++ mixed_text c ++ codes ", " ++ transfer_text c.transfer_function ++ codes " transfer function"
 
 -- what samples of colours mean, by a profile or else in words
 unfoldable pub meaning_text : ColourEncoding → List ℕ

@@ -3,7 +3,6 @@ use Rattle.std.specs.Prelude.{ℕ, List, [], ◌++◌, Bool, if◌then◌else◌
 use Rattle.std.specs.Fmt.{decimal}
 use Rattle.jxl_image_header.specs.Images.{Image}
 use Rattle.jxl_image_header.specs.declared.image.Animation.{Animation}
-use Rattle.jxl_image_header.specs.declared.image.Display.{Display}
 use Rattle.jxl_image_header.specs.declared.size.Size.{Size}
 use Rattle.jxl_text.specs.Printing.{line}
 use Rattle.jxl_codestream.specs.declared.error.FrontError.{FrontError}
@@ -20,16 +19,16 @@ unfoldable pub size_text : Size → List ℕ
 size_text size = decimal size.width ++ codes "x" ++ decimal size.height
 
 unfoldable pub image_kind : Image → List ℕ
-image_kind image = if is_some image.display.animation then codes "animation" else codes "image"
+image_kind image = if is_some image.animation then codes "animation" else codes "image"
 
 -- samples that are not XYB may have been coded without loss
 unfoldable pub loss : Image → List ℕ
-loss image = if image.shown.xyb_encoded then codes "lossy" else codes "(possibly) lossless"
+loss image = if image.xyb_encoded then codes "lossy" else codes "(possibly) lossless"
 
 -- size, depth and channels
 unfoldable pub image_line : Image → List ℕ
 image_line image = line (codes "JPEG XL " ++ image_kind image ++ codes ", " ++ size_text image.size ++ codes ", " ++ loss image
-    ++ codes ", " ++ depth_text image.samples.bit_depth ++ codes " " ++ channels_text image)
+    ++ codes ", " ++ depth_text image.bit_depth ++ codes " " ++ channels_text image)
 
 -- a smaller picture comes first
 unfoldable pub preview_line : Option Size → List ℕ
@@ -54,9 +53,10 @@ unfoldable pub intrinsic_line : Option Size → List ℕ
 intrinsic_line (Some size) = line (codes "Intrinsic dimensions: " ++ size_text size)
 intrinsic_line None = []
 
-unfoldable pub display_lines : Display → List ℕ
-display_lines d = preview_line d.preview ++ animation_lines d.animation ++ intrinsic_line d.intrinsic_size
-    ++ line (codes "Orientation: " ++ decimal d.orientation ++ codes " (" ++ orientation_name d.orientation ++ codes ")")
+-- how the picture is to be displayed
+unfoldable pub display_lines : Image → List ℕ
+display_lines image = preview_line image.preview ++ animation_lines image.animation ++ intrinsic_line image.intrinsic_size
+    ++ line (codes "Orientation: " ++ decimal image.orientation ++ codes " (" ++ orientation_name image.orientation ++ codes ")")
 
 -- why the picture is not decoded, where that is so
 unfoldable pub reason_line : Option FrontError → List ℕ
@@ -65,5 +65,5 @@ reason_line None = []
 
 -- what `--info` prints of a file whose codestream has this image header, and is not decoded for this reason
 abbrev pub info_text : Bool → Image → Option FrontError → List ℕ
-info_text boxed image reason = container_line boxed ++ image_line image ++ extra_lines image.ec_info ++ display_lines image.display
-    ++ line (colour_text image.shown.colour_encoding) ++ reason_line reason
+info_text boxed image reason = container_line boxed ++ image_line image ++ extra_lines image.ec_info ++ display_lines image
+    ++ line (colour_text image.colour_encoding) ++ reason_line reason

@@ -2,10 +2,10 @@
 
 ghost use Rattle.std.specs.Prelude.{◌≡◌, ◌++◌, OnOk, string_bytes};
 ghost use Rattle.jxl_image_header.specs.Images.{image_of};
-ghost use Rattle.jxl_info.specs.Channels.{depth_text, has_black as the_has_black, colours_name as the_colours_name, told_kind as the_told_kind, kinds_but, channels_text, shift_text, premultiplied_text, extra_line, extra_lines};
+ghost use Rattle.jxl_info.specs.Channels.{depth_text, has_black as the_has_black, colours_name as the_colours_name, is_with_colours as the_is_with_colours, kinds_but, channels_text, shift_text, premultiplied_text, extra_line, extra_lines};
 
 use crate::names::kind_name;
-use jxl_image_header::channel::{BitDepth, ExtraChannel};
+use jxl_image_header::channel::{BitDepth, ExtraChannel, ExtraChannelKind};
 use jxl_image_header::image::ImageHeader;
 use jxl_picture::picture::{has_alpha, is_grey};
 use jxlm_base::grid::OutOfMemory;
@@ -26,7 +26,7 @@ pub fn append_depth(text: &mut String, depth: BitDepth) -> Result<(), OutOfMemor
 fn has_black(header: &ImageHeader) -> bool
     ensures { result ≡ the_has_black (image_of header.now) }
 {
-    header.ec_info.iter().any(|channel| channel.kind == 4)
+    header.ec_info.iter().any(|channel| channel.kind.is_black())
 }
 
 #[tactic(auto, unfolding(crate::specs::Channels::colours_name))]
@@ -44,25 +44,31 @@ fn colours_name(header: &ImageHeader) -> &'static str
     }
 }
 
-fn told_kind(header: &ImageHeader) -> u32
-    ensures { result ≡ the_told_kind (image_of header.now) }
+// Whether the first extra channel of this kind is printed with the colours.
+fn is_with_colours(grey: bool, black: bool, kind: ExtraChannelKind) -> bool
+    ensures { result ≡ the_is_with_colours grey black kind }
 {
-    if is_grey(header) {
-        17
-    } else if has_black(header) {
-        4
+    if grey {
+        false
+    } else if black {
+        kind.is_black()
     } else {
-        0
+        kind.is_alpha()
     }
 }
 
-// The kinds of extra channels but the first of the kind that is printed already, each after a plus.
-fn append_kinds(text: &mut String, told: u32, extra: &[ExtraChannel]) -> Result<(), OutOfMemory>
-    ensures { OnOk result (string_bytes text.new ≡ string_bytes text.old ++ kinds_but told extra.now) }
+// The kinds of extra channels but the first that is printed with the colours, each after a plus.
+fn append_kinds(
+    text: &mut String,
+    grey: bool,
+    black: bool,
+    extra: &[ExtraChannel],
+) -> Result<(), OutOfMemory>
+    ensures { OnOk result (string_bytes text.new ≡ string_bytes text.old ++ kinds_but grey black extra.now) }
 {
     let mut passed = false;
     for channel in extra {
-        if !passed && channel.kind == told {
+        if !passed && is_with_colours(grey, black, channel.kind) {
             passed = true;
         } else {
             let name = kind_name(channel.kind);
@@ -79,7 +85,7 @@ pub fn append_channels(text: &mut String, header: &ImageHeader) -> Result<(), Ou
 {
     let name = colours_name(header);
     write!(text, "{name}")?;
-    append_kinds(text, told_kind(header), &header.ec_info)
+    append_kinds(text, is_grey(header), has_black(header), &header.ec_info)
 }
 
 #[tactic(auto, unfolding(crate::specs::Channels::shift_text))]

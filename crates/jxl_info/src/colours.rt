@@ -1,10 +1,12 @@
 //! The line of colours.
 
 ghost use Rattle.std.specs.Prelude.{◌≡◌, ◌++◌, ◌<◌, codes, OnOk, string_bytes};
-ghost use Rattle.jxl_info.specs.Colours.{three_digits, millionths, coordinate_text, point_text, white_text, basis_text, transfer_text, mixed_text, light_text, meaning_text, colour_text};
+ghost use Rattle.jxl_info.specs.Colours.{three_digits, millionths, coordinate_text, point_text, white_text, primaries_text, transfer_text, mixed_text, light_text, meaning_text, colour_text};
 
-use crate::names::{basis_name, curve_name, intent_name, space_name, white_name};
-use jxl_image_header::colour::{Basis, Chromaticity, ColourEncoding, Transfer, White};
+use crate::names::{intent_name, space_name};
+use jxl_image_header::colour::{
+    Chromaticity, ColourEncoding, Primaries, TransferFunction, WhitePoint,
+};
 use jxlm_base::grid::OutOfMemory;
 
 // Three digits of a number below 1000.
@@ -52,49 +54,59 @@ fn append_point(text: &mut String, point: Chromaticity) -> Result<(), OutOfMemor
 }
 
 #[tactic(auto, unfolding(crate::specs::Colours::white_text))]
-fn append_white(text: &mut String, white: White) -> Result<(), OutOfMemory>
+fn append_white(text: &mut String, white: WhitePoint) -> Result<(), OutOfMemory>
     ensures { OnOk result (string_bytes text.new ≡ string_bytes text.old ++ white_text white) }
 {
-    if white.number == 2 {
-        write!(text, "Custom, white_point")?;
-        append_point(text, white.own)?;
-    } else {
-        let name = white_name(white.number);
-        write!(text, "{name}")?;
+    match white {
+        WhitePoint::D65 => write!(text, "D65")?,
+        WhitePoint::Custom(point) => {
+            write!(text, "Custom, white_point")?;
+            append_point(text, point)?;
+        }
+        WhitePoint::E => write!(text, "E")?,
+        WhitePoint::Dci => write!(text, "P3")?,
     }
     Ok(())
 }
 
-#[tactic(auto, unfolding(crate::specs::Colours::basis_text))]
-fn append_basis(text: &mut String, basis: Basis) -> Result<(), OutOfMemory>
-    ensures { OnOk result (string_bytes text.new ≡ string_bytes text.old ++ basis_text basis) }
+#[tactic(auto, unfolding(crate::specs::Colours::primaries_text))]
+fn append_primaries(text: &mut String, primaries: Primaries) -> Result<(), OutOfMemory>
+    ensures { OnOk result (string_bytes text.new ≡ string_bytes text.old ++ primaries_text primaries) }
 {
-    if basis.number == 2 {
-        write!(text, "Custom primaries: red")?;
-        append_point(text, basis.own.red)?;
-        write!(text, ", green")?;
-        append_point(text, basis.own.green)?;
-        write!(text, ", blue")?;
-        return append_point(text, basis.own.blue);
+    match primaries {
+        Primaries::Srgb => write!(text, "sRGB primaries")?,
+        Primaries::Custom(custom) => {
+            write!(text, "Custom primaries: red")?;
+            append_point(text, custom.red)?;
+            write!(text, ", green")?;
+            append_point(text, custom.green)?;
+            write!(text, ", blue")?;
+            append_point(text, custom.blue)?;
+        }
+        Primaries::Bt2100 => write!(text, "Rec.2100 primaries")?,
+        Primaries::P3 => write!(text, "P3 primaries")?,
     }
-    let name = basis_name(basis.number);
-    write!(text, "{name} primaries")?;
     Ok(())
 }
 
 #[tactic(auto, unfolding(crate::specs::Colours::transfer_text))]
-fn append_transfer(text: &mut String, transfer: Transfer) -> Result<(), OutOfMemory>
+fn append_transfer(text: &mut String, transfer: TransferFunction) -> Result<(), OutOfMemory>
     ensures { OnOk result (string_bytes text.new ≡ string_bytes text.old ++ transfer_text transfer) }
 {
-    if transfer.number == 0 {
-        let last = transfer.gamma % 10;
-        write!(text, "gamma(")?;
-        append_millionths(text, transfer.gamma / 10)?;
-        write!(text, "{last})")?;
-        return Ok(());
+    match transfer {
+        TransferFunction::Gamma(exponent) => {
+            let last = exponent % 10;
+            write!(text, "gamma(")?;
+            append_millionths(text, exponent / 10)?;
+            write!(text, "{last})")?;
+        }
+        TransferFunction::Bt709 => write!(text, "709")?,
+        TransferFunction::Linear => write!(text, "Linear")?,
+        TransferFunction::Srgb => write!(text, "sRGB")?,
+        TransferFunction::Pq => write!(text, "PQ")?,
+        TransferFunction::Dci => write!(text, "DCI")?,
+        TransferFunction::Hlg => write!(text, "HLG")?,
     }
-    let name = curve_name(transfer.number);
-    write!(text, "{name}")?;
     Ok(())
 }
 
@@ -102,9 +114,9 @@ fn append_transfer(text: &mut String, transfer: Transfer) -> Result<(), OutOfMem
 fn append_mixed(text: &mut String, colour: ColourEncoding) -> Result<(), OutOfMemory>
     ensures { OnOk result (string_bytes text.new ≡ string_bytes text.old ++ mixed_text colour) }
 {
-    if colour.colour_space != 1 {
+    if !colour.colour_space.is_grey() {
         write!(text, ", ")?;
-        append_basis(text, colour.primaries)?;
+        append_primaries(text, colour.primaries)?;
     }
     Ok(())
 }
@@ -113,7 +125,7 @@ fn append_mixed(text: &mut String, colour: ColourEncoding) -> Result<(), OutOfMe
 fn append_light(text: &mut String, colour: ColourEncoding) -> Result<(), OutOfMemory>
     ensures { OnOk result (string_bytes text.new ≡ string_bytes text.old ++ light_text colour) }
 {
-    if colour.colour_space != 2 {
+    if !colour.colour_space.is_xyb() {
         write!(text, ", ")?;
         append_white(text, colour.white_point)?;
         append_mixed(text, colour)?;

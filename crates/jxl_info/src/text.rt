@@ -13,7 +13,7 @@ use crate::names::orientation_name;
 use crate::reasons::append_reason;
 use jxl_codestream::error::FrontError;
 use jxl_image_header::colour::ColourEncoding;
-use jxl_image_header::image::{Animation, Display, ImageHeader};
+use jxl_image_header::image::{Animation, ImageHeader};
 use jxl_image_header::size::Size;
 use jxlm_base::grid::OutOfMemory;
 use std::alloc::Global;
@@ -41,7 +41,7 @@ fn append_size(text: &mut String, size: Size) -> Result<(), OutOfMemory>
 fn image_kind(header: &ImageHeader) -> &'static str
     ensures { result.now ≡ the_image_kind (image_of header.now) }
 {
-    if header.display.animation.is_some() {
+    if header.animation.is_some() {
         "animation"
     } else {
         "image"
@@ -52,7 +52,7 @@ fn image_kind(header: &ImageHeader) -> &'static str
 fn loss(header: &ImageHeader) -> &'static str
     ensures { result.now ≡ the_loss (image_of header.now) }
 {
-    if header.shown.xyb_encoded {
+    if header.xyb_encoded {
         "lossy"
     } else {
         "(possibly) lossless"
@@ -67,7 +67,7 @@ fn append_image(text: &mut String, header: &ImageHeader) -> Result<(), OutOfMemo
     write!(text, "JPEG XL {kind}, ")?;
     append_size(text, header.size)?;
     write!(text, ", {loss}, ")?;
-    append_depth(text, header.samples.bit_depth)?;
+    append_depth(text, header.bit_depth)?;
     write!(text, " ")?;
     append_channels(text, header)?;
     writeln!(text)?;
@@ -131,13 +131,13 @@ fn append_animation(text: &mut String, animation: Option<Animation>) -> Result<(
 }
 
 #[tactic(auto, unfolding(crate::specs::Texts::display_lines))]
-fn append_display(text: &mut String, display: Display) -> Result<(), OutOfMemory>
-    ensures { OnOk result (string_bytes text.new ≡ string_bytes text.old ++ display_lines display) }
+fn append_display(text: &mut String, header: &ImageHeader) -> Result<(), OutOfMemory>
+    ensures { OnOk result (string_bytes text.new ≡ string_bytes text.old ++ display_lines (image_of header.now)) }
 {
-    append_preview(text, display.preview)?;
-    append_animation(text, display.animation)?;
-    append_intrinsic(text, display.intrinsic_size)?;
-    let orientation = display.orientation;
+    append_preview(text, header.preview)?;
+    append_animation(text, header.animation)?;
+    append_intrinsic(text, header.intrinsic_size)?;
+    let orientation = header.orientation;
     let name = orientation_name(orientation);
     writeln!(text, "Orientation: {orientation} ({name})")?;
     Ok(())
@@ -176,7 +176,7 @@ pub fn info_text(
     append_container(&mut text, boxed)?;
     append_image(&mut text, header)?;
     append_extras(&mut text, &header.ec_info)?;
-    append_display(&mut text, header.display)?;
-    append_end(&mut text, header.shown.colour_encoding, reason)?;
+    append_display(&mut text, header)?;
+    append_end(&mut text, header.colour_encoding, reason)?;
     Ok(text)
 }

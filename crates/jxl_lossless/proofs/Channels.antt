@@ -228,7 +228,7 @@ all_shown o size (h ∷ ss) (f ∷ fs) (g ∷ gs) s all = (shown_sides o (shifte
 
 pub whole_upright : (image : Image) (coded : List (Grid ℤ)) (shown : Image) (channels : List (Grid ℤ)) → IsWhole image coded → IsUpright image coded shown channels → IsWhole shown channels
 whole_upright image coded shown channels is turned =
-    subst (λ (i : Image). IsWhole i channels) (sym turned.header) (all_shown image.display.orientation image.size (shifts_of image) coded channels turned.oriented is)
+    subst (λ (i : Image). IsWhole i channels) (sym turned.header) (all_shown image.orientation image.size (shifts_of image) coded channels turned.oriented is)
 
 -- samples of 32 bits are the numbers that they stand for
 pub same_grids : (gs : List (Grid ℤ)) → store_meanings (λ (v : ℤ). v) gs ≡ gs

@@ -8,7 +8,7 @@ use Rattle.jxlm_bits.specs.Decoding.{Meaning}
 use Rattle.jxlm_base.specs.Grid.{Grid}
 use Rattle.jxl_image_header.specs.Images.{Image}
 use Rattle.jxl_frame_header.specs.Frames.{frame_of}
-use Rattle.jxl_frame_header.specs.Passes.{shifts_held}
+use Rattle.jxl_frame_header.specs.Passes.{pass_shifts}
 use Rattle.jxl_patches.specs.Slots.{Slots}
 use Rattle.jxl_codestream.specs.LayoutParts.{parts_of}
 use Rattle.jxl_codestream.specs.Layouts.{Layout, section_count_of}
@@ -56,7 +56,7 @@ module _ {D X : Type 0} (d : Meaning D) (bytes : List ℕ) (image : Image) (slot
   -- the channels that its sections code are those of the frame
   pub frame_made : (places : Places) (grids : X → List (Grid ℤ)) (before after : ℕ) (result : Result X FileError) →
       IfOk result (λ v. IsMade d image slots (frame_of frame.header) x.now places (grids v) before after) →
-      places.layout.now ≡ frame.layout → places.sections.now ≡ list → places.passes.now.entries ≡ shifts_held (frame_at frame).header.passes →
+      places.layout.now ≡ frame.layout → places.sections.now ≡ list → places.passes.now.entries ≡ pass_shifts (frame_at frame).header.passes →
       IfOk result (λ v. IsFrame d image slots bytes (frame_at frame) (grids v) before after)
   frame_made places grids before after result made same_cut same passes =
       let are = sections_are bytes image frame list entries x places lies told index cut count same_cut same in
@@ -65,7 +65,7 @@ module _ {D X : Type 0} (d : Meaning D) (bytes : List ℕ) (image : Image) (slot
 
   -- and what fails in them fails in the frame
   pub not_made : (places : Places) (result : Result X FileError) → IfErr result (MadeFails d image slots (frame_of frame.header) x.now places) →
-      places.layout.now ≡ frame.layout → places.sections.now ≡ list → places.passes.now.entries ≡ shifts_held (frame_at frame).header.passes →
+      places.layout.now ≡ frame.layout → places.sections.now ≡ list → places.passes.now.entries ≡ pass_shifts (frame_at frame).header.passes →
       IfErr result (FrameFails d image slots bytes (frame_at frame))
   not_made places result fails same_cut same passes =
       let are = sections_are bytes image frame list entries x places lies told index cut count same_cut same in

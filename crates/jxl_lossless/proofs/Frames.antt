@@ -14,7 +14,7 @@ use Rattle.jxlm_tree.specs.Tree.{Config}
 use Rattle.jxl_image_header.specs.Images.{Image}
 use Rattle.jxl_image_header.specs.declared.size.Size.{Size}
 use Rattle.jxl_frame_header.specs.Frames.{Frame, frame_size}
-use Rattle.jxl_frame_header.specs.Passes.{shifts_held}
+use Rattle.jxl_frame_header.specs.Passes.{pass_shifts}
 use Rattle.jxl_lossless.proofs.Alike.{fails_too, still_too}
 use Rattle.jxl_lossless.specs.Places.{own_passes, section_at}
 use Rattle.jxl_lossless.specs.Stills.{IsStill, StillFails}
@@ -66,7 +66,7 @@ module _ {D : Type 0} (d : Meaning D) (image : Image) (slots : Slots) (frame : F
         unless_so (patch_kind e) (λ f. (q, f)) (subst (λ (r : Result (Found (Option Patches)) ErrorAt). UnlessMemory (patch_kind e) (IsErrorAt r (patch_kind e) q)) read_there h)
 
 module _ {D : Type 0} (d : Meaning D) (image : Image) (slots : Slots) (bytes : List ℕ) (frame : FrameAt) (places : Places)
-    (passes : places.passes.now.entries ≡ shifts_held frame.header.passes)
+    (passes : places.passes.now.entries ≡ pass_shifts frame.header.passes)
     (alike : (part : SectionPart) → section_at places part ≡ section_of (layout_in image frame.header) (sections_in bytes frame) part) where
   abbrev first : List ℕ
   first = get_or (sections_in bytes frame) 0 []
@@ -75,26 +75,26 @@ module _ {D : Type 0} (d : Meaning D) (image : Image) (slots : Slots) (bytes : L
   size = frame_size image.size frame.header
 
   abbrev told : List Pass
-  told = passes_of (shifts_held frame.header.passes)
+  told = passes_of (pass_shifts frame.header.passes)
 
   abbrev its : SectionPart → Option (List ℕ × ℕ)
   its = section_of (layout_in image frame.header) (sections_in bytes frame)
 
   abbrev Still : Option (Config D) → ℕ → List Pass → (SectionPart → Option (List ℕ × ℕ)) → List (Grid ℤ) → ℕ → ℕ → Type 0
-  Still global begin ps f = IsStill {S = ℤ} d w32 (λ (v : ℤ). v) (pos 0) global (channels_given image size) frame.header.group_dim image.samples.bit_depth.bits_per_sample first begin ps f
+  Still global begin ps f = IsStill {S = ℤ} d w32 (λ (v : ℤ). v) (pos 0) global (channels_given image size) frame.header.group_dim image.bit_depth.bits_per_sample first begin ps f
 
   abbrev Fails : Option (Config D) → ℕ → List Pass → (SectionPart → Option (List ℕ × ℕ)) → FrameError → Type 0
-  Fails global begin ps f = StillFails {S = ℤ} d w32 (λ (v : ℤ). v) (pos 0) global (channels_given image size) frame.header.group_dim image.samples.bit_depth.bits_per_sample first begin ps f
+  Fails global begin ps f = StillFails {S = ℤ} d w32 (λ (v : ℤ). v) (pos 0) global (channels_given image size) frame.header.group_dim image.bit_depth.bits_per_sample first begin ps f
 
   -- the places are those of the frame
   still_of : (global : Option (Config D)) (begin : ℕ) (grids : List (Grid ℤ)) (before after : ℕ) → Still global begin (own_passes places) (section_at places) grids before after → Still global begin told its grids before after
   still_of global begin grids before after s =
-      still_too d w32 (λ (v : ℤ). v) (pos 0) global (channels_given image size) frame.header.group_dim image.samples.bit_depth.bits_per_sample first begin told (section_at places) its alike grids before after
+      still_too d w32 (λ (v : ℤ). v) (pos 0) global (channels_given image size) frame.header.group_dim image.bit_depth.bits_per_sample first begin told (section_at places) its alike grids before after
       (subst (λ (ps : List Pass). Still global begin ps (section_at places) grids before after) (ap passes_of passes) s)
 
   fails_of : (global : Option (Config D)) (begin : ℕ) (e : FrameError) → Fails global begin (own_passes places) (section_at places) e → Fails global begin told its e
   fails_of global begin e s =
-      fails_too d w32 (λ (v : ℤ). v) (pos 0) global (channels_given image size) frame.header.group_dim image.samples.bit_depth.bits_per_sample first begin told (section_at places) its alike e
+      fails_too d w32 (λ (v : ℤ). v) (pos 0) global (channels_given image size) frame.header.group_dim image.bit_depth.bits_per_sample first begin told (section_at places) its alike e
       (subst (λ (ps : List Pass). Fails global begin ps (section_at places) e) (ap passes_of passes) s)
 
   abbrev has_patches : (patches : Option Patches) (begin : ℕ) → BeginsWith d image slots frame.header first patches begin → HasPatches d image slots bytes frame

@@ -7,7 +7,7 @@ use Rattle.std.proofs.lemmas.List.{length-map}
 use Rattle.std.proofs.lemmas.List.FromFn.{length-range_with_len}
 use Rattle.jxlm_groups.specs.Passes.{can_group, holds, passes_of as ranges_of}
 use Rattle.jxlm_groups.specs.declared.pass.Pass.{Pass}
-use Rattle.jxl_frame_header.specs.Passes.{IsPassCount, Passes, least_shift, shifts_held}
+use Rattle.jxl_frame_header.specs.Passes.{IsPassCount, Passes, least_shift, pass_shifts}
 
 module _ (x : Passes) where
   entry : ℕ → ℕ × (ℤ × ℤ)
@@ -63,7 +63,7 @@ module _ (x : Passes) where
       let n : length (ranges 0 x.num_passes) ≡ x.num_passes = length-map _ _ ∙ length-map (range_with_len 0 x.num_passes) _ ∙ length-range_with_len 0 x.num_passes in
       ap not (ne_eqb (length (ranges 0 x.num_passes)) 0 (λ e. omega (arith, n, e, some)))
 
-pub can_be_cut : (x : Passes) → IsPassCount x.num_passes → (entries : List (ℕ × (ℤ × ℤ))) → entries ≡ shifts_held x → can_group (ranges_of entries) [] ≡ true
+pub can_be_cut : (x : Passes) → IsPassCount x.num_passes → (entries : List (ℕ × (ℤ × ℤ))) → entries ≡ pass_shifts x → can_group (ranges_of entries) [] ≡ true
 can_be_cut x count entries are =
     subst (λ (es : List (ℕ × (ℤ × ℤ))). can_group (ranges_of es) [] ≡ true) (sym are)
     (all_four (not (length (ranges x 0 x.num_passes) == 0)) (list_all (λ p. nat_le p.number 255) (ranges x 0 x.num_passes)) (list_any (holds (pos 0)) (ranges x 0 x.num_passes)) (list_any (holds (pos 1)) (ranges x 0 x.num_passes)) (list_any (holds (pos 2)) (ranges x 0 x.num_passes))

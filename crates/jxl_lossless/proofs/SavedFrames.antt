@@ -19,16 +19,16 @@ use Rattle.jxl_lossless.specs.declared.error.FileError.TheVariants as errors
 module _ {D : Type 0} (d : Meaning D) (bytes : List ℕ) (image : Image) where
   -- one frame more
   pub saved_more : (fs : List FrameAt) (f : FrameAt) (old slots new : Slots) (grids : List (Grid ℤ)) (a b c : ℕ) → AreSaved d bytes image fs old slots a b →
-      IsFrame d image slots bytes f grids b c → new ≡ saved_in slots f.header.ending.save_as_reference (frame_size image.size f.header) grids →
+      IsFrame d image slots bytes f grids b c → new ≡ saved_in slots f.header.frame_use.save_as_reference (frame_size image.size f.header) grids →
       AreSaved d bytes image (fs ++ f ∷ []) old new a c
   saved_more [] f old slots new grids a b c (same, still) is put = (
     grids,
     c,
     subst (λ n. IsFrame d image old bytes f grids n c) still (subst (λ (s : Slots). IsFrame d image s bytes f grids b c) same is),
-    (put ∙ ap (λ (s : Slots). saved_in s f.header.ending.save_as_reference (frame_size image.size f.header) grids) same, refl),
+    (put ∙ ap (λ (s : Slots). saved_in s f.header.frame_use.save_as_reference (frame_size image.size f.header) grids) same, refl),
   )
   saved_more (g ∷ gs) f old slots new grids a b c (first, m, head, rest) is put =
-      (first, m, head, saved_more gs f (saved_in old g.header.ending.save_as_reference (frame_size image.size g.header) first) slots new grids m b c rest is put)
+      (first, m, head, saved_more gs f (saved_in old g.header.frame_use.save_as_reference (frame_size image.size g.header) first) slots new grids m b c rest is put)
 
   -- a frame that has an error, after others that are decoded
   pub first_bad : (frames decoded others : List FrameAt) (f : FrameAt) (slots : Slots) (before after : ℕ) (e : FileError) → frames ≡ decoded ++ f ∷ others →

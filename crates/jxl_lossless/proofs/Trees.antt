@@ -33,14 +33,14 @@ a_tree d size n first p q there bytes same limit most tree r gives = record {
 -- the image after it is read as the parameters say
 module _ {S D : Type 0} (d : Meaning D) (w : Width) (to_int : S → ℤ) (zero : S) (image : Image) (size : Size) (group_dim n : ℕ) (first here : List ℕ) (p q : ℕ) (places : Places) (global : Option (Config D)) (params : ModularParams D)
     (count : n ≡ channel_count image) (shared : SharedTree d size n first p global q) (same : here ≡ first) (tree : option_copied params.ma_config ≡ global) (list : image_list params.channels.items ≡ channels_given image size)
-    (dim : params.group_dim ≡ group_dim) (depth : params.bit_depth ≡ image.samples.bit_depth.bits_per_sample) where
+    (dim : params.group_dim ≡ group_dim) (depth : params.bit_depth ≡ image.bit_depth.bits_per_sample) where
   -- what holds of it by the parameters holds of it by the image
   by_image : (P : Option (Config D) → ChannelList → ℕ → ℕ → List ℕ → Type 0) → P (option_copied params.ma_config) (image_list params.channels.items) params.group_dim params.bit_depth here →
-      P global (channels_given image size) group_dim image.samples.bit_depth.bits_per_sample first
+      P global (channels_given image size) group_dim image.bit_depth.bits_per_sample first
   by_image P h =
-      subst (λ g. P g (channels_given image size) group_dim image.samples.bit_depth.bits_per_sample first) tree
-      (subst (λ (l : ChannelList). P (option_copied params.ma_config) l group_dim image.samples.bit_depth.bits_per_sample first) list
-      (subst (λ m. P (option_copied params.ma_config) (image_list params.channels.items) m image.samples.bit_depth.bits_per_sample first) dim
+      subst (λ g. P g (channels_given image size) group_dim image.bit_depth.bits_per_sample first) tree
+      (subst (λ (l : ChannelList). P (option_copied params.ma_config) l group_dim image.bit_depth.bits_per_sample first) list
+      (subst (λ m. P (option_copied params.ma_config) (image_list params.channels.items) m image.bit_depth.bits_per_sample first) dim
       (subst (λ m. P (option_copied params.ma_config) (image_list params.channels.items) params.group_dim m first) depth
       (subst (λ (b : List ℕ). P (option_copied params.ma_config) (image_list params.channels.items) params.group_dim params.bit_depth b) same h))))
 

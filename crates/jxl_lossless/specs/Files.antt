@@ -51,4 +51,4 @@ is_before_frames error = false
 
 -- the header of a picture as it is shown: with the sides of what is shown, and orientation 1
 abbrev pub upright : Image → Image
-upright coded = record coded { size = shown_size coded.display.orientation coded.size; display = record coded.display { orientation = 1 } }
+upright coded = record coded { size = shown_size coded.orientation coded.size; orientation = 1 }

@@ -16,7 +16,7 @@ use Rattle.jxlm_tree.specs.TreeReading.{IsTooDeep, IsTreeAt, listing_at}
 use Rattle.jxl_image_header.specs.Images.{Image}
 use Rattle.jxl_image_header.specs.declared.size.Size.{Size}
 use Rattle.jxl_frame_header.specs.Frames.{frame_size}
-use Rattle.jxl_frame_header.specs.Passes.{shifts_held}
+use Rattle.jxl_frame_header.specs.Passes.{pass_shifts}
 use Rattle.jxl_codestream.specs.Starts.{section_start, tree_limit}
 use Rattle.jxl_patches.specs.Errors.{patch_kind}
 use Rattle.jxl_patches.specs.Patches.{Patches}
@@ -91,8 +91,8 @@ module _ {D : Type 0} (d : Meaning D) (image : Image) (slots : Slots) (bytes : L
   pub record IsFrame (grids : List (Grid ℤ)) (before after : ℕ) : Type 0 where
     pub tree : HasTree
     pub own : List (Grid ℤ)
-    pub still : IsStill d w32 (λ (v : ℤ). v) (pos 0) tree.global (channels_given image sides) frame.header.group_dim image.samples.bit_depth.bits_per_sample
-        first tree.begin (passes_of (shifts_held frame.header.passes)) (section_of (layout_in image frame.header) (sections_in bytes frame)) own before after
+    pub still : IsStill d w32 (λ (v : ℤ). v) (pos 0) tree.global (channels_given image sides) frame.header.group_dim image.bit_depth.bits_per_sample
+        first tree.begin (passes_of (pass_shifts frame.header.passes)) (section_of (layout_in image frame.header) (sections_in bytes frame)) own before after
     pub put : ArePut slots (colour_count image) tree.after.patches own grids
 
   -- what each error says: up to which stage all stands, and what fails there
@@ -101,6 +101,6 @@ module _ {D : Type 0} (d : Meaning D) (image : Image) (slots : Slots) (bytes : L
   FrameFails (errors.Start e) = (s : HasPatches) × FailsAt section_start first s.begin (kind_of e)
   FrameFails (errors.Tree e) = (s : HasPatches) × UnlessMemory (kind_of e) (TreeFails d sides (channel_count image) first s.begin (kind_of e))
   FrameFails (errors.Samples e) = (s : HasTree) × StillFails {S = ℤ} d w32 (λ (v : ℤ). v) (pos 0) s.global (channels_given image sides) frame.header.group_dim
-      image.samples.bit_depth.bits_per_sample first s.begin (passes_of (shifts_held frame.header.passes)) (section_of (layout_in image frame.header) (sections_in bytes frame)) e
+      image.bit_depth.bits_per_sample first s.begin (passes_of (pass_shifts frame.header.passes)) (section_of (layout_in image frame.header) (sections_in bytes frame)) e
   FrameFails errors.OutOfMemory = Unit {0}
   FrameFails e = ⊥

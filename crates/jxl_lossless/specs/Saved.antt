@@ -22,7 +22,7 @@ module _ {D : Type 0} (d : Meaning D) (bytes : List ℕ) (image : Image) where
   AreSaved [] old new before after = (new ≡ old) × (after ≡ before)
   AreSaved (f ∷ fs) old new before after =
       (grids : List (Grid ℤ)) × (between : ℕ) × IsFrame d image old bytes f grids before between
-      × AreSaved fs (saved_in old f.header.ending.save_as_reference (frame_size image.size f.header) grids) new between after
+      × AreSaved fs (saved_in old f.header.frame_use.save_as_reference (frame_size image.size f.header) grids) new between after
 
   -- the saved frames are decoded, and after them these are the channels of the frame that is shown
   abbrev pub AreDecoded : List FrameAt → FrameAt → List (Grid ℤ) → ℕ → ℕ → Type 0

@@ -60,7 +60,7 @@ impl CodestreamInput<'_> {
             };
             let channels = input.decode::<D, P>(alloc, steps, progress)?;
             let size = frame.header.size(self.image.size);
-            slots.save(frame.header.ending.save_as_reference, size, channels);
+            slots.save(frame.header.frame_use.save_as_reference, size, channels);
         }
         Ok(slots)
     }

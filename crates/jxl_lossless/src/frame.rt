@@ -215,7 +215,7 @@ impl<'a> SectionsInput<'a, '_> {
         let channels = colours(image) + image.ec_info.len();
         let tree = shared_tree::<D>(alloc, &mut bits, size, channels)?;
         let list = channels_of(alloc, image, size)?;
-        let depth = image.samples.bit_depth.bits_per_sample;
+        let depth = image.bit_depth.bits_per_sample;
         let dim = self.input.frame.header.group_dim;
         let params = ModularParams::with_channels(dim, depth, list, tree.as_ref());
         match decode_frame::<S, D, P>(alloc, bits, params, self.places, steps, progress) {

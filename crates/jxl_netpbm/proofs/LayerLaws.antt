@@ -79,14 +79,14 @@ alpha_covers size (g ∷ gs) (c ∷ cs) all e =
     let parts = both_true (can_stand c) (list_all can_stand cs) e in
     first_or_later size g c (first_alpha gs cs) (is_full_alpha c) refl parts.0 all.0 (alpha_covers size gs cs all.1 parts.1)
 
-pub colours_cover : (image : Image) (channels : List (Grid ℤ)) → IsWhole image channels → is_whole 16 image.samples.bit_depth ≡ true → All (Cover image.size.width image.size.height) (colour_layers image channels)
+pub colours_cover : (image : Image) (channels : List (Grid ℤ)) → IsWhole image channels → is_whole 16 image.bit_depth ≡ true → All (Cover image.size.width image.size.height) (colour_layers image channels)
 colours_cover image channels whole depth =
-    grids_cover image.size.width image.size.height (most_of image) (colours_of image channels) (maximum_some image.samples.bit_depth.bits_per_sample (whole_some 16 image.samples.bit_depth depth).0)
+    grids_cover image.size.width image.size.height (most_of image) (colours_of image channels) (maximum_some image.bit_depth.bits_per_sample (whole_some 16 image.bit_depth depth).0)
     (have_sides image image.size channels whole).colours
 
-pub pam_covers : (image : Image) (channels : List (Grid ℤ)) → IsWhole image channels → (is_whole 16 image.samples.bit_depth && list_all can_stand image.ec_info) ≡ true → All (Cover image.size.width image.size.height) (pam_layers image channels)
+pub pam_covers : (image : Image) (channels : List (Grid ℤ)) → IsWhole image channels → (is_whole 16 image.bit_depth && list_all can_stand image.ec_info) ≡ true → All (Cover image.size.width image.size.height) (pam_layers image channels)
 pam_covers image channels whole suits =
-    let (depth, alpha) = both_true (is_whole 16 image.samples.bit_depth) (list_all can_stand image.ec_info) suits in
+    let (depth, alpha) = both_true (is_whole 16 image.bit_depth) (list_all can_stand image.ec_info) suits in
     All-append (Cover image.size.width image.size.height) (colour_layers image channels) _ (colours_cover image channels whole depth)
     (alpha_covers image.size _ image.ec_info (have_sides image image.size channels whole).extra alpha)
 

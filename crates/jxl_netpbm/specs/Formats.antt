@@ -22,10 +22,10 @@ can_stand c = not (is_full_alpha c) || is_whole 31 c.bit_depth
 
 -- the format can hold the picture's colours, PAM its alpha of the same size too, and decimal numbers all of it
 abbrev pub suits : Format → Image → Bool
-suits Pgm image = is_grey image && is_whole 16 image.samples.bit_depth
-suits Ppm image = is_whole 16 image.samples.bit_depth
-suits Pam image = is_whole 16 image.samples.bit_depth && list_all can_stand image.ec_info
-suits Pfm image = (image.samples.bit_depth.exp_bits == 8) && (image.samples.bit_depth.bits_per_sample == 32)
+suits Pgm image = is_grey image && is_whole 16 image.bit_depth
+suits Ppm image = is_whole 16 image.bit_depth
+suits Pam image = is_whole 16 image.bit_depth && list_all can_stand image.ec_info
+suits Pfm image = (image.bit_depth.exp_bits == 8) && (image.bit_depth.bits_per_sample == 32)
 suits Text image = true
 
 -- how many channels the format leaves out
@@ -44,7 +44,7 @@ usual image = if suits Pfm image then Some Pfm else if suits (usual_whole image)
 
 -- the maximum of colours
 abbrev pub most_of : Image → ℕ
-most_of image = maximum image.samples.bit_depth.bits_per_sample
+most_of image = maximum image.bit_depth.bits_per_sample
 
 -- the channels of colours
 abbrev pub colours_of : Image → List (Grid ℤ) → List (Grid ℤ)

@@ -22,6 +22,6 @@ AllowFrame limits image used size = (size.width ≤ 2 ^ 30) × (size.height ≤ 
 -- the picture is within the limits: so is a first frame of its size, and its samples and channels are
 pub record Allow (limits : Limits) (image : Image) : Type 0 where
   pub frame : AllowFrame limits image 0 image.size
-  pub deep : image.samples.bit_depth.bits_per_sample ≤ 32
+  pub deep : image.bit_depth.bits_per_sample ≤ 32
   pub channels : channel_count image ≤ limits.channels
   pub most : channel_count image ≤ 2 ^ 20

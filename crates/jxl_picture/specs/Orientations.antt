@@ -35,5 +35,5 @@ shown_size o size = if is_turned o then record { width = size.height; height = s
 
 -- The second picture is the first one, shown upright: its header with other sides and orientation 1, and each of its channels.
 pub record IsUpright (coded : Image) (channels : List (Grid ℤ)) (shown : Image) (shown_channels : List (Grid ℤ)) : Type 0 where
-  pub header : shown ≡ record coded { size = shown_size coded.display.orientation coded.size; display = record coded.display { orientation = 1 } }
-  pub oriented : AllZip (IsOriented coded.display.orientation) channels shown_channels
+  pub header : shown ≡ record coded { size = shown_size coded.orientation coded.size; orientation = 1 }
+  pub oriented : AllZip (IsOriented coded.orientation) channels shown_channels

@@ -3,13 +3,15 @@ use Rattle.std.specs.Prelude.{◌≡◌, ℕ, ◌^◌, ◌==◌, ◌&&◌, ℤ, 
 use Rattle.std.specs.Int.{div_ceil}
 use Rattle.std.specs.List.{AllZip, list_any}
 use Rattle.jxlm_base.specs.Grid.{Grid}
+use Rattle.jxl_image_header.specs.Channels as kinds
+use Rattle.jxl_image_header.specs.Colours as spaces
 use Rattle.jxl_image_header.specs.Images.{Image}
 use Rattle.jxl_image_header.specs.declared.channel.ExtraChannel.{ExtraChannel}
 use Rattle.jxl_image_header.specs.declared.size.Size.{Size}
 
 -- colours are grey
 abbrev pub is_grey : Image → Bool
-is_grey image = image.shown.colour_encoding.colour_space == 1
+is_grey image = spaces.is_grey image.colour_encoding.colour_space
 
 -- how many channels colours have
 abbrev pub colour_count : Image → ℕ
@@ -17,7 +19,7 @@ colour_count image = if is_grey image then 1 else 3
 
 -- an extra channel is alpha, and whether there is one
 abbrev pub is_alpha : ExtraChannel → Bool
-is_alpha c = c.kind == 0
+is_alpha c = kinds.is_alpha c.kind
 
 abbrev pub has_alpha : Image → Bool
 has_alpha image = list_any is_alpha image.ec_info

@@ -48,10 +48,7 @@ impl Limits {
             return false;
         }
         let size = header.size;
-        if size.width > 1 << 30
-            || size.height > 1 << 30
-            || header.samples.bit_depth.bits_per_sample > 32
-        {
+        if size.width > 1 << 30 || size.height > 1 << 30 || header.bit_depth.bits_per_sample > 32 {
             return false;
         }
         let pixels = u64::from(size.width) * u64::from(size.height);

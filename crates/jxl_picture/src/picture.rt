@@ -31,7 +31,7 @@ pub struct Picture {
 pub fn is_grey(header: &ImageHeader) -> bool
     ensures { result ≡ colours_are_grey (image_of header.now) }
 {
-    header.shown.colour_encoding.colour_space == 1
+    header.colour_encoding.colour_space.is_grey()
 }
 
 /// How many channels colours have: 1 or 3.
@@ -45,14 +45,14 @@ pub fn colours(header: &ImageHeader) -> usize
 pub fn has_alpha(header: &ImageHeader) -> bool
     ensures { result ≡ there_is_alpha (image_of header.now) }
 {
-    header.ec_info.iter().any(|channel| channel.kind == 0)
+    header.ec_info.iter().any(|channel| channel.kind.is_alpha())
 }
 
 /// Whether a channel is alpha that is as large as the picture.
 pub fn is_full_alpha(channel: &ExtraChannel) -> bool
     ensures { result ≡ the_full_alpha channel.now }
 {
-    channel.kind == 0 && channel.dim_shift == 0
+    channel.kind.is_alpha() && channel.dim_shift == 0
 }
 
 /// Whether one of the extra channels is alpha that is as large as the picture.
@@ -128,9 +128,9 @@ impl Picture {
             p.channels.items) }
     {
         let mut header = self.header;
-        let orientation = header.display.orientation;
+        let orientation = header.orientation;
         header.size = shown_size(orientation, header.size);
-        header.display.orientation = 1;
+        header.orientation = 1;
         let channels = shown_channels(alloc, self.channels, orientation)?;
         Ok(Picture { header, channels })
     }

@@ -97,7 +97,7 @@ pub text_of_file : (limits : Limits) (file : List ℕ) (asked : Option Format) (
     IsPictureOfFile limits file picture 0 steps → chosen asked (image_of picture.header) ≡ Some format → (result : Result Output Failure) →
     IfOk result (λ o. content_text o.content ≡ text_of format (image_of picture.header) picture.channels.items) →
     IfOk result (λ o. string_bytes o.left_out.channels ≡ kinds_left_out format (image_of picture.header).ec_info) →
-    IfOk result (λ o. o.left_out.profile ≡ (image_of picture.header).shown.colour_encoding.want_icc) →
+    IfOk result (λ o. o.left_out.profile ≡ (image_of picture.header).colour_encoding.want_icc) →
     IfOk result (λ o. IsTextOfFile limits file asked (content_text o.content) (string_bytes o.left_out.channels) o.left_out.profile)
 text_of_file limits file asked picture steps format is suited (Ok o) written without plain = record {
   picture = picture;

@@ -34,7 +34,7 @@ pub record IsTextOfFile (limits : Limits) (file : List ℕ) (asked : Option Form
   pub suited : chosen asked (image_of picture.header) ≡ Some format
   pub written : text ≡ text_of format (image_of picture.header) picture.channels.items
   pub without : others ≡ kinds_left_out format (image_of picture.header).ec_info
-  pub plain : profile ≡ (image_of picture.header).shown.colour_encoding.want_icc
+  pub plain : profile ≡ (image_of picture.header).colour_encoding.want_icc
 
 -- The headers of the file are supported, of a picture that is not written in the format that is asked for, or in any.
 pub record HasNoFormat (limits : Limits) (file : List ℕ) (asked : Option Format) : Type 0 where

@@ -139,7 +139,7 @@ fn output_of(
     ensures channels { IfOk result (λ o. string_bytes o.left_out.channels
         ≡ kinds_left_out format (image_of picture.header).ec_info) }
     ensures profile { IfOk result (λ o. o.left_out.profile
-        ≡ (image_of picture.header).shown.colour_encoding.want_icc) }
+        ≡ (image_of picture.header).colour_encoding.want_icc) }
     ensures later { IfOk result (λ o. o.left_out.later_error ≡ later_error) }
     ensures err { IfErr result (λ failure. failure ≡ Failure.OutOfMemory) }
 {

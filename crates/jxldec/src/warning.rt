@@ -33,7 +33,7 @@ pub struct LeftOut {
 fn is_full_alpha(channel: &ExtraChannel) -> bool
     ensures { result ≡ the_full_alpha channel.now }
 {
-    channel.kind == 0 && channel.dim_shift == 0
+    channel.kind.is_alpha() && channel.dim_shift == 0
 }
 
 // Adds the kinds of channels, each after a space; unless `all` is set, but the first alpha of the picture's size.
@@ -62,7 +62,7 @@ impl LeftOut {
     ) -> Result<LeftOut, OutOfMemory>
         ensures channels { IfOk result (λ l. string_bytes l.channels
             ≡ kinds_left_out format (image_of header.now).ec_info) }
-        ensures profile { IfOk result (λ l. l.profile ≡ (image_of header.now).shown.colour_encoding.want_icc) }
+        ensures profile { IfOk result (λ l. l.profile ≡ (image_of header.now).colour_encoding.want_icc) }
         ensures later { IfOk result (λ l. l.later_error ≡ later_error) }
     {
         let mut channels = String::new(alloc);
@@ -73,7 +73,7 @@ impl LeftOut {
         }
         Ok(LeftOut {
             channels,
-            profile: header.shown.colour_encoding.want_icc,
+            profile: header.colour_encoding.want_icc,
             later_error,
         })
     }

@@ -4,7 +4,7 @@ use Rattle.jxlm_bits.specs.Grammar.{Grammar, number, u32, give, repeated, ◌>>=
 use Rattle.jxlm_bits.specs.declared.bits.U32Spec.TheVariants.{Const, Offset}
 use Rattle.jxl_image_header.specs.Channels.{extra_channel}
 use Rattle.jxl_image_header.specs.declared.channel.ExtraChannel.{ExtraChannel}
-use Rattle.jxl_image_header.specs.Fields.{groups, long, skipped, when}
+use Rattle.jxl_image_header.specs.Fields.{groups, long, ignored_bytes, when}
 
 -- the number of n groups and the last one is below this
 abbrev pub group_bound : ℕ → ℕ
@@ -16,8 +16,8 @@ abbrev pub grouped : Grammar ℕ
 grouped = number 12 >>= λ v. groups 6 >>= λ rest. give (v + 4096 * rest)
 
 -- n bits that are not looked at
-abbrev pub skipped_bits : ℕ → Grammar (Unit {0})
-skipped_bits n = number n >>= λ v. give tt
+abbrev pub ignored_bits : ℕ → Grammar (Unit {0})
+ignored_bits n = number n >>= λ v. give tt
 
 -- how many bits n extensions have: a U64 for each
 unfoldable pub extension_bits : ℕ → Grammar ℕ
@@ -26,7 +26,7 @@ extension_bits n = repeated n long >>= λ sizes. give (sum sizes)
 -- the three lists of weights of upsampling, each there or not
 abbrev pub weights : Bool → Bool → Bool → Grammar (Unit {0})
 weights first second third =
-    when first (skipped 30) tt >>= λ a. when second (skipped 110) tt >>= λ b. when third (skipped 420) tt
+    when first (ignored_bytes 30) tt >>= λ a. when second (ignored_bytes 110) tt >>= λ b. when third (ignored_bytes 420) tt
 
 -- the channels beside the colours, after their number
 abbrev pub extra_channels : Grammar (List ExtraChannel)

@@ -35,7 +35,7 @@ pub record IsCoded {S D : Type 0} (d : Meaning D) (w : Width) (to_int : S → �
   pub global : Option (Config D)
   pub begin : ℕ
   pub shared : SharedTree d size (channel_count image) first p global begin
-  pub still : IsStill d w to_int zero global (channels_given image size) group_dim image.samples.bit_depth.bits_per_sample first begin (own_passes places) (section_at places) grids before after
+  pub still : IsStill d w to_int zero global (channels_given image size) group_dim image.bit_depth.bits_per_sample first begin (own_passes places) (section_at places) grids before after
 
 module _ {S D : Type 0} (d : Meaning D) (w : Width) (to_int : S → ℤ) (zero : S) (image : Image) where
   -- the first section has the shared tree from bit p on, and after it the image of a frame of this size, or its samples, have
@@ -44,7 +44,7 @@ module _ {S D : Type 0} (d : Meaning D) (w : Width) (to_int : S → ℤ) (zero :
     pub global : Option (Config D)
     pub begin : ℕ
     pub shared : SharedTree d size (channel_count image) first p global begin
-    pub fails : StillFails {S = S} d w to_int zero global (channels_given image size) group_dim image.samples.bit_depth.bits_per_sample first begin (own_passes places) (section_at places) error
+    pub fails : StillFails {S = S} d w to_int zero global (channels_given image size) group_dim image.bit_depth.bits_per_sample first begin (own_passes places) (section_at places) error
 
   -- what each error says of a frame by its first section, from bit p on, and those of its groups
   abbrev pub CodedFails : Size → ℕ → List ℕ → ℕ → Places → FileError → Type 0

@@ -40,7 +40,7 @@ slots_in x = slots_of x.slots.now
 -- all channels.
 pub record IsReadyInput (x : FrameInput) : Type 0 where
   pub frame : IsReadyFrame x.bytes.now (image_in x) x.frame.now
-  pub deep : x.image.now.samples.bit_depth.bits_per_sample ≤ 32
+  pub deep : x.image.now.bit_depth.bits_per_sample ≤ 32
   pub many : channel_count (image_in x) ≤ 2 ^ 20
   pub low : HasLowShifts (image_in x)
   pub held : HoldChannels (image_in x) (slots_in x)

@@ -7,13 +7,13 @@ use Rattle.jxlm_bits.proofs.RepeatedLoop.{goes_on, stops}
 use Rattle.jxlm_bits.proofs.UnlessMemory.{unless_no_memory}
 use Rattle.jxl_frame_header.proofs.fields.fields.Goals as goal
 
-pub returns-in_err-value-clause-gives : goal.returns-in_err-value-clause-gives
-returns-in_err-value-clause-gives c =
+pub returns-in_err-value : goal.returns-in_err-value
+returns-in_err-value c =
     let p = err_from_is_err_and c.from_residual.result c.from_residual.ensures.1 in
     let refused = stops (u32 c.args.d0 c.args.d1 c.args.d2 c.args.d3) (bytes_of c.args.bits.now) c.loop.values.items c.args.count c.loop.counter (position_of c.loop.bits)
     (record { error = bitstream_kind c.in_err-value.field-0.0; position = Some (position_of c.read_u32.new.self) }) _ c.loop-test.true
     (rw c.loop.invariant.bytes at c.in_err-value.ensures.gives) c.loop.invariant.read in
-    rw (p.1, p.2) (unless_no_memory (bitstream_kind c.in_err-value.field-0.0) _ (record { place = Some (position_of c.read_u32.new.self); refuses = refused; stands = refl }))
+    record { gives = rw (p.1, p.2) (unless_no_memory (bitstream_kind c.in_err-value.field-0.0) _ (record { place = Some (position_of c.read_u32.new.self); refuses = refused; stands = refl })); bytes = search rules }
 
 pub loop-preserved : goal.loop-preserved
 loop-preserved c =

@@ -7,13 +7,13 @@ use Rattle.jxlm_bits.proofs.UnlessMemory.{unless_no_memory}
 use Rattle.jxl_image_header.specs.Channels.{extra_channel}
 use Rattle.jxl_image_header.proofs.image.read_channels.Goals as goal
 
-pub returns-in_err-channel-clause-gives : goal.returns-in_err-channel-clause-gives
-returns-in_err-channel-clause-gives c =
+pub returns-in_err-channel : goal.returns-in_err-channel
+returns-in_err-channel c =
     let p = err_from_is_err_and c.from_residual.result c.from_residual.ensures.1 in
     let refused = stops extra_channel (bytes_of c.args.bits.now) c.loop.channels.items c.args.count c.loop.counter (position_of c.loop.bits)
     (record { error = bitstream_kind c.in_err-channel.field-0.0; position = Some (position_of c.parse.new.bits) }) _ c.loop-test.true
     (rw c.loop.invariant.bytes at c.in_err-channel.ensures.gives) c.loop.invariant.read in
-    rw (p.1, p.2) (unless_no_memory (bitstream_kind c.in_err-channel.field-0.0) _ (record { place = Some (position_of c.parse.new.bits); refuses = refused; stands = refl }))
+    record { gives = rw (p.1, p.2) (unless_no_memory (bitstream_kind c.in_err-channel.field-0.0) _ (record { place = Some (position_of c.parse.new.bits); refuses = refused; stands = refl })); bytes = search rules }
 
 pub loop-preserved : goal.loop-preserved
 loop-preserved c =

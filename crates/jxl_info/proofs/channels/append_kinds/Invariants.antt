@@ -5,4 +5,4 @@ use Rattle.jxl_info.proofs.channels.append_kinds.Given as goal
 
 abbrev pub invariant-loop-channel : goal.invariant-loop-channel
 invariant-loop-channel l =
-    string_bytes l.initial.text ++ kinds_but l.told l.extra ≡ string_bytes l.text ++ rest_kinds l.passed l.told (drop l.channel-index l.extra)
+    string_bytes l.initial.text ++ kinds_but l.grey l.black l.extra ≡ string_bytes l.text ++ rest_kinds l.passed l.grey l.black (drop l.channel-index l.extra)

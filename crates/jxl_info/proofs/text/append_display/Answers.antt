@@ -1,5 +1,6 @@
 use Rattle.std.proofs.Common.{◌≡◌, ◌∷◌, ◌++◌, [], ◌∙◌, ap, List, ℕ, string_bytes, codes}
 use Rattle.std.specs.Fmt.{decimal}
+use Rattle.jxl_image_header.specs.Images.{image_of}
 use Rattle.jxl_text.specs.Printing.{line}
 use Rattle.jxl_info.specs.Names.{orientation_name}
 use Rattle.jxl_info.specs.Texts.{animation_lines, display_lines, intrinsic_line, preview_line}
@@ -9,7 +10,7 @@ use Rattle.jxl_info.proofs.text.append_display.Goals as goal
 pub returns : goal.returns
 unfolding display_lines
 returns c =
-    let d = c.args.display in
+    let d = image_of c.args.header.now in
     let v = string_bytes c.append_intrinsic.new.text in
     let w = string_bytes c.writeln.new.self in
     let n = decimal d.orientation in
