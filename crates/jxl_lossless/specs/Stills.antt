@@ -23,7 +23,7 @@ use Rattle.jxlm_samples.specs.Part.{cell_count}
 use Rattle.jxl_modular.specs.Fresh.{fresh}
 use Rattle.jxl_modular.specs.Groups.{channels_in}
 use Rattle.jxl_modular.specs.Image.{Image, coded_list}
-use Rattle.jxl_modular.specs.Parsing.{IsStartAt, IsTreeErrorAt, opened}
+use Rattle.jxl_modular.specs.Parsing.{IsStartAt, IsTreeErrorAt, opening_at}
 use Rattle.jxl_modular.specs.Sections.{AreDecoded, SectionsStop}
 use Rattle.jxl_modular.specs.declared.sections.Section.{Section}
 use Rattle.jxl_lossless.specs.declared.still.error.FrameError.{FrameError}
@@ -81,7 +81,7 @@ module _ {S D : Type 0} (d : Meaning D) (w : Width) (to_int : S → ℤ) (zero :
   -- what each error says: up to which stage all stands, and what fails there; no two hold of one input, memory aside
   abbrev pub StillFails : FrameError → Type 0
   StillFails (errors.Header e) = UnlessMemory (kind_of e)
-      ((¬ (IsWeightedAt bytes p)) × (q : ℕ) × (IsErrorAt (opened global bytes given p) (kind_of e) q ⊎ IsTreeErrorAt d global bytes given p (kind_of e) q))
+      ((¬ (IsWeightedAt bytes p)) × (q : ℕ) × (IsErrorAt (opening_at global bytes given p) (kind_of e) q ⊎ IsTreeErrorAt d global bytes given p (kind_of e) q))
   StillFails errors.WeightedPalette = IsWeightedAt bytes p
   StillFails errors.NoGroups = (s : HeaderStands) × IsFalse (can_cut group_dim (coded_list s.image))
   StillFails errors.NoSection = (s : HeaderStands) × IsTrue (can_cut group_dim (coded_list s.image)) × (part : SectionPart) × IsGroup s part × (section_of part ≡ None)

@@ -27,7 +27,7 @@ use Rattle.jxlm_groups.specs.Cutting.{can_cut}
 use Rattle.jxlm_groups.specs.Passes.{can_group, one_picture}
 use Rattle.jxlm_header.specs.Opening.{Opening}
 use Rattle.jxl_modular.specs.Image.{Image, coded_list}
-use Rattle.jxl_modular.specs.Parsing.{IsImageAt, IsStartAt, IsTreeErrorAt, ParseGives, image_of, opened}
+use Rattle.jxl_modular.specs.Parsing.{IsImageAt, IsStartAt, IsTreeErrorAt, ParseGives, image_of, opening_at}
 use Rattle.jxl_modular.specs.Sections.{AllTurn, AreDecoded, IsComplete, SectionsFit, SectionsLeave, SectionsStop}
 use Rattle.jxl_modular.specs.declared.sections.Section.{Section}
 use Rattle.jxl_modular.specs.declared.root.Modular.{Modular}
@@ -118,9 +118,9 @@ module _ {S D : Type 0} (d : Meaning D) (w : Width) (to_int : S → ℤ) (zero :
         rest = rest;
         split = split;
         place = q;
-        fails = subst (λ g. IsErrorAt (opened {D = D} g first given 0) (kind_of e) q ⊎ IsTreeErrorAt d g first given 0 (kind_of e) q) none
-            (subst (λ b. IsErrorAt (opened {D = D} (option_copied params.ma_config) b given 0) (kind_of e) q ⊎ IsTreeErrorAt d (option_copied params.ma_config) b given 0 (kind_of e) q) same
-            (subst (λ n. IsErrorAt (opened {D = D} (option_copied params.ma_config) all given n) (kind_of e) q ⊎ IsTreeErrorAt d (option_copied params.ma_config) all given n (kind_of e) q) origin fails));
+        fails = subst (λ g. IsErrorAt (opening_at {D = D} g first given 0) (kind_of e) q ⊎ IsTreeErrorAt d g first given 0 (kind_of e) q) none
+            (subst (λ b. IsErrorAt (opening_at {D = D} (option_copied params.ma_config) b given 0) (kind_of e) q ⊎ IsTreeErrorAt d (option_copied params.ma_config) b given 0 (kind_of e) q) same
+            (subst (λ n. IsErrorAt (opening_at {D = D} (option_copied params.ma_config) all given n) (kind_of e) q ⊎ IsTreeErrorAt d (option_copied params.ma_config) all given n (kind_of e) q) origin fails));
       })) gives
 
   -- header or tree has an error

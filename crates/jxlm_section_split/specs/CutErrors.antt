@@ -14,7 +14,7 @@ use Rattle.jxlm_header.specs.Opening.{Opening}
 use Rattle.jxlm_tree.specs.Tree.{Config}
 use Rattle.jxl_modular.specs.Fresh.{fresh}
 use Rattle.jxl_modular.specs.Image.{Image}
-use Rattle.jxl_modular.specs.Parsing.{IsStartAt, IsTreeErrorAt, opened}
+use Rattle.jxl_modular.specs.Parsing.{IsStartAt, IsTreeErrorAt, opening_at}
 use Rattle.jxl_modular.specs.Sections.{SectionsStop}
 use Rattle.jxl_modular.specs.declared.sections.Section.{Section}
 use Rattle.jxlm_section_split.specs.CutPicture.{AreNumbered, StandBefore, groups_in_order, one_pass, with_length}
@@ -57,7 +57,7 @@ module _ {S D : Type 0} (d : Meaning D) (w : Width) (to_int : S → ℤ) (zero :
     pub rest : List ℕ
     pub split : IsSplit bytes section rest
     pub place : ℕ
-    pub fails : IsErrorAt (opened {D = D} None section given 0) error place ⊎ IsTreeErrorAt d None section given 0 error place
+    pub fails : IsErrorAt (opening_at {D = D} None section given 0) error place ⊎ IsTreeErrorAt d None section given 0 error place
 
   -- a group has a side of 0 in a coded channel
   pub record CannotBeCut : Type 0 where
