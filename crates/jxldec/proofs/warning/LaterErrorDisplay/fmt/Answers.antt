@@ -13,5 +13,5 @@ unfolding later_line
 returns-in_ok-writeln-clause-writes g c = λ plain all.
     rw (c.in-Some.is, sym c.box_text-reason.ensures)
     (subst (λ (xs : List ℕ). HasWritten {W = g.row.W.Denot} g.W.Write.write_str_gives c.args.f.now xs c.writeln.new.self)
-        (sym (pieces c.args.self.now.name.now (codes "ignored after the codestream: " ++ c.box_text-reason.result.now)))
-        (c.in_ok-writeln.ensures.writes plain all))
+    (sym (pieces c.args.self.now.name.now (codes "ignored after the codestream: " ++ c.box_text-reason.result.now)))
+    (c.in_ok-writeln.ensures.writes plain all))
