@@ -3,7 +3,8 @@ use Rattle.std.proofs.Common.{◌≡◌, ap, if◌then◌else◌, ℕ, List, len
 use Rattle.std.specs.Prelude.{IfOk, MatchResult, string_bytes}
 use Rattle.jxl_coding.specs.Parse.{decoder_at}
 use Rattle.jxl_coding.specs.Tokens.{entropy}
-use Rattle.jxl_container.specs.Files.{stream_of}
+use Rattle.jxl_container.specs.Files.{HasLaterError, stream_of}
+use Rattle.jxl_container.specs.declared.error.FileError.{FileError as BoxError}
 use Rattle.jxl_image_header.specs.Images.{Image, image_of}
 use Rattle.jxl_image_header.specs.declared.image.ImageHeader.{ImageHeader}
 use Rattle.jxl_image_header.specs.declared.size.Size.{Size}
@@ -14,7 +15,7 @@ use Rattle.jxl_codestream.specs.declared.error.FrontError.TheVariants as fronts
 use Rattle.jxl_codestream.specs.declared.front.Frames.{Frames}
 use Rattle.jxl_info.specs.Headers.{HeadersOfFile, IsReason, IsSupported}
 use Rattle.jxl_info.specs.Reasons.{is_refusal}
-use Rattle.jxl_lossless.specs.Files.{IsReadOf, error_of, header_of, reason_of, upright}
+use Rattle.jxl_lossless.specs.Files.{IsReadOf, error_of, header_of, later_error_of, reason_of, upright}
 use Rattle.jxl_lossless.specs.Pictures.{FileFails, IsPictureOfFile}
 use Rattle.jxl_lossless.specs.declared.error.FileError.TheVariants as files
 use Rattle.jxl_lossless.specs.declared.file.JxlFile.{JxlFile}
@@ -110,3 +111,9 @@ text_of_file limits file asked picture steps format is suited (Ok o) written wit
   plain = plain;
 }
 text_of_file limits file asked picture steps format is suited (Err e) written without plain = tt
+
+-- what is left out has the error of the boxes after the codestream
+pub later_kept : (limits : Limits) (file : List ℕ) (read : JxlFile) → IsReadOf limits file read → (error : Option BoxError) → error ≡ later_error_of read → (result : Result Output Failure) →
+    IfOk result (λ o. o.left_out.later_error ≡ error) → IfOk result (λ o. HasLaterError file o.left_out.later_error)
+later_kept limits file read is error same (Ok o) kept = subst (λ (e : Option BoxError). HasLaterError file e) (sym (kept ∙ same)) is.later
+later_kept limits file read is error same (Err e) kept = tt

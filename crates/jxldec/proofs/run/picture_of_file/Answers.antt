@@ -3,7 +3,7 @@ use Rattle.jxl_lossless.specs.Pictures.{IsPictureOfFile}
 use Rattle.jxl_image_header.specs.Images.{image_of}
 use Rattle.jxl_lossless.specs.Files.{header_of}
 use Rattle.jxldec.specs.Texts.{chosen}
-use Rattle.jxldec.proofs.FileReading.{choice_kept, text_of_file}
+use Rattle.jxldec.proofs.FileReading.{choice_kept, later_kept, text_of_file}
 use Rattle.jxldec.proofs.Texts.{chosen_suits}
 use Rattle.jxldec.proofs.run.picture_of_file.Goals as goal
 
@@ -21,3 +21,7 @@ returns-in-Ok-decode-clause-text g c =
     (subst (λ (n : ℕ). IsPictureOfFile c.args.limits.now c.args.file.now c.in-Ok-decode.picture n c.decode.new.steps) c.new-steps.ensures
     (c.in-Ok-decode.ensures.picture c.args.limits.now c.args.file.now c.in-Ok.ensures.ok))
     suited c.output_of.result c.output_of.ensures.text c.output_of.ensures.channels c.output_of.ensures.profile
+
+pub returns-in-Ok-decode-clause-later : goal.returns-in-Ok-decode-clause-later
+returns-in-Ok-decode-clause-later g c =
+    later_kept c.args.limits.now c.args.file.now c.in-Ok.read c.in-Ok.ensures.ok c.later_error-later_error.result c.later_error-later_error.ensures c.output_of.result c.output_of.ensures.later
