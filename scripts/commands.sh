@@ -24,6 +24,8 @@ printf '\377\012\010\100\260\022\010\010\020\000\130\000\113\022\245\102\205\044
 printf '\377\012\010\100\120\020\200\000\000\340\001\000\000\000\000\300\101\161\043\010\040\000\001\000\110\000\113\022\245\102\205\044\022\240\172\031\136\000\077\000\352\255\003\003' > spot.jxl
 # A lossy one, of cjxl.
 printf '\377\012\010\100\220\024\027\002\000\022\010\001\000\310\000\135\345\022\000\000\025\052\243\214\033\274\234\353\371\362\103\207' > lossy.jxl
+# A grey one of 4x3 whose tree is a chain of five decisions.
+printf '\377\012\020\000\006\200\240\270\021\010\006\001\000\320\000\053\011\044\340\200\003\122\226\121\125\104\125\125\004\000\000\000\000\000\000\000\000\000\000\104\314\124\025\121\125\025\002\000\000\340\333\037\300\341\077\340\364\017\060\376\003\352\077\000\040\011\060' > chain.jxl
 input=/dev/null
 right=0
 wrong=0
@@ -213,13 +215,18 @@ expect 1 "jxldec: ball.jxl: $limits (maximum: 268435456 pixels, 256 channels, 81
 expect 0 - ball.jxl --max-bytes 8192
 expect 1 "jxldec: ball.jxl: $limits (maximum: 2048 pixels, 256 channels, 8191 bytes of samples)" ball.jxl --max-pixels 2048 --max-bytes 8191
 expect 0 - ball.jxl --max-pixels 2048 --max-bytes 8192
+expect 1 'jxldec: chain.jxl: global tree: more decisions than the limit' chain.jxl --max-decisions 0
+expect 0 - chain.jxl --max-decisions 1
 expect 0 - --help
+grep -q 'max-decisions.*default: 128' out
+judge $? 'the help does not say the default of --max-decisions'
 grep -q 'max-pixels.*default: 268435456' out
 judge $? 'the help does not say the default of --max-pixels'
 grep -q 'max-bytes.*default: 2147483648' out
 judge $? 'the help does not say the default of --max-bytes'
 expect 2 "error: invalid value 'many'" ball.jxl --max-bytes many
 expect 2 "error: invalid value 'many'" ball.jxl --max-pixels many
+expect 2 "error: invalid value 'many'" ball.jxl --max-decisions many
 expect 2 "error: " ball.jxl --max-pixels -1
 
 # Outputs that cannot be written.

@@ -36,6 +36,7 @@ fn seen_of_files(alloc: Global, row: &Row<'_>) -> Option<String> {
         "entropy_cuts" => damaged::seen_of_cuts(alloc, row.asked),
         "damaged" => damaged::sum_of_damaged(alloc, row.asked),
         "decoded" => pictures::seen(alloc, row.asked),
+        "decided" => pictures::seen_of_decisions(alloc, row.asked),
         "sections" => pictures::seen_of_sections(alloc, row.asked),
         "later" => pictures::seen_of_later_error(alloc, row.asked),
         "beginnings" => pictures::seen_of_beginnings(alloc, row.asked),

@@ -1,7 +1,7 @@
 //! Files, decoded to pictures.
 
 use crate::example::maximum_of_grey;
-use check_rows::{bytes, listed};
+use check_rows::{bytes, listed, number};
 use jxl_image_header::size::Size;
 use jxl_lossless::{JxlFile, Limits, Progress, Steps, decode_lossless, decode_lossless_with};
 use jxl_picture::picture::Picture;
@@ -36,13 +36,18 @@ fn tell(alloc: Global, text: &mut String, picture: &Picture, summed: bool) -> Op
 /// depth of its picture, and after bars the samples of each channel, row by row, or their checksum, with the sides of a
 /// channel that has others than the picture; or what the error prints.
 pub fn seen(alloc: Global, asked: &str) -> Option<String> {
+    seen_within(alloc, asked, &Limits::usual())
+}
+
+/// What `decoded` gives, within these limits.
+fn seen_within(alloc: Global, asked: &str, limits: &Limits) -> Option<String> {
     let (digits, summed) = match asked.strip_prefix("# ") {
         Some(digits) => (digits, true),
         None => (asked, false),
     };
     let file = bytes(alloc, digits)?;
     let mut text = String::new(alloc);
-    match decode_lossless(alloc, &file, &Limits::usual(), &mut Steps::new()) {
+    match decode_lossless(alloc, &file, limits, &mut Steps::new()) {
         Ok(picture) => tell(alloc, &mut text, &picture, summed)?,
         Err(error) => write!(text, "{error}").ok()?,
     }
@@ -60,6 +65,15 @@ pub fn seen_of_later_error(alloc: Global, asked: &str) -> Option<String> {
         },
         Err(error) => format!(in alloc; "error: {error}").ok(),
     }
+}
+
+/// A row asks with the maximum number of decisions for a sample and, after a bar, what `decoded` asks with. It gives what
+/// `decoded` gives.
+pub fn seen_of_decisions(alloc: Global, asked: &str) -> Option<String> {
+    let (most, asked) = asked.split_once(" | ")?;
+    let mut limits = Limits::usual();
+    limits.decisions = number(most)?;
+    seen_within(alloc, asked, &limits)
 }
 
 /// A row asks with the bytes of a file. It gives how many beginnings it has that are not the whole, and how many of them

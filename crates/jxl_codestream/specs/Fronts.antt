@@ -12,7 +12,7 @@ use Rattle.jxl_codestream.specs.Layouts.{Layout, layout_of, max_sections, sectio
 use Rattle.jxl_codestream.specs.Profiles.{profile}
 use Rattle.jxl_codestream.specs.Tocs.{IsFirstTruncated, IsToc, Table, is_within, toc}
 use Rattle.jxl_codestream.specs.declared.toc.TocEntry.{TocEntry}
-use Rattle.jxl_picture.specs.Limits.{Allow, AllowFrame, cells_of}
+use Rattle.jxl_picture.specs.Limits.{Allow, AllowFrame, cells_of, deepest}
 use Rattle.jxl_picture.specs.declared.limits.Limits.{Limits}
 use Rattle.jxl_codestream.specs.declared.error.FrontError.{FrontError}
 use Rattle.jxl_codestream.specs.declared.error.FrontError.TheVariants as errors
@@ -29,12 +29,13 @@ FailsAt field bytes p error = (q : ℕ) × IsErrorAt (field.read bytes p) error 
 abbrev pub between : {D : Type 0} → Meaning D → ℕ → Bool → Grammar ℕ
 between d limit there = either there (profile d limit) (give 0) >>= λ n. aligned
 
--- a frame, as its header describes it before its sections: the byte where it begins, its header, and where its sections lie from
--- there on
+-- a frame, as its header describes it before its sections: the byte where it begins, its header, where its sections lie from
+-- there on, and the maximum depth of the tree that they share
 pub record FrameAt : Type 0 where
   pub start : ℕ
   pub header : Frame
   pub entries : List TocEntry
+  pub deepest : ℕ
 
 -- how a frame is cut
 abbrev pub layout_in : Image → Frame → Layout
@@ -63,10 +64,11 @@ module _ {D : Type 0} (d : Meaning D) (limits : Limits) (bytes : List ℕ) where
     pub few : section_count_of (layout_in image frame) ≤ max_sections
     pub contents : (table : Table) × (q : ℕ) × StandsAt (toc d (section_count_of (layout_in image frame))) (drop start bytes) end table q × IsToc table entries
 
-  -- And all sections lie in the codestream.
+  -- And all sections lie in the codestream; its maximum depth of a tree is that of the limits.
   abbrev pub FrameStands : Image → ℕ → FrameAt → Type 0
   FrameStands image used frame = ContentsStand image frame.start used frame.header frame.entries
       × (list_all (is_within (length (drop frame.start bytes))) frame.entries ≡ true)
+      × (frame.deepest ≡ deepest limits image used (frame_size image.size frame.header))
 
   -- These saved frames, with this number of cells together, stand one after another before the frame that begins at this byte.
   -- The first frame begins after the image header and what comes between them.

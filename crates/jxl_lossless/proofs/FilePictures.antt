@@ -36,6 +36,7 @@ module _ (limits : Limits) (file stream : List ℕ) (found : HasCodestream file 
   fails (errors.Patches e) h = (front, h)
   fails (errors.Start e) h = (front, h)
   fails (errors.Tree e) h = (front, h)
+  fails errors.TooManyDecisions h = (front, h)
   fails (errors.Samples e) h = (front, h)
   fails (errors.Front e) h = absurd h.8
   fails (errors.File e) h = absurd h.8

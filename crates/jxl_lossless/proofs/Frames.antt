@@ -32,13 +32,14 @@ use Rattle.jxl_lossless.specs.Inner.Coded.{BeginsWith, CodedFails, IsMade, MadeF
 use Rattle.jxl_lossless.specs.declared.error.FileError.{FileError}
 use Rattle.jxl_lossless.specs.declared.error.FileError.TheVariants as errors
 
-module _ {D : Type 0} (d : Meaning D) (image : Image) (slots : Slots) (frame : Frame) (first : List ℕ) (places : Places) where
+module _ {D : Type 0} (d : Meaning D) (image : Image) (slots : Slots) (frame : Frame) (deepest : ℕ) (first : List ℕ) (places : Places) where
   -- patches were read, and what comes after them has this error
   pub made_fails : (patches : Option Patches) (begin : ℕ) → BeginsWith d image slots frame first patches begin → (e : FileError) →
-      CodedFails {S = ℤ} d w32 (λ (v : ℤ). v) (pos 0) image (frame_size image.size frame) frame.group_dim first begin places e → MadeFails d image slots frame first places e
+      CodedFails {S = ℤ} d w32 (λ (v : ℤ). v) (pos 0) image deepest (frame_size image.size frame) frame.group_dim first begin places e → MadeFails d image slots frame deepest first places e
   made_fails patches begin stands errors.OutOfMemory h = tt
   made_fails patches begin stands (errors.Start e) h = record { patches = patches; begin = begin; dictionary = stands; fails = h }
   made_fails patches begin stands (errors.Tree e) h = record { patches = patches; begin = begin; dictionary = stands; fails = h }
+  made_fails patches begin stands errors.TooManyDecisions h = record { patches = patches; begin = begin; dictionary = stands; fails = h }
   made_fails patches begin stands (errors.Samples e) h = record { patches = patches; begin = begin; dictionary = stands; fails = h }
   made_fails patches begin stands (errors.Patches e) h = absurd h
   made_fails patches begin stands (errors.File e) h = absurd h
@@ -61,7 +62,7 @@ module _ {D : Type 0} (d : Meaning D) (image : Image) (slots : Slots) (frame : F
     begins patches e = sym read_there ∙ e
 
     pub patches_fail : (e : PatchError) → UnlessMemory (patch_kind e) (IsErrorAt ((optional_patches d frame.coding.flags.patches size extra sizes).read bytes p) (patch_kind e) q) →
-        MadeFails d image slots frame first places (errors.Patches e)
+        MadeFails d image slots frame deepest first places (errors.Patches e)
     patches_fail e h =
         unless_so (patch_kind e) (λ f. (q, f)) (subst (λ (r : Result (Found (Option Patches)) ErrorAt). UnlessMemory (patch_kind e) (IsErrorAt r (patch_kind e) q)) read_there h)
 
@@ -101,12 +102,12 @@ module _ {D : Type 0} (d : Meaning D) (image : Image) (slots : Slots) (bytes : L
   has_patches patches begin stand = record { patches = patches; begin = begin; stand = stand }
 
   abbrev has_tree : (patches : Option Patches) (begin : ℕ) → BeginsWith d image slots frame.header first patches begin → (global : Option (Config D)) (q : ℕ) →
-      SharedTree d size (channel_count image) first begin global q → HasTree d image slots bytes frame
+      SharedTree d size (channel_count image) frame.deepest first begin global q → HasTree d image slots bytes frame
   has_tree patches begin stand global q shared = record { after = has_patches patches begin stand; global = global; begin = q; shared = shared }
 
   -- the channels that were made are those of the frame
   pub framed : {X : Type 0} (grids : X → List (Grid ℤ)) (before after : ℕ) (result : Result X FileError) →
-      IfOk result (λ x. IsMade d image slots frame.header first places (grids x) before after) → IfOk result (λ x. IsFrame d image slots bytes frame (grids x) before after)
+      IfOk result (λ x. IsMade d image slots frame.header frame.deepest first places (grids x) before after) → IfOk result (λ x. IsFrame d image slots bytes frame (grids x) before after)
   framed grids before after (Ok x) h = record {
     tree = has_tree h.patches h.begin h.dictionary h.coded.global h.coded.begin h.coded.shared;
     own = h.own;
@@ -115,15 +116,16 @@ module _ {D : Type 0} (d : Meaning D) (image : Image) (slots : Slots) (bytes : L
   }
   framed grids before after (Err e) h = tt
 
-  bad : (e : FileError) → MadeFails d image slots frame.header first places e → FrameFails d image slots bytes frame e
+  bad : (e : FileError) → MadeFails d image slots frame.header frame.deepest first places e → FrameFails d image slots bytes frame e
   bad errors.OutOfMemory h = tt
   bad (errors.Patches e) h = h
   bad (errors.Start e) h = (has_patches h.patches h.begin h.dictionary, h.fails)
   bad (errors.Tree e) h = (has_patches h.patches h.begin h.dictionary, h.fails)
+  bad errors.TooManyDecisions h = (has_patches h.patches h.begin h.dictionary, h.fails)
   bad (errors.Samples e) h = (has_tree h.patches h.begin h.dictionary h.fails.global h.fails.begin h.fails.shared, fails_of h.fails.global h.fails.begin e h.fails.fails)
   bad (errors.File e) h = absurd h.fails
   bad (errors.Front e) h = absurd h.fails
 
-  pub frame_fails : {X : Type 0} (result : Result X FileError) → IfErr result (MadeFails d image slots frame.header first places) → IfErr result (FrameFails d image slots bytes frame)
+  pub frame_fails : {X : Type 0} (result : Result X FileError) → IfErr result (MadeFails d image slots frame.header frame.deepest first places) → IfErr result (FrameFails d image slots bytes frame)
   frame_fails (Ok x) h = tt
   frame_fails (Err e) h = bad e h

@@ -39,6 +39,7 @@ module _ {D : Type 0} (d : Meaning D) (bytes : List ℕ) (image : Image) where
     by (errors.Patches e) h = (decoded, f, others, are, slots, before, after, saved, h)
     by (errors.Start e) h = (decoded, f, others, are, slots, before, after, saved, h)
     by (errors.Tree e) h = (decoded, f, others, are, slots, before, after, saved, h)
+    by errors.TooManyDecisions h = (decoded, f, others, are, slots, before, after, saved, h)
     by (errors.Samples e) h = (decoded, f, others, are, slots, before, after, saved, h)
     by (errors.File e) h = (decoded, f, others, are, slots, before, after, saved, h)
     by (errors.Front e) h = (decoded, f, others, are, slots, before, after, saved, h)

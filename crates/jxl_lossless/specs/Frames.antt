@@ -1,6 +1,6 @@
 -- The samples of a frame of a codestream (ISO/IEC 18181-1, frame: sections, LF global), stage by stage, and what fails at each:
 -- what is not supported comes before what is wrong with samples.
-use Rattle.std.specs.Prelude.{◌≡◌, ℕ, ◌^◌, ◌⊎◌, pos, ℤ, List, [], length, map, get_or, Bool, true, MatchBool, Option, Some, None}
+use Rattle.std.specs.Prelude.{◌≡◌, ℕ, ◌^◌, ◌<◌, ◌≤◌, ◌⊎◌, pos, ℤ, List, [], length, map, get_or, Bool, true, MatchBool, Option, Some, None}
 use Rattle.std.specs.Int.{div_ceil, w32}
 use Rattle.jxlm_bits.specs.Decoding.{Meaning}
 use Rattle.jxlm_bits.specs.ErrorKind.{ErrorKind, UnlessMemory, kind_of}
@@ -11,7 +11,7 @@ use Rattle.jxlm_transform.specs.declared.param.ChannelShift.TheVariants.{Shifts}
 use Rattle.jxlm_transform.specs.declared.param.GradientSums.TheVariants.{Clamped}
 use Rattle.jxlm_transform.specs.declared.param.PaletteTables.TheVariants.{OfDeltasToo}
 use Rattle.jxlm_groups.specs.Passes.{passes_of}
-use Rattle.jxlm_tree.specs.Tree.{Config}
+use Rattle.jxlm_tree.specs.Tree.{Config, depth}
 use Rattle.jxlm_tree.specs.TreeReading.{IsTooDeep, IsTreeAt, listing_at}
 use Rattle.jxl_image_header.specs.Images.{Image}
 use Rattle.jxl_image_header.specs.declared.size.Size.{Size}
@@ -49,17 +49,23 @@ abbrev pub channels_given : Image → Size → ChannelList
 channels_given image size = record { channels = map (channel_in size) (shifts_of image); nb_meta = 0 }
 
 -- The first section of a frame of this size with n channels has, from bit p on, factors that Modular does not use, and the
--- tree that sections share, if there is one, up to bit q. Its nodes are within the frame's limit.
-pub record SharedTree {D : Type 0} (d : Meaning D) (size : Size) (n : ℕ) (first : List ℕ) (p : ℕ) (global : Option (Config D)) (q : ℕ) : Type 0 where
+-- tree that sections share, if there is one, up to bit q. Its nodes are within the frame's limit, and its depth is at most
+-- `deepest`.
+pub record SharedTree {D : Type 0} (d : Meaning D) (size : Size) (n deepest : ℕ) (first : List ℕ) (p : ℕ) (global : Option (Config D)) (q : ℕ) : Type 0 where
   pub there : Bool
   pub begin : ℕ
   pub start : StandsAt section_start first p there begin
-  pub tree : MatchBool there ((tree : Config D) × (global ≡ Some tree) × IsTreeAt d first (tree_limit size n) 2048 begin tree q) ((global ≡ None) × (q ≡ begin))
+  pub tree : MatchBool there ((tree : Config D) × (global ≡ Some tree) × IsTreeAt d first (tree_limit size n) 2048 begin tree q × (depth tree.tree ≤ deepest)) ((global ≡ None) × (q ≡ begin))
 
 -- such a tree follows there, which has this error
 abbrev pub TreeFails : {D : Type 0} → Meaning D → Size → ℕ → List ℕ → ℕ → ErrorKind → Type 0
 TreeFails d size n first p error = (begin : ℕ) × StandsAt section_start first p true begin
     × (q : ℕ) × (IsErrorAt (listing_at d first (tree_limit size n) begin) error q ⊎ IsTooDeep d first (tree_limit size n) 2048 begin error q)
+
+-- such a tree follows there, and is deeper than this
+abbrev pub TreeIsDeep : {D : Type 0} → Meaning D → Size → ℕ → ℕ → List ℕ → ℕ → Type 0
+TreeIsDeep {D} d size n deepest first p = (begin : ℕ) × StandsAt section_start first p true begin
+    × (tree : Config D) × (q : ℕ) × IsTreeAt d first (tree_limit size n) 2048 begin tree q × (deepest < depth tree.tree)
 
 module _ {D : Type 0} (d : Meaning D) (image : Image) (slots : Slots) (bytes : List ℕ) (frame : FrameAt) where
   -- the first of its sections
@@ -85,7 +91,7 @@ module _ {D : Type 0} (d : Meaning D) (image : Image) (slots : Slots) (bytes : L
     pub after : HasPatches
     pub global : Option (Config D)
     pub begin : ℕ
-    pub shared : SharedTree d sides (channel_count image) first after.begin global begin
+    pub shared : SharedTree d sides (channel_count image) frame.deepest first after.begin global begin
 
   -- These are the frame's channels: samples of 32 bits, which the sections code by the header's passes, with its patches put in.
   pub record IsFrame (grids : List (Grid ℤ)) (before after : ℕ) : Type 0 where
@@ -100,6 +106,7 @@ module _ {D : Type 0} (d : Meaning D) (image : Image) (slots : Slots) (bytes : L
   FrameFails (errors.Patches e) = UnlessMemory (patch_kind e) (FailsAt dictionary first 0 (patch_kind e))
   FrameFails (errors.Start e) = (s : HasPatches) × FailsAt section_start first s.begin (kind_of e)
   FrameFails (errors.Tree e) = (s : HasPatches) × UnlessMemory (kind_of e) (TreeFails d sides (channel_count image) first s.begin (kind_of e))
+  FrameFails errors.TooManyDecisions = (s : HasPatches) × TreeIsDeep d sides (channel_count image) frame.deepest first s.begin
   FrameFails (errors.Samples e) = (s : HasTree) × StillFails {S = ℤ} d w32 (λ (v : ℤ). v) (pos 0) s.global (channels_given image sides) frame.header.group_dim
       image.bit_depth.bits_per_sample first s.begin (passes_of (pass_shifts frame.header.passes)) (section_of (layout_in image frame.header) (sections_in bytes frame)) e
   FrameFails errors.OutOfMemory = Unit {0}

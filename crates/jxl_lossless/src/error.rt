@@ -28,6 +28,9 @@ pub enum FileError {
     /// The tree that sections of a frame share has this error.
     #[error("global tree: {0}")]
     Tree(Error),
+    /// The tree that sections of a frame share is deeper than the limit on decisions allows.
+    #[error("global tree: more decisions than the limit")]
+    TooManyDecisions,
     /// The image of a frame, or its samples, have this error.
     #[error("{0}")]
     Samples(FrameError),

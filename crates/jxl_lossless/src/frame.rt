@@ -84,7 +84,7 @@ pub struct FrameInput<'a> {
     pub bytes: &'a [u8],
     /// The image header.
     pub image: &'a ImageHeader,
-    /// The header of the frame, how it is cut, and where its sections lie.
+    /// The header of the frame, how it is cut, where its sections lie, and how deep the tree may be that they share.
     pub frame: &'a FrameFront,
     /// The frames that were saved before it.
     pub slots: &'a SavedFrames,
@@ -150,12 +150,13 @@ impl<'a> SectionsInput<'a, '_> {
     ) -> Result<Vec<AlignedGrid<i32>>, FileError>
         requires ready { IsReadyCut self }
         ensures ok { IfOk result (λ v. IsMade D.meaning (image_in self.entry.input) (slots_in self.entry.input)
-            (frame_of self.entry.input.frame.now.header) self.entry.first.now self.entry.places v.items steps.old
-            steps.new) }
+            (frame_of self.entry.input.frame.now.header) self.entry.input.frame.now.deepest self.entry.first.now
+            self.entry.places v.items steps.old steps.new) }
         ensures sides { IfOk result (λ v. AreChannels (image_in self.entry.input) (size_of self.entry.input)
             v.items) }
         ensures err { IfErr result (MadeFails D.meaning (image_in self.entry.input) (slots_in self.entry.input)
-            (frame_of self.entry.input.frame.now.header) self.entry.first.now self.entry.places) }
+            (frame_of self.entry.input.frame.now.header) self.entry.input.frame.now.deepest self.entry.first.now
+            self.entry.places) }
     {
         let image = self.input.image;
         let size = self.input.size();
@@ -213,7 +214,8 @@ impl<'a> SectionsInput<'a, '_> {
         let image = self.input.image;
         let size = self.input.size();
         let channels = colours(image) + image.ec_info.len();
-        let tree = shared_tree::<D>(alloc, &mut bits, size, channels)?;
+        let deepest = self.input.frame.deepest;
+        let tree = shared_tree::<D>(alloc, &mut bits, size, channels, deepest)?;
         let list = channels_of(alloc, image, size)?;
         let depth = image.bit_depth.bits_per_sample;
         let dim = self.input.frame.header.group_dim;

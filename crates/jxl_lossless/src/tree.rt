@@ -14,17 +14,18 @@ use jxlm_bits::error::Error;
 use jxlm_tree::ma::{MaConfig, MaConfigParams};
 use std::alloc::Global;
 
-/// The tree that sections share, where there is one, of a frame of this size with this number of channels. The reader
-/// is left before the header of the image.
+/// The tree that sections share, where there is one, of a frame of this size with this number of channels, and at most
+/// this deep. The reader is left before the header of the image.
 pub fn shared_tree<D: Decoder>(
     alloc: Global,
     bits: &mut Bitstream<'_>,
     size: Size,
     channels: usize,
+    deepest: u64,
 ) -> Result<Option<MaConfig<D>>, FileError>
-    ensures ok { IfOk result (λ tree. SharedTree D.meaning size channels (bytes_of bits.old) (position_of bits.old) tree
-        (position_of bits.new)) }
-    ensures err { IfErr result (StartFails D.meaning size channels (bytes_of bits.old) (position_of bits.old)) }
+    ensures ok { IfOk result (λ tree. SharedTree D.meaning size channels deepest (bytes_of bits.old)
+        (position_of bits.old) tree (position_of bits.new)) }
+    ensures err { IfErr result (StartFails D.meaning size channels deepest (bytes_of bits.old) (position_of bits.old)) }
     ensures bytes { bytes_of bits.new ≡ bytes_of bits.old }
 {
     match section_start(bits) {
@@ -39,8 +40,13 @@ pub fn shared_tree<D: Decoder>(
         node_limit: tree_limit(size, channels as u64),
         depth_limit: 2048,
     };
-    match MaConfig::parse(alloc, bits, params) {
-        Ok(tree) => Ok(Some(tree)),
+    match MaConfig::<D>::parse(alloc, bits, params) {
+        Ok(tree) => {
+            if tree.tree_depth() as u64 > deepest {
+                return Err(FileError::TooManyDecisions);
+            }
+            Ok(Some(tree))
+        }
         Err(error) => Err(FileError::Tree(error)),
     }
 }

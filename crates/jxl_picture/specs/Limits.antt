@@ -1,5 +1,5 @@
 -- How large a picture may be.
-use Rattle.std.specs.Prelude.{ℕ, ◌+◌, ◌*◌, ◌^◌, ◌≤◌, length}
+use Rattle.std.specs.Prelude.{ℕ, ◌+◌, ◌*◌, ◌/◌, ◌^◌, ◌≤◌, max, min, length}
 use Rattle.jxl_image_header.specs.Images.{Image}
 use Rattle.jxl_image_header.specs.declared.size.Size.{Size}
 use Rattle.jxl_picture.specs.Pictures.{colour_count}
@@ -18,6 +18,11 @@ cells_of size = size.width * size.height
 abbrev pub AllowFrame : Limits → Image → ℕ → Size → Type 0
 AllowFrame limits image used size = (size.width ≤ 2 ^ 30) × (size.height ≤ 2 ^ 30) × (used + cells_of size ≤ limits.pixels)
     × ((used + cells_of size) * (4 * channel_count image) ≤ limits.bytes)
+
+-- The maximum depth of a tree that sections of such a frame share, after others with this number of cells: the limit, or more if
+-- together they have fewer than 2^22 samples, which then may take as many decisions as 2^22 would.
+abbrev pub deepest : Limits → Image → ℕ → Size → ℕ
+deepest limits image used size = limits.decisions * 2 ^ 22 / max 1 (min (2 ^ 22) ((used + cells_of size) * channel_count image))
 
 -- the picture is within the limits: so is a first frame of its size, and its samples and channels are
 pub record Allow (limits : Limits) (image : Image) : Type 0 where

@@ -20,18 +20,24 @@ pub struct Limits {
     pub bytes: u64,
     /// The maximum number of bytes of a colour profile.
     pub profile: u64,
+    /// The maximum number of decisions for a sample in the tree that sections of a frame share, which is its depth.
+    /// Where the frame and those before it have fewer than 2^22 samples, a tree may be deeper: as many decisions for
+    /// all of them as 2^22 samples may have.
+    pub decisions: u32,
 }
 
 impl Limits {
-    /// 2^28 pixels, 256 channels, 2^31 bytes of samples and 2^24 of a colour profile.
+    /// 2^28 pixels, 256 channels, 2^31 bytes of samples, 2^24 of a colour profile, and 128 decisions for a sample.
     pub fn usual() -> Limits
-        ensures { result ≡ record { pixels = 2 ^ 28; channels = 256; bytes = 2 ^ 31; profile = 2 ^ 24 } }
+        ensures { result
+            ≡ record { pixels = 2 ^ 28; channels = 256; bytes = 2 ^ 31; profile = 2 ^ 24; decisions = 128 } }
     {
         Limits {
             pixels: 1 << 28,
             channels: 256,
             bytes: 1 << 31,
             profile: 1 << 24,
+            decisions: 128,
         }
     }
 

@@ -22,8 +22,13 @@ IsWordOf text format = IsName (map to_ascii_lowercase text) format
 abbrev pub IsNoFormat : List ℕ → Type 0
 IsNoFormat text = (format : Format) → ¬ (IsWordOf text format)
 
--- how large a picture may be, where this number of pixels and this number of bytes of samples are asked for: of what is not asked
--- for, as much as by default
-abbrev pub limits_of : Option ℕ → Option ℕ → Limits
-limits_of pixels bytes =
-    record { pixels = unwrap_or pixels (2 ^ 28); channels = 256; bytes = unwrap_or bytes (2 ^ 31); profile = 2 ^ 24 }
+-- how large a picture may be, where these numbers of pixels, of bytes of samples and of decisions for a sample are asked for: of
+-- what is not asked for, as much as by default
+abbrev pub limits_of : Option ℕ → Option ℕ → Option ℕ → Limits
+limits_of pixels bytes decisions = record {
+  pixels = unwrap_or pixels (2 ^ 28);
+  channels = 256;
+  bytes = unwrap_or bytes (2 ^ 31);
+  profile = 2 ^ 24;
+  decisions = unwrap_or decisions 128;
+}

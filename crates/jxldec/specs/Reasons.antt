@@ -68,5 +68,6 @@ file_text (files.Front error) = front_text error
 file_text (files.Patches error) = codes "patches: " ++ patch_text error
 file_text (files.Start error) = codes "first section: " ++ error_text error
 file_text (files.Tree error) = codes "global tree: " ++ error_text error
+file_text files.TooManyDecisions = codes "global tree: more decisions than the limit"
 file_text (files.Samples error) = frame_text error
 file_text files.OutOfMemory = codes "out of memory"

@@ -77,6 +77,14 @@ fn bytes(alloc: Global) -> Arg<'static> {
         .help("The maximum number of bytes of samples, four each [default: 2147483648]")
 }
 
+fn decisions(alloc: Global) -> Arg<'static> {
+    Arg::new(alloc, "decisions")
+        .long("max-decisions")
+        .value_name("N")
+        .value_parser(clap::value_parser!(u32))
+        .help("The maximum number of decisions for a sample in shared trees [default: 128]")
+}
+
 fn quiet(alloc: Global) -> Arg<'static> {
     Arg::new(alloc, "quiet")
         .short('q')
@@ -94,6 +102,7 @@ pub fn command<'a>(alloc: Global) -> Result<Command<'a>, AllocError> {
         format(alloc),
         pixels(alloc),
         bytes(alloc),
+        decisions(alloc),
         quiet(alloc),
     ]?;
     Command::new(alloc, "jxldec")
@@ -128,15 +137,16 @@ fn ending(path: &str) -> Option<&str>
     Path::new(path).extension()
 }
 
-// How large a picture may be: as by default, but for these numbers of pixels and bytes of samples, if they are asked
-// for.
-fn limits_of(pixels: Option<u64>, bytes: Option<u64>) -> Limits
-    ensures { result ≡ the_limits pixels bytes }
+// How large a picture may be: as by default, but for these numbers of pixels, of bytes of samples and of decisions for
+// a sample, if they are asked for.
+fn limits_of(pixels: Option<u64>, bytes: Option<u64>, decisions: Option<u32>) -> Limits
+    ensures { result ≡ the_limits pixels bytes decisions }
 {
     let usual = Limits::usual();
     Limits {
         pixels: pixels.unwrap_or(usual.pixels),
         bytes: bytes.unwrap_or(usual.bytes),
+        decisions: decisions.unwrap_or(usual.decisions),
         ..usual
     }
 }
@@ -153,7 +163,11 @@ impl<'a> Options<'a> {
             output_name: output.unwrap_or("standard output"),
             info: matches.get_flag("info"),
             format: name.and_then(format_of),
-            limits: limits_of(matches.get_one("pixels"), matches.get_one("bytes")),
+            limits: limits_of(
+                matches.get_one("pixels"),
+                matches.get_one("bytes"),
+                matches.get_one("decisions"),
+            ),
             quiet: matches.get_flag("quiet"),
         }
     }

@@ -158,6 +158,9 @@ impl fmt::Display for Reason {
                 let cause = Cause(error);
                 write!(f, "global tree: {cause}")
             }
+            FileError::TooManyDecisions => {
+                f.write_str("global tree: more decisions than the limit")
+            }
             FileError::Samples(error) => {
                 let reason = FrameReason(error);
                 write!(f, "{reason}")

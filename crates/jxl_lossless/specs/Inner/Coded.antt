@@ -19,37 +19,39 @@ use Rattle.jxl_lossless.specs.Stills.{IsStill, StillFails}
 use Rattle.jxl_lossless.specs.declared.still.error.FrameError.{FrameError}
 use Rattle.jxl_lossless.specs.declared.still.places.Places.{Places}
 use Rattle.jxl_codestream.specs.Fronts.{FailsAt, StandsAt}
-use Rattle.jxl_lossless.specs.Frames.{SharedTree, TreeFails, channels_given}
+use Rattle.jxl_lossless.specs.Frames.{SharedTree, TreeFails, TreeIsDeep, channels_given}
 use Rattle.jxl_lossless.specs.declared.error.FileError.{FileError}
 use Rattle.jxl_lossless.specs.declared.error.FileError.TheVariants as errors
 
 -- what each error says of what the first section has from bit p on; no other error comes there
-abbrev pub StartFails : {D : Type 0} → Meaning D → Size → ℕ → List ℕ → ℕ → FileError → Type 0
-StartFails d size n first p (errors.Start e) = FailsAt section_start first p (kind_of e)
-StartFails d size n first p (errors.Tree e) = UnlessMemory (kind_of e) (TreeFails d size n first p (kind_of e))
-StartFails d size n first p e = ⊥
+abbrev pub StartFails : {D : Type 0} → Meaning D → Size → ℕ → ℕ → List ℕ → ℕ → FileError → Type 0
+StartFails d size n deepest first p (errors.Start e) = FailsAt section_start first p (kind_of e)
+StartFails d size n deepest first p (errors.Tree e) = UnlessMemory (kind_of e) (TreeFails d size n first p (kind_of e))
+StartFails d size n deepest first p errors.TooManyDecisions = TreeIsDeep d size n deepest first p
+StartFails d size n deepest first p e = ⊥
 
 -- These are the channels of a frame of this size, by its first section, which has the shared tree from bit p on, and by those
 -- of its groups: they have the samples that the sections code.
-pub record IsCoded {S D : Type 0} (d : Meaning D) (w : Width) (to_int : S → ℤ) (zero : S) (image : Image) (size : Size) (group_dim : ℕ) (first : List ℕ) (p : ℕ) (places : Places) (grids : List (Grid ℤ)) (before after : ℕ) : Type 0 where
+pub record IsCoded {S D : Type 0} (d : Meaning D) (w : Width) (to_int : S → ℤ) (zero : S) (image : Image) (deepest : ℕ) (size : Size) (group_dim : ℕ) (first : List ℕ) (p : ℕ) (places : Places) (grids : List (Grid ℤ)) (before after : ℕ) : Type 0 where
   pub global : Option (Config D)
   pub begin : ℕ
-  pub shared : SharedTree d size (channel_count image) first p global begin
+  pub shared : SharedTree d size (channel_count image) deepest first p global begin
   pub still : IsStill d w to_int zero global (channels_given image size) group_dim image.bit_depth.bits_per_sample first begin (own_passes places) (section_at places) grids before after
 
-module _ {S D : Type 0} (d : Meaning D) (w : Width) (to_int : S → ℤ) (zero : S) (image : Image) where
+module _ {S D : Type 0} (d : Meaning D) (w : Width) (to_int : S → ℤ) (zero : S) (image : Image) (deepest : ℕ) where
   -- the first section has the shared tree from bit p on, and after it the image of a frame of this size, or its samples, have
   -- this error
   pub record SamplesFail (size : Size) (group_dim : ℕ) (first : List ℕ) (p : ℕ) (places : Places) (error : FrameError) : Type 0 where
     pub global : Option (Config D)
     pub begin : ℕ
-    pub shared : SharedTree d size (channel_count image) first p global begin
+    pub shared : SharedTree d size (channel_count image) deepest first p global begin
     pub fails : StillFails {S = S} d w to_int zero global (channels_given image size) group_dim image.bit_depth.bits_per_sample first begin (own_passes places) (section_at places) error
 
   -- what each error says of a frame by its first section, from bit p on, and those of its groups
   abbrev pub CodedFails : Size → ℕ → List ℕ → ℕ → Places → FileError → Type 0
-  CodedFails size group_dim first p places (errors.Start e) = StartFails d size (channel_count image) first p (errors.Start e)
-  CodedFails size group_dim first p places (errors.Tree e) = StartFails d size (channel_count image) first p (errors.Tree e)
+  CodedFails size group_dim first p places (errors.Start e) = StartFails d size (channel_count image) deepest first p (errors.Start e)
+  CodedFails size group_dim first p places (errors.Tree e) = StartFails d size (channel_count image) deepest first p (errors.Tree e)
+  CodedFails size group_dim first p places errors.TooManyDecisions = StartFails d size (channel_count image) deepest first p errors.TooManyDecisions
   CodedFails size group_dim first p places (errors.Samples e) = SamplesFail size group_dim first p places e
   CodedFails size group_dim first p places errors.OutOfMemory = Unit {0}
   CodedFails size group_dim first p places e = ⊥
@@ -62,24 +64,24 @@ module _ {D : Type 0} (d : Meaning D) (image : Image) (slots : Slots) where
 
   -- These are the channels of a frame by its first section and those of its groups: with samples of 32 bits, into which its
   -- patches are put.
-  pub record IsMade (frame : Frame) (first : List ℕ) (places : Places) (grids : List (Grid ℤ)) (before after : ℕ) : Type 0 where
+  pub record IsMade (frame : Frame) (deepest : ℕ) (first : List ℕ) (places : Places) (grids : List (Grid ℤ)) (before after : ℕ) : Type 0 where
     pub patches : Option Patches
     pub begin : ℕ
     pub dictionary : BeginsWith frame first patches begin
     pub own : List (Grid ℤ)
-    pub coded : IsCoded d w32 (λ (v : ℤ). v) (pos 0) image (frame_size image.size frame) frame.group_dim first begin places own before after
+    pub coded : IsCoded d w32 (λ (v : ℤ). v) (pos 0) image deepest (frame_size image.size frame) frame.group_dim first begin places own before after
     pub put : ArePut slots (colour_count image) patches own grids
 
   -- the first section begins with patches, or with none, and what comes after them has this error
-  pub record FailsAfter (frame : Frame) (first : List ℕ) (places : Places) (error : FileError) : Type 0 where
+  pub record FailsAfter (frame : Frame) (deepest : ℕ) (first : List ℕ) (places : Places) (error : FileError) : Type 0 where
     pub patches : Option Patches
     pub begin : ℕ
     pub dictionary : BeginsWith frame first patches begin
-    pub fails : CodedFails {S = ℤ} d w32 (λ (v : ℤ). v) (pos 0) image (frame_size image.size frame) frame.group_dim first begin places error
+    pub fails : CodedFails {S = ℤ} d w32 (λ (v : ℤ). v) (pos 0) image deepest (frame_size image.size frame) frame.group_dim first begin places error
 
   -- what each error says of a frame by its first section and those of its groups
-  abbrev pub MadeFails : Frame → List ℕ → Places → FileError → Type 0
-  MadeFails frame first places (errors.Patches e) = UnlessMemory (patch_kind e)
+  abbrev pub MadeFails : Frame → ℕ → List ℕ → Places → FileError → Type 0
+  MadeFails frame deepest first places (errors.Patches e) = UnlessMemory (patch_kind e)
       (FailsAt (optional_patches d frame.coding.flags.patches (frame_size image.size frame) (length image.ec_info) (sizes_of slots)) first 0 (patch_kind e))
-  MadeFails frame first places errors.OutOfMemory = Unit {0}
-  MadeFails frame first places e = FailsAfter frame first places e
+  MadeFails frame deepest first places errors.OutOfMemory = Unit {0}
+  MadeFails frame deepest first places e = FailsAfter frame deepest first places e

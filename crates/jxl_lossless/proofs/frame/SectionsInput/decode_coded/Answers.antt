@@ -8,10 +8,11 @@ use Rattle.jxl_modular.specs.Image.{image_grids}
 use Rattle.jxl_picture.specs.Limits.{channel_count}
 use Rattle.jxl_picture.specs.Pictures.{colour_count}
 use Rattle.jxl_lossless.specs.Frames.{channels_given}
-use Rattle.jxl_lossless.specs.Inner.Coded.{IsCoded, SamplesFail}
+use Rattle.jxl_lossless.specs.Inner.Coded.{CodedFails, IsCoded, SamplesFail}
 use Rattle.jxl_lossless.specs.Inner.Given.{of_file}
 use Rattle.jxl_lossless.proofs.Channels.{alike, are_given, valid_params}
-use Rattle.jxl_lossless.proofs.Trees.{coded, samples_fail}
+use Rattle.jxl_lossless.proofs.Trees.{coded, samples_fail, start_fails}
+use Rattle.std.proofs.lemmas.Result.{err_from_is_err_and}
 use Rattle.jxl_lossless.proofs.frame.SectionsInput.decode_coded.Goals as goal
 
 pub decode_frame-requires-clause-valid : goal.decode_frame-requires-clause-valid
@@ -44,9 +45,9 @@ returns-in-Ok-Some-clause-ok g c =
     let tree : option_copied params.ma_config ≡ c.in_ok-tree.tree = search rules in
     let extra : c.len.result ≡ length c.args.self.input.image.now.ec_info.items = c.len.ensures ∙ c.args.self.input.image.now.ec_info.ok.0 in
     let count : c.colours.result + c.len.result ≡ channel_count image = rw (c.colours.ensures, extra) refl in
-    subst (λ (z : Size). IsCoded g.D.Decoder.meaning g.S.Sealed.width g.S.Sealed.to_int (g.S.Sealed.from_int (pos 0)) image z c.args.self.input.frame.now.header.group_dim (bytes_of c.args.bits) (position_of c.args.bits) c.args.self.places
+    subst (λ (z : Size). IsCoded g.D.Decoder.meaning g.S.Sealed.width g.S.Sealed.to_int (g.S.Sealed.from_int (pos 0)) image c.args.self.input.frame.now.deepest z c.args.self.input.frame.now.header.group_dim (bytes_of c.args.bits) (position_of c.args.bits) c.args.self.places
     (image_grids g.S.Sealed.to_int c.in-Ok-Some.image) c.args.steps.now c.decode_frame.new.steps) c.size-size.ensures
-    (coded g.D.Decoder.meaning g.S.Sealed.width g.S.Sealed.to_int (g.S.Sealed.from_int (pos 0)) image size c.args.self.input.frame.now.header.group_dim (c.colours.result + c.len.result) (bytes_of c.args.bits) (bytes_of c.shared_tree.new.bits)
+    (coded g.D.Decoder.meaning g.S.Sealed.width g.S.Sealed.to_int (g.S.Sealed.from_int (pos 0)) image size c.args.self.input.frame.now.header.group_dim (c.colours.result + c.len.result) c.args.self.input.frame.now.deepest (bytes_of c.args.bits) (bytes_of c.shared_tree.new.bits)
     (position_of c.args.bits) (position_of c.shared_tree.new.bits) c.args.self.places c.in_ok-tree.tree params count c.in_ok-tree.ensures.ok c.in_ok-tree.ensures.bytes tree list dim depth
     (image_grids g.S.Sealed.to_int c.in-Ok-Some.image) c.args.steps.now c.decode_frame.new.steps (rw c.in-Ok-Some.field-0-is at c.in-Ok-Some.ensures.still))
 
@@ -70,6 +71,17 @@ returns-clause-err g c =
     let tree : option_copied params.ma_config ≡ c.in_ok-tree.tree = search rules in
     let extra : c.len.result ≡ length c.args.self.input.image.now.ec_info.items = c.len.ensures ∙ c.args.self.input.image.now.ec_info.ok.0 in
     let count : c.colours.result + c.len.result ≡ channel_count image = rw (c.colours.ensures, extra) refl in
-    subst (λ (z : Size). SamplesFail {S = g.row.S.Denot} g.D.Decoder.meaning g.S.Sealed.width g.S.Sealed.to_int (g.S.Sealed.from_int (pos 0)) image z c.args.self.input.frame.now.header.group_dim (bytes_of c.args.bits) (position_of c.args.bits) c.args.self.places c.in-Err.error) c.size-size.ensures
-    (samples_fail g.D.Decoder.meaning g.S.Sealed.width g.S.Sealed.to_int (g.S.Sealed.from_int (pos 0)) image size c.args.self.input.frame.now.header.group_dim (c.colours.result + c.len.result) (bytes_of c.args.bits) (bytes_of c.shared_tree.new.bits)
+    subst (λ (z : Size). SamplesFail {S = g.row.S.Denot} g.D.Decoder.meaning g.S.Sealed.width g.S.Sealed.to_int (g.S.Sealed.from_int (pos 0)) image c.args.self.input.frame.now.deepest z c.args.self.input.frame.now.header.group_dim (bytes_of c.args.bits) (position_of c.args.bits) c.args.self.places c.in-Err.error) c.size-size.ensures
+    (samples_fail g.D.Decoder.meaning g.S.Sealed.width g.S.Sealed.to_int (g.S.Sealed.from_int (pos 0)) image size c.args.self.input.frame.now.header.group_dim (c.colours.result + c.len.result) c.args.self.input.frame.now.deepest (bytes_of c.args.bits) (bytes_of c.shared_tree.new.bits)
     (position_of c.args.bits) (position_of c.shared_tree.new.bits) c.args.self.places c.in_ok-tree.tree params count c.in_ok-tree.ensures.ok c.in_ok-tree.ensures.bytes tree list dim depth c.in-Err.error c.in-Err.ensures.err)
+
+pub returns-in_err-tree-clause-err : goal.returns-in_err-tree-clause-err
+returns-in_err-tree-clause-err g c =
+    let image = image_of c.args.self.input.image.now in
+    let e = c.in_err-tree.field-0.0 in
+    let p = err_from_is_err_and c.from_residual.result c.from_residual.ensures.1 in
+    let extra : c.len.result ≡ length c.args.self.input.image.now.ec_info.items = c.len.ensures ∙ c.args.self.input.image.now.ec_info.ok.0 in
+    let count : c.colours.result + c.len.result ≡ channel_count image = rw (c.colours.ensures, extra) refl in
+    rw (p.1, p.2) (subst (λ (z : Size). CodedFails {S = g.row.S.Denot} g.D.Decoder.meaning g.S.Sealed.width g.S.Sealed.to_int (g.S.Sealed.from_int (pos 0)) image c.args.self.input.frame.now.deepest z c.args.self.input.frame.now.header.group_dim (bytes_of c.args.bits) (position_of c.args.bits) c.args.self.places e) c.size-size.ensures
+    (start_fails {S = g.row.S.Denot} g.D.Decoder.meaning g.S.Sealed.width g.S.Sealed.to_int (g.S.Sealed.from_int (pos 0)) image c.size-size.result c.args.self.input.frame.now.header.group_dim (c.colours.result + c.len.result) c.args.self.input.frame.now.deepest (bytes_of c.args.bits)
+    (position_of c.args.bits) c.args.self.places count e c.in_err-tree.ensures.err))
