@@ -1,0 +1,3 @@
+pub mod Bounds
+pub mod Growths
+pub mod Runs

@@ -1,0 +1,9 @@
+pub mod Inner
+pub mod Commands
+pub mod Errors
+pub mod Growth
+pub mod Header
+pub mod Linear
+pub mod Numbers
+pub mod Profiles
+pub mod Tags
