@@ -1,2 +1,3 @@
 pub mod BitLists
 pub mod FieldLaws
+pub mod WriteLaws

@@ -1,3 +1,4 @@
 pub mod Written
 pub mod Fields
+pub mod Writes
 pub mod ReadStreams

@@ -10,7 +10,7 @@ use jxlm_bits::bits::U32Spec;
 use std::alloc::AllocError;
 
 /// Whether a part of a `U32` field has this value.
-fn holds(part: U32Spec, value: u32) -> bool
+pub(crate) fn holds(part: U32Spec, value: u32) -> bool
     requires { FitsU32 part }
     ensures { result ≡ is_held part value }
 {

@@ -2,4 +2,5 @@
 #![tactic(auto)]
 
 pub mod fields;
+pub mod spelled;
 pub mod writer;
