@@ -1,0 +1,258 @@
+-- Spellings of colours and of brightness.
+use Rattle.std.proofs.Common.{◌≡◌, ℕ, ◌^◌, ◌<◌, List, [], Bool, true, false, Some, inl, inr, ◌⊎◌, refl, sym, ap, ◌∙◌, subst, arith}
+use Rattle.std.specs.Prelude.{not, ◌==◌, ◌&&◌, ◌||◌, nat_lt, if◌then◌else◌, codes}
+use Rattle.std.proofs.lemmas.Bool.{and_parts, eqb-true, ltb-true, false≢true}
+use Rattle.jxlm_bits.specs.Grammar.{Grammar, number, flag, u32, give, either}
+use Rattle.jxlm_bit_writer.specs.Writes.{Adds, Spells}
+use Rattle.jxlm_bit_writer.proofs.WriteLaws.{after, becomes, none_added, absent}
+use Rattle.jxl_image_header.specs.Fields.{when, bundle_follows, enum_number, variant, number_where}
+use Rattle.jxl_image_header.specs.Colours.{coordinate, chromaticity, custom_primaries, white_of, white_point, primaries_of, primaries, function_of, transfer_function, space_of, intent_of, is_grey, is_xyb, colour_encoding, tone_mapping}
+use Rattle.jxl_image_header.specs.declared.colour.Chromaticity.{Chromaticity}
+use Rattle.jxl_image_header.specs.declared.colour.CustomPrimaries.{CustomPrimaries}
+use Rattle.jxl_image_header.specs.declared.colour.ColourSpace.{ColourSpace}
+use Rattle.jxl_image_header.specs.declared.colour.ColourSpace.TheVariants as spaces
+use Rattle.jxl_image_header.specs.declared.colour.WhitePoint.{WhitePoint}
+use Rattle.jxl_image_header.specs.declared.colour.WhitePoint.TheVariants as whites
+use Rattle.jxl_image_header.specs.declared.colour.Primaries.{Primaries}
+use Rattle.jxl_image_header.specs.declared.colour.Primaries.TheVariants as primary_sets
+use Rattle.jxl_image_header.specs.declared.colour.TransferFunction.{TransferFunction}
+use Rattle.jxl_image_header.specs.declared.colour.TransferFunction.TheVariants as functions
+use Rattle.jxl_image_header.specs.declared.colour.RenderingIntent.{RenderingIntent}
+use Rattle.jxl_image_header.specs.declared.colour.RenderingIntent.TheVariants as intents
+use Rattle.jxl_image_header.specs.declared.colour.ColourEncoding.{ColourEncoding}
+use Rattle.jxl_image_header.specs.declared.colour.ToneMapping.{ToneMapping}
+use Rattle.jxl_image_header_write.specs.Writable.{is_usual_white, is_usual_primaries, is_usual_function, is_usual_intent, is_usual_space, is_unknown_space, is_named_white, is_named_primaries, is_curve, is_colour, is_usual_colour, is_tone, is_usual_tone}
+use Rattle.jxl_image_header_write.specs.Inner.Numbers.{IsWhiteNumber, IsPrimariesNumber, IsCurveNumber}
+use Rattle.jxl_image_header_write.proofs.Spellings.{meant_if, variant_if}
+
+-- no coordinates
+no_chromaticity : (bytes : List ℕ) (q : ℕ) → (chromaticity false).Stands bytes q (record { x = 0; y = 0 }) q
+unfolding chromaticity coordinate
+no_chromaticity bytes q = (0, q, (refl, refl), (0, q, (refl, refl), (refl, refl)))
+
+no_primaries : (bytes : List ℕ) (q : ℕ) → (custom_primaries false).Stands bytes q (record { red = record { x = 0; y = 0 }; green = record { x = 0; y = 0 }; blue = record { x = 0; y = 0 } }) q
+unfolding custom_primaries
+no_primaries bytes q =
+    let none : Chromaticity = record { x = 0; y = 0 } in
+    let c = no_chromaticity bytes q in
+    (none, q, c, (none, q, c, (none, q, c, (refl, refl))))
+
+pub white_spelled : (t : Bool) (white : WhitePoint) (v : ℕ) (a b : List ℕ) → IsWhiteNumber v white → Spells a b (when t enum_number 1) v → Spells a b (white_point t) white
+unfolding white_point
+white_spelled t white v a b is u =
+    let none : Chromaticity = record { x = 0; y = 0 } in
+    let w = meant_if t (codes "WhitePoint") (λ n. (n == 1) || (n == 2) || (n == 10) || (n == 11)) v 1 a b is.known u in
+    becomes w (λ bytes p q s. (v, q, s, (none, q, subst (λ (r : Bool). (chromaticity r).Stands bytes q none q) (sym is.named) (no_chromaticity bytes q), (sym (is.meant none), refl))))
+
+pub primaries_spelled : (t : Bool) (mixed : Primaries) (v : ℕ) (a b : List ℕ) → IsPrimariesNumber v mixed → Spells a b (when t enum_number 1) v → Spells a b (primaries t) mixed
+unfolding primaries
+primaries_spelled t mixed v a b is u =
+    let zero_one : Chromaticity = record { x = 0; y = 0 } in
+    let none : CustomPrimaries = record { red = zero_one; green = zero_one; blue = zero_one } in
+    let w = meant_if t (codes "Primaries") (λ n. (n == 1) || (n == 2) || (n == 9) || (n == 11)) v 1 a b is.known u in
+    becomes w (λ bytes p q s. (v, q, s, (none, q, subst (λ (r : Bool). (custom_primaries r).Stands bytes q none q) (sym is.named) (no_primaries bytes q), (sym (is.meant none), refl))))
+
+pub curve_spelled : (t : Bool) (function : TransferFunction) (v : ℕ) (a b c : List ℕ) → IsCurveNumber v function → Spells a b (when t flag false) false → Spells b c (when t enum_number 13) v →
+    Spells a c (transfer_function t) function
+unfolding transfer_function
+curve_spelled t function v a b c is f u =
+    let w = meant_if t (codes "TransferFunction") (λ n. (n == 1) || (n == 8) || (n == 13) || (n == 16) || (n == 17) || (n == 18)) v 13 b c is.known u in
+    becomes (after f w) (λ bytes p q s. (false, s.0, s.1, (0, s.0, (refl, refl), (v, q, s.2, (sym (is.meant 0), refl)))))
+
+intent_is : (intent : RenderingIntent) → is_usual_intent intent ≡ true → intent ≡ intents.Relative
+intent_is intents.Relative h = refl
+intent_is intents.Perceptual h = absurd (false≢true h)
+intent_is intents.Saturation h = absurd (false≢true h)
+intent_is intents.Absolute h = absurd (false≢true h)
+
+pub intent_spelled : (t : Bool) (intent : RenderingIntent) (v : ℕ) (a b : List ℕ) → intent_of v ≡ Some intent → (t ≡ false → is_usual_intent intent ≡ true) → Spells a b (when t enum_number 1) v →
+    Spells a b (when t (variant (codes "RenderingIntent") intent_of) intents.Relative) intent
+intent_spelled t intent v a b means usual u = variant_if t (codes "RenderingIntent") intent_of v 1 intent intents.Relative a b means (λ e. intent_is intent (usual e)) u
+
+space_is : (space : ColourSpace) → is_usual_space space ≡ true → space ≡ spaces.Rgb
+space_is spaces.Rgb h = refl
+space_is spaces.Grey h = absurd (false≢true h)
+space_is spaces.Xyb h = absurd (false≢true h)
+space_is spaces.Unknown h = absurd (false≢true h)
+
+pub space_spelled : (t profile : Bool) (space : ColourSpace) (v : ℕ) (a b : List ℕ) → space_of profile v ≡ Some space → (t ≡ false → is_usual_space space ≡ true) → Spells a b (when t enum_number 0) v →
+    Spells a b (when t (variant (codes "ColourSpace") (space_of profile)) spaces.Rgb) space
+space_spelled t profile space v a b means usual u = variant_if t (codes "ColourSpace") (space_of profile) v 0 space spaces.Rgb a b means (λ e. space_is space (usual e)) u
+
+-- colours, field by field
+pub colour_spelled : (t follows : Bool) (c : ColourEncoding) (b0 b1 b2 b3 b4 b5 b6 b7 : List ℕ) → Spells b0 b1 (bundle_follows t) follows → Spells b1 b2 (when follows flag false) c.want_icc →
+    Spells b2 b3 (when follows (variant (codes "ColourSpace") (space_of c.want_icc)) spaces.Rgb) c.colour_space →
+    Spells b3 b4 (white_point (follows && not c.want_icc && not (is_xyb c.colour_space))) c.white_point →
+    Spells b4 b5 (primaries (follows && not c.want_icc && not (is_grey c.colour_space || is_xyb c.colour_space))) c.primaries →
+    Spells b5 b6 (transfer_function (follows && not c.want_icc && not (is_xyb c.colour_space))) c.transfer_function →
+    Spells b6 b7 (when (follows && not c.want_icc) (variant (codes "RenderingIntent") intent_of) intents.Relative) c.rendering_intent → Spells b0 b7 (colour_encoding t) c
+unfolding colour_encoding
+colour_spelled t follows c b0 b1 b2 b3 b4 b5 b6 b7 u p s w m f i =
+    becomes (after u (after p (after s (after w (after m (after f i)))))) (λ bytes x q k. (
+      follows,
+      k.0,
+      k.1,
+      (
+        c.want_icc,
+        k.2.0,
+        k.2.1,
+        (
+          c.colour_space,
+          k.2.2.0,
+          k.2.2.1,
+          (
+            c.white_point,
+            k.2.2.2.0,
+            k.2.2.2.1,
+            (
+              c.primaries,
+              k.2.2.2.2.0,
+              k.2.2.2.2.1,
+              (c.transfer_function, k.2.2.2.2.2.0, k.2.2.2.2.2.1, (c.rendering_intent, q, k.2.2.2.2.2.2, (refl, refl))),
+            ),
+          ),
+        ),
+      ),
+    ))
+
+-- brightness, field by field
+pub tone_spelled : (t follows : Bool) (x : ToneMapping) (b0 b1 b2 b3 b4 b5 : List ℕ) → Spells b0 b1 (bundle_follows t) follows → Spells b1 b2 (when follows (number 16) 0x5BF8) x.intensity_target →
+    Spells b2 b3 (when follows (number 16) 0) x.min_nits → Spells b3 b4 (when follows flag false) x.relative_to_max_display → Spells b4 b5 (when follows (number 16) 0) x.linear_below →
+    Spells b0 b5 (tone_mapping t) x
+unfolding tone_mapping
+tone_spelled t follows x b0 b1 b2 b3 b4 b5 u v w r l =
+    becomes (after u (after v (after w (after r l)))) (λ bytes p q k.
+    (follows, k.0, k.1, (x.intensity_target, k.2.0, k.2.1, (x.min_nits, k.2.2.0, k.2.2.1, (x.relative_to_max_display, k.2.2.2.0, k.2.2.2.1, (x.linear_below, q, k.2.2.2.2, (refl, refl)))))))
+
+named_white : (w : WhitePoint) → is_usual_white w ≡ true → is_named_white w ≡ true
+named_white whites.D65 h = refl
+named_white (whites.Custom c) h = h
+named_white whites.E h = refl
+named_white whites.Dci h = refl
+
+named_primaries : (w : Primaries) → is_usual_primaries w ≡ true → is_named_primaries w ≡ true
+named_primaries primary_sets.Srgb h = refl
+named_primaries (primary_sets.Custom c) h = h
+named_primaries primary_sets.Bt2100 h = refl
+named_primaries primary_sets.P3 h = refl
+
+named_curve : (w : TransferFunction) → is_usual_function w ≡ true → is_curve w ≡ true
+named_curve (functions.Gamma g) h = h
+named_curve functions.Bt709 h = refl
+named_curve functions.Linear h = refl
+named_curve functions.Srgb h = refl
+named_curve functions.Pq h = refl
+named_curve functions.Dci h = refl
+named_curve functions.Hlg h = refl
+
+-- where a test holds the usual value, else one with a name: so one with a name
+either_named : (t usual named : Bool) → (usual ≡ true → named ≡ true) → (if t then usual else named) ≡ true → named ≡ true
+either_named true usual named f h = f h
+either_named false usual named f h = h
+
+either_usual : (t usual named : Bool) → (if t then usual else named) ≡ true → t ≡ true → usual ≡ true
+either_usual true usual named h e = h
+either_usual false usual named h e = absurd (false≢true e)
+
+-- what is not explicit is usual, as all is usual or a profile tells it, or by its kind
+implicit : (usual profile kind : Bool) → (not usual && not profile && not kind) ≡ false → (usual ≡ true) ⊎ ((profile || kind) ≡ true)
+implicit true profile kind h = inl refl
+implicit false true kind h = inr refl
+implicit false false true h = inr refl
+implicit false false false h = absurd (false≢true (sym h))
+
+-- what colours that are spelled are
+pub record ColourParts (c : ColourEncoding) : Type 0 where
+  pub known : (c.want_icc || not (is_unknown_space c.colour_space)) ≡ true
+  pub white : is_named_white c.white_point ≡ true
+  pub white_usual : (c.want_icc || is_xyb c.colour_space) ≡ true → is_usual_white c.white_point ≡ true
+  pub mixed : is_named_primaries c.primaries ≡ true
+  pub mixed_usual : (c.want_icc || (is_grey c.colour_space || is_xyb c.colour_space)) ≡ true → is_usual_primaries c.primaries ≡ true
+  pub curve : is_curve c.transfer_function ≡ true
+  pub curve_usual : (c.want_icc || is_xyb c.colour_space) ≡ true → is_usual_function c.transfer_function ≡ true
+  pub intent : c.want_icc ≡ true → is_usual_intent c.rendering_intent ≡ true
+
+untold_intent : (a b : Bool) → (not a || b) ≡ true → a ≡ true → b ≡ true
+untold_intent true b h e = h
+untold_intent false b h e = absurd (false≢true e)
+
+pub colour_parts : (c : ColourEncoding) → is_colour c ≡ true → ColourParts c
+colour_parts c w =
+    let k : Bool = c.want_icc || not (is_unknown_space c.colour_space) in
+    let t : Bool = c.want_icc || is_xyb c.colour_space in
+    let g : Bool = c.want_icc || (is_grey c.colour_space || is_xyb c.colour_space) in
+    let wh : Bool = if t then is_usual_white c.white_point else is_named_white c.white_point in
+    let mi : Bool = if g then is_usual_primaries c.primaries else is_named_primaries c.primaries in
+    let cu : Bool = if t then is_usual_function c.transfer_function else is_curve c.transfer_function in
+    let it : Bool = not c.want_icc || is_usual_intent c.rendering_intent in
+    let s4 = and_parts (k && wh && mi && cu) (it) w in
+    let s3 = and_parts (k && wh && mi) (cu) s4.0 in
+    let s2 = and_parts (k && wh) (mi) s3.0 in
+    let s1 = and_parts (k) (wh) s2.0 in
+    record {
+      known = s1.0;
+      white = either_named t (is_usual_white c.white_point) (is_named_white c.white_point) (named_white c.white_point) s1.1;
+      white_usual = either_usual t (is_usual_white c.white_point) (is_named_white c.white_point) s1.1;
+      mixed = either_named g (is_usual_primaries c.primaries) (is_named_primaries c.primaries) (named_primaries c.primaries) s2.1;
+      mixed_usual = either_usual g (is_usual_primaries c.primaries) (is_named_primaries c.primaries) s2.1;
+      curve = either_named t (is_usual_function c.transfer_function) (is_curve c.transfer_function) (named_curve c.transfer_function) s3.1;
+      curve_usual = either_usual t (is_usual_function c.transfer_function) (is_curve c.transfer_function) s3.1;
+      intent = untold_intent c.want_icc (is_usual_intent c.rendering_intent) s4.1;
+    }
+
+-- what colours by default are
+pub record UsualColours (c : ColourEncoding) : Type 0 where
+  pub profile : c.want_icc ≡ false
+  pub space : is_usual_space c.colour_space ≡ true
+  pub white : is_usual_white c.white_point ≡ true
+  pub mixed : is_usual_primaries c.primaries ≡ true
+  pub curve : is_usual_function c.transfer_function ≡ true
+  pub intent : is_usual_intent c.rendering_intent ≡ true
+
+not_true : (b : Bool) → not b ≡ true → b ≡ false
+not_true true h = absurd (false≢true h)
+not_true false h = refl
+
+pub usual_colours : (c : ColourEncoding) → is_usual_colour c ≡ true → UsualColours c
+usual_colours c w =
+    let sp : Bool = is_usual_space c.colour_space in
+    let wh : Bool = is_usual_white c.white_point in
+    let mi : Bool = is_usual_primaries c.primaries in
+    let cu : Bool = is_usual_function c.transfer_function in
+    let it : Bool = is_usual_intent c.rendering_intent in
+    let s5 = and_parts (not c.want_icc && sp && wh && mi && cu) (it) w in
+    let s4 = and_parts (not c.want_icc && sp && wh && mi) (cu) s5.0 in
+    let s3 = and_parts (not c.want_icc && sp && wh) (mi) s4.0 in
+    let s2 = and_parts (not c.want_icc && sp) (wh) s3.0 in
+    let s1 = and_parts (not c.want_icc) (sp) s2.0 in
+    record { profile = not_true c.want_icc s1.0; space = s1.1; white = s2.1; mixed = s3.1; curve = s4.1; intent = s5.1 }
+
+-- what is not signalled is usual, in turn of the fields
+pub white_untold : (c : ColourEncoding) → is_colour c ≡ true → (not (is_usual_colour c) && not c.want_icc && not (is_xyb c.colour_space)) ≡ false → is_usual_white c.white_point ≡ true
+white_untold c w h = elim (implicit (is_usual_colour c) c.want_icc (is_xyb c.colour_space) h) [
+  | inl u ↦ (usual_colours c u).white
+  | inr t ↦ (colour_parts c w).white_usual t
+]
+
+pub mixed_untold : (c : ColourEncoding) → is_colour c ≡ true → (not (is_usual_colour c) && not c.want_icc && not (is_grey c.colour_space || is_xyb c.colour_space)) ≡ false → is_usual_primaries c.primaries ≡ true
+mixed_untold c w h = elim (implicit (is_usual_colour c) c.want_icc (is_grey c.colour_space || is_xyb c.colour_space) h) [
+  | inl u ↦ (usual_colours c u).mixed
+  | inr t ↦ (colour_parts c w).mixed_usual t
+]
+
+pub curve_untold : (c : ColourEncoding) → is_colour c ≡ true → (not (is_usual_colour c) && not c.want_icc && not (is_xyb c.colour_space)) ≡ false → is_usual_function c.transfer_function ≡ true
+curve_untold c w h = elim (implicit (is_usual_colour c) c.want_icc (is_xyb c.colour_space) h) [
+  | inl u ↦ (usual_colours c u).curve
+  | inr t ↦ (colour_parts c w).curve_usual t
+]
+
+implicit_two : (usual profile : Bool) → (not usual && not profile) ≡ false → (usual ≡ true) ⊎ (profile ≡ true)
+implicit_two true profile h = inl refl
+implicit_two false true h = inr refl
+implicit_two false false h = absurd (false≢true (sym h))
+
+pub intent_untold : (c : ColourEncoding) → is_colour c ≡ true → (not (is_usual_colour c) && not c.want_icc) ≡ false → is_usual_intent c.rendering_intent ≡ true
+intent_untold c w h = elim (implicit_two (is_usual_colour c) c.want_icc h) [
+  | inl u ↦ (usual_colours c u).intent
+  | inr t ↦ (colour_parts c w).intent t
+]

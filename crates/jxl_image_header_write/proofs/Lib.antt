@@ -1,0 +1,4 @@
+pub mod Spellings
+pub mod ChannelSpellings
+pub mod ColourSpellings
+pub mod HeaderSpellings

@@ -1,0 +1,128 @@
+-- The headers that the writer spells: each field that a record keeps is in the range of its spellings, and those whose
+-- contents a record does not keep (names, spot colours, colour filters, extensions) are absent.
+use Rattle.std.specs.Prelude.{ℕ, ◌==◌, ◌&&◌, ◌||◌, not, nat_lt, nat_le, List, length, Bool, true, false, if◌then◌else◌, Option, is_some}
+use Rattle.std.specs.List.{list_all}
+use Rattle.jxlm_bits.specs.declared.bits.U32Spec.TheVariants.{Const, Offset}
+use Rattle.jxlm_bit_writer.specs.Fields.{is_spelled}
+use Rattle.jxl_image_header.specs.declared.size.Size.{Size}
+use Rattle.jxl_image_header.specs.declared.channel.BitDepth.{BitDepth}
+use Rattle.jxl_image_header.specs.declared.channel.ExtraChannel.{ExtraChannel}
+use Rattle.jxl_image_header.specs.declared.colour.ColourEncoding.{ColourEncoding}
+use Rattle.jxl_image_header.specs.declared.colour.ColourSpace.{ColourSpace}
+use Rattle.jxl_image_header.specs.declared.colour.ColourSpace.TheVariants as spaces
+use Rattle.jxl_image_header.specs.declared.colour.WhitePoint.{WhitePoint}
+use Rattle.jxl_image_header.specs.declared.colour.WhitePoint.TheVariants as whites
+use Rattle.jxl_image_header.specs.declared.colour.Primaries.{Primaries}
+use Rattle.jxl_image_header.specs.declared.colour.Primaries.TheVariants as primary_sets
+use Rattle.jxl_image_header.specs.declared.colour.TransferFunction.{TransferFunction}
+use Rattle.jxl_image_header.specs.declared.colour.TransferFunction.TheVariants as functions
+use Rattle.jxl_image_header.specs.declared.colour.RenderingIntent.{RenderingIntent}
+use Rattle.jxl_image_header.specs.declared.colour.RenderingIntent.TheVariants as intents
+use Rattle.jxl_image_header.specs.declared.colour.ToneMapping.{ToneMapping}
+use Rattle.jxl_image_header.specs.Channels.{fits_float, is_alpha, is_spot_colour, is_cfa}
+use Rattle.jxl_image_header.specs.Colours.{is_grey, is_xyb}
+use Rattle.jxl_image_header.specs.Images.{Image}
+
+-- each side is from 1 to 2^30
+abbrev pub is_side : ℕ → Bool
+is_side v = is_spelled (Offset 1 9) (Offset 1 13) (Offset 1 18) (Offset 1 30) v
+
+abbrev pub is_size : Size → Bool
+is_size s = is_side s.height && is_side s.width
+
+-- whole numbers of 1 to 31 bits, or floats
+abbrev pub is_depth : BitDepth → Bool
+is_depth d =
+    if d.exp_bits == 0 then is_spelled (Const 8) (Const 10) (Const 12) (Offset 1 6) d.bits_per_sample && nat_lt d.bits_per_sample 32
+    else is_spelled (Const 32) (Const 16) (Const 24) (Offset 1 6) d.bits_per_sample && fits_float d.bits_per_sample d.exp_bits
+
+-- 8 bits, as by default
+abbrev pub is_usual_depth : BitDepth → Bool
+is_usual_depth d = (d.bits_per_sample == 8) && (d.exp_bits == 0)
+
+-- an extra channel that is no spot colour and no colour filter, has no name, and is multiplied by only if it is alpha
+abbrev pub is_channel : ExtraChannel → Bool
+is_channel c =
+    not (is_spot_colour c.kind) && not (is_cfa c.kind) && is_depth c.bit_depth && is_spelled (Const 0) (Const 3) (Const 4) (Offset 1 3) c.dim_shift &&
+    (c.name_len == 0) && (is_alpha c.kind || not c.alpha_associated)
+
+-- alpha as by default
+abbrev pub is_usual_channel : ExtraChannel → Bool
+is_usual_channel c = is_alpha c.kind && is_usual_depth c.bit_depth && (c.dim_shift == 0) && (c.name_len == 0) && not c.alpha_associated
+
+-- a white point that has a number of its own; and the one by default
+abbrev pub is_named_white : WhitePoint → Bool
+is_named_white (whites.Custom c) = false
+is_named_white other = true
+
+abbrev pub is_usual_white : WhitePoint → Bool
+is_usual_white whites.D65 = true
+is_usual_white other = false
+
+-- primaries that have a number of their own; and those by default
+abbrev pub is_named_primaries : Primaries → Bool
+is_named_primaries (primary_sets.Custom c) = false
+is_named_primaries other = true
+
+abbrev pub is_usual_primaries : Primaries → Bool
+is_usual_primaries primary_sets.Srgb = true
+is_usual_primaries other = false
+
+-- a transfer function by a curve; and the one by default
+abbrev pub is_curve : TransferFunction → Bool
+is_curve (functions.Gamma g) = false
+is_curve other = true
+
+abbrev pub is_usual_function : TransferFunction → Bool
+is_usual_function functions.Srgb = true
+is_usual_function other = false
+
+-- the intent and the space by default; the space that only a profile tells
+abbrev pub is_usual_intent : RenderingIntent → Bool
+is_usual_intent intents.Relative = true
+is_usual_intent other = false
+
+abbrev pub is_usual_space : ColourSpace → Bool
+is_usual_space spaces.Rgb = true
+is_usual_space other = false
+
+abbrev pub is_unknown_space : ColourSpace → Bool
+is_unknown_space spaces.Unknown = true
+is_unknown_space other = false
+
+-- The colours: what a profile, grey or XYB leaves untold is as by default, and only a profile tells an unknown space.
+abbrev pub is_colour : ColourEncoding → Bool
+is_colour c =
+    (c.want_icc || not (is_unknown_space c.colour_space)) &&
+    (if c.want_icc || is_xyb c.colour_space then is_usual_white c.white_point else is_named_white c.white_point) &&
+    (if c.want_icc || (is_grey c.colour_space || is_xyb c.colour_space) then is_usual_primaries c.primaries else is_named_primaries c.primaries) &&
+    (if c.want_icc || is_xyb c.colour_space then is_usual_function c.transfer_function else is_curve c.transfer_function) &&
+    (not c.want_icc || is_usual_intent c.rendering_intent)
+
+abbrev pub is_usual_colour : ColourEncoding → Bool
+is_usual_colour c =
+    not c.want_icc && is_usual_space c.colour_space && is_usual_white c.white_point && is_usual_primaries c.primaries && is_usual_function c.transfer_function &&
+    is_usual_intent c.rendering_intent
+
+-- brightness, in floats of 16 bits; and that by default
+abbrev pub is_tone : ToneMapping → Bool
+is_tone t = nat_lt t.intensity_target 65536 && nat_lt t.min_nits 65536 && nat_lt t.linear_below 65536
+
+abbrev pub is_usual_tone : ToneMapping → Bool
+is_usual_tone t = (t.intensity_target == 0x5BF8) && (t.min_nits == 0) && not t.relative_to_max_display && (t.linear_below == 0)
+
+-- the fields that are present only if something of how the image is shown is told
+abbrev pub has_more : Image → Bool
+has_more h = not (h.orientation == 1) || not (is_usual_tone h.tone_mapping)
+
+-- something is not as by default
+abbrev pub is_told : Image → Bool
+is_told h =
+    has_more h || not (is_usual_depth h.bit_depth) || not h.modular_16bit_buffers || not (length h.ec_info == 0) || not h.xyb_encoded || not (is_usual_colour h.colour_encoding)
+
+-- The writer spells the header: its parts are spelled; it has no other size, no preview, no animation and no extensions.
+abbrev pub is_writable : Image → Bool
+is_writable h =
+    is_size h.size && nat_le 1 h.orientation && nat_le h.orientation 8 && not (is_some h.intrinsic_size) && not (is_some h.preview) && not (is_some h.animation) &&
+    is_depth h.bit_depth && nat_le (length h.ec_info) 4096 && list_all is_channel h.ec_info &&
+    is_colour h.colour_encoding && is_tone h.tone_mapping && (h.extensions == 0)

@@ -1,0 +1,218 @@
+//! Which headers the writer spells.
+
+ghost use Rattle.std.specs.Prelude.{◌≡◌, if◌then◌else◌};
+ghost use Rattle.std.specs.List.{list_all};
+ghost use Rattle.jxlm_bits.specs.declared.bits.U32Spec.TheVariants.{Const, Offset};
+ghost use Rattle.jxlm_bit_writer.specs.Fields.{is_spelled as is_spelled_by};
+ghost use Rattle.jxl_image_header.specs.Channels.{fits_float as the_fits_float};
+ghost use Rattle.jxl_image_header.specs.Images.{image_of};
+ghost use Rattle.jxl_image_header_write.specs.Writable.{is_side as the_is_side, is_size as the_is_size, is_depth as the_is_depth, is_channel as the_is_channel, is_named_white as named_white, is_usual_white as usual_white, is_named_primaries as named_primaries, is_usual_primaries as usual_primaries, is_curve as the_is_curve, is_usual_function as usual_function, is_usual_intent as usual_intent, is_unknown_space as unknown_space, is_colour as the_is_colour, is_tone as the_is_tone, is_writable as the_is_writable};
+
+use jxl_image_header::channel::{BitDepth, ExtraChannel, ExtraChannelKind};
+use jxl_image_header::colour::{
+    ColourEncoding, ColourSpace, Primaries, RenderingIntent, ToneMapping, TransferFunction,
+    WhitePoint,
+};
+use jxl_image_header::image::ImageHeader;
+use jxl_image_header::size::Size;
+use jxlm_bit_writer::spelled::is_spelled;
+use jxlm_bits::bits::U32Spec;
+
+fn is_side(side: u32) -> bool
+    ensures { result ≡ the_is_side side }
+{
+    is_spelled(
+        U32Spec::Offset(1, 9),
+        U32Spec::Offset(1, 13),
+        U32Spec::Offset(1, 18),
+        U32Spec::Offset(1, 30),
+        side,
+    )
+}
+
+fn is_size(size: Size) -> bool
+    ensures { result ≡ the_is_size size }
+{
+    is_side(size.height) && is_side(size.width)
+}
+
+fn fits_float(bits: u32, exponent: u32) -> bool
+    ensures { result ≡ the_fits_float bits exponent }
+{
+    2 <= exponent
+        && exponent <= 8
+        && u64::from(exponent) + 3 <= u64::from(bits)
+        && u64::from(bits) <= u64::from(exponent) + 24
+}
+
+fn is_depth(depth: BitDepth) -> bool
+    ensures { result ≡ the_is_depth depth }
+{
+    if depth.exp_bits == 0 {
+        let spelled = is_spelled(
+            U32Spec::Const(8),
+            U32Spec::Const(10),
+            U32Spec::Const(12),
+            U32Spec::Offset(1, 6),
+            depth.bits_per_sample,
+        );
+        return spelled && depth.bits_per_sample < 32;
+    }
+    let spelled = is_spelled(
+        U32Spec::Const(32),
+        U32Spec::Const(16),
+        U32Spec::Const(24),
+        U32Spec::Offset(1, 6),
+        depth.bits_per_sample,
+    );
+    spelled && fits_float(depth.bits_per_sample, depth.exp_bits)
+}
+
+fn is_shift(shift: u32) -> bool
+    ensures { result ≡ is_spelled_by (Const 0) (Const 3) (Const 4) (Offset 1 3) shift }
+{
+    is_spelled(
+        U32Spec::Const(0),
+        U32Spec::Const(3),
+        U32Spec::Const(4),
+        U32Spec::Offset(1, 3),
+        shift,
+    )
+}
+
+fn is_channel(channel: ExtraChannel) -> bool
+    ensures { result ≡ the_is_channel channel }
+{
+    !matches!(channel.kind, ExtraChannelKind::SpotColour)
+        && !matches!(channel.kind, ExtraChannelKind::Cfa)
+        && is_depth(channel.bit_depth)
+        && is_shift(channel.dim_shift)
+        && channel.name_len == 0
+        && (channel.kind.is_alpha() || !channel.alpha_associated)
+}
+
+fn are_channels(channels: &[ExtraChannel]) -> bool
+    ensures { result ≡ list_all the_is_channel channels.now }
+{
+    for channel in channels {
+        if !is_channel(*channel) {
+            return false;
+        }
+    }
+    true
+}
+
+fn is_named_white(white: WhitePoint) -> bool
+    ensures { result ≡ named_white white }
+{
+    !matches!(white, WhitePoint::Custom(_))
+}
+
+fn is_usual_white(white: WhitePoint) -> bool
+    ensures { result ≡ usual_white white }
+{
+    matches!(white, WhitePoint::D65)
+}
+
+fn is_named_primaries(primaries: Primaries) -> bool
+    ensures { result ≡ named_primaries primaries }
+{
+    !matches!(primaries, Primaries::Custom(_))
+}
+
+fn is_usual_primaries(primaries: Primaries) -> bool
+    ensures { result ≡ usual_primaries primaries }
+{
+    matches!(primaries, Primaries::Srgb)
+}
+
+fn is_curve(function: TransferFunction) -> bool
+    ensures { result ≡ the_is_curve function }
+{
+    !matches!(function, TransferFunction::Gamma(_))
+}
+
+fn is_usual_function(function: TransferFunction) -> bool
+    ensures { result ≡ usual_function function }
+{
+    matches!(function, TransferFunction::Srgb)
+}
+
+fn is_usual_intent(intent: RenderingIntent) -> bool
+    ensures { result ≡ usual_intent intent }
+{
+    matches!(intent, RenderingIntent::Relative)
+}
+
+fn is_unknown_space(space: ColourSpace) -> bool
+    ensures { result ≡ unknown_space space }
+{
+    matches!(space, ColourSpace::Unknown)
+}
+
+fn is_white(implicit: bool, white: WhitePoint) -> bool
+    ensures { result ≡ (if implicit then usual_white white else named_white white) }
+{
+    if implicit {
+        is_usual_white(white)
+    } else {
+        is_named_white(white)
+    }
+}
+
+fn are_primaries(implicit: bool, primaries: Primaries) -> bool
+    ensures { result ≡ (if implicit then usual_primaries primaries else named_primaries primaries) }
+{
+    if implicit {
+        is_usual_primaries(primaries)
+    } else {
+        is_named_primaries(primaries)
+    }
+}
+
+fn is_function(implicit: bool, function: TransferFunction) -> bool
+    ensures { result ≡ (if implicit then usual_function function else the_is_curve function) }
+{
+    if implicit {
+        is_usual_function(function)
+    } else {
+        is_curve(function)
+    }
+}
+
+fn is_colour(colour: ColourEncoding) -> bool
+    ensures { result ≡ the_is_colour colour }
+{
+    let profile = colour.want_icc;
+    let grey = colour.colour_space.is_grey();
+    let xyb = colour.colour_space.is_xyb();
+    (profile || !is_unknown_space(colour.colour_space))
+        && is_white(profile | xyb, colour.white_point)
+        && are_primaries(profile | (grey | xyb), colour.primaries)
+        && is_function(profile | xyb, colour.transfer_function)
+        && (!profile || is_usual_intent(colour.rendering_intent))
+}
+
+fn is_tone(tone: ToneMapping) -> bool
+    ensures { result ≡ the_is_tone tone }
+{
+    tone.intensity_target < 65536 && tone.min_nits < 65536 && tone.linear_below < 65536
+}
+
+/// Whether the writer spells a header.
+pub fn is_writable(header: &ImageHeader) -> bool
+    ensures { result ≡ the_is_writable (image_of header.now) }
+{
+    is_size(header.size)
+        && 1 <= header.orientation
+        && header.orientation <= 8
+        && !header.intrinsic_size.is_some()
+        && !header.preview.is_some()
+        && !header.animation.is_some()
+        && is_depth(header.bit_depth)
+        && header.ec_info.len() <= 4096
+        && are_channels(&header.ec_info)
+        && is_colour(header.colour_encoding)
+        && is_tone(header.tone_mapping)
+        && header.extensions == 0
+}
