@@ -1,17 +1,17 @@
 -- Spellings of depths and of extra channels.
-use Rattle.std.proofs.Common.{◌≡◌, ◌≢◌, ℕ, ◌+◌, ◌-◌, ◌^◌, ◌<◌, ◌≤◌, List, [], ◌∷◌, ◌++◌, length, take, get_or, Bool, true, false, Some, refl, sym, ap, ◌∙◌, subst, arith}
-use Rattle.std.specs.Prelude.{not, ◌==◌, ◌&&◌, ◌||◌, nat_lt, nat_le, if◌then◌else◌, codes}
+use Rattle.std.proofs.Common.{◌≡◌, ◌≢◌, ℕ, ◌+◌, ◌-◌, ◌<◌, ◌≤◌, List, length, take, get_or, Bool, true, false, Some, refl, sym, ap, ◌∙◌, subst, arith}
+use Rattle.std.specs.Prelude.{not, ◌==◌, ◌&&◌, ◌||◌, nat_lt, nat_le, codes}
 use Rattle.std.specs.List.{list_all}
 use Rattle.std.proofs.lemmas.List.{take_all, take_more}
 use Rattle.std.proofs.lemmas.List.Folds.{list_all_at}
 use Rattle.std.proofs.lemmas.Bool.{and_parts, eq-eqb, eqb-true, leb-true, false≢true}
 use Rattle.std.proofs.lemmas.Bool.Decides.{nat_tests}
-use Rattle.jxlm_bits.specs.Grammar.{Grammar, number, flag, u32, part, give, either, repeated}
+use Rattle.jxlm_bits.specs.Grammar.{number, flag, u32, part, repeated}
 use Rattle.jxlm_bits.specs.declared.bits.U32Spec.TheVariants.{Const, Offset}
 use Rattle.jxlm_bit_writer.specs.Fields.{is_spelled}
-use Rattle.jxlm_bit_writer.specs.Writes.{Adds, Spells}
+use Rattle.jxlm_bit_writer.specs.Writes.{Spells}
 use Rattle.jxlm_bit_writer.proofs.WriteLaws.{after, becomes, absent, one_more}
-use Rattle.jxl_image_header.specs.Fields.{when, enum_number, variant, number_where, ignored_bytes, name}
+use Rattle.jxl_image_header.specs.Fields.{when, enum_number, number_where, ignored_bytes, name}
 use Rattle.jxl_image_header.specs.Channels.{bit_depth, extra_channel, fits_float, kind_of, is_alpha, is_spot_colour, is_cfa}
 use Rattle.jxl_image_header.specs.declared.channel.BitDepth.{BitDepth}
 use Rattle.jxl_image_header.specs.declared.channel.ExtraChannel.{ExtraChannel}

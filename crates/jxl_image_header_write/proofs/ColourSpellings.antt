@@ -1,12 +1,12 @@
 -- Spellings of colours and of brightness.
-use Rattle.std.proofs.Common.{◌≡◌, ℕ, ◌^◌, ◌<◌, List, [], Bool, true, false, Some, inl, inr, ◌⊎◌, refl, sym, ap, ◌∙◌, subst, arith}
-use Rattle.std.specs.Prelude.{not, ◌==◌, ◌&&◌, ◌||◌, nat_lt, if◌then◌else◌, codes}
-use Rattle.std.proofs.lemmas.Bool.{and_parts, eqb-true, ltb-true, false≢true}
-use Rattle.jxlm_bits.specs.Grammar.{Grammar, number, flag, u32, give, either}
-use Rattle.jxlm_bit_writer.specs.Writes.{Adds, Spells}
-use Rattle.jxlm_bit_writer.proofs.WriteLaws.{after, becomes, none_added, absent}
-use Rattle.jxl_image_header.specs.Fields.{when, bundle_follows, enum_number, variant, number_where}
-use Rattle.jxl_image_header.specs.Colours.{coordinate, chromaticity, custom_primaries, white_of, white_point, primaries_of, primaries, function_of, transfer_function, space_of, intent_of, is_grey, is_xyb, colour_encoding, tone_mapping}
+use Rattle.std.proofs.Common.{◌≡◌, ℕ, List, Bool, true, false, Some, inl, inr, ◌⊎◌, refl, sym, subst}
+use Rattle.std.specs.Prelude.{not, ◌==◌, ◌&&◌, ◌||◌, if◌then◌else◌, codes}
+use Rattle.std.proofs.lemmas.Bool.{and_parts, false≢true}
+use Rattle.jxlm_bits.specs.Grammar.{number, flag}
+use Rattle.jxlm_bit_writer.specs.Writes.{Spells}
+use Rattle.jxlm_bit_writer.proofs.WriteLaws.{after, becomes}
+use Rattle.jxl_image_header.specs.Fields.{when, bundle_follows, enum_number, variant}
+use Rattle.jxl_image_header.specs.Colours.{coordinate, chromaticity, custom_primaries, white_point, primaries, transfer_function, space_of, intent_of, is_grey, is_xyb, colour_encoding, tone_mapping}
 use Rattle.jxl_image_header.specs.declared.colour.Chromaticity.{Chromaticity}
 use Rattle.jxl_image_header.specs.declared.colour.CustomPrimaries.{CustomPrimaries}
 use Rattle.jxl_image_header.specs.declared.colour.ColourSpace.{ColourSpace}
@@ -21,7 +21,7 @@ use Rattle.jxl_image_header.specs.declared.colour.RenderingIntent.{RenderingInte
 use Rattle.jxl_image_header.specs.declared.colour.RenderingIntent.TheVariants as intents
 use Rattle.jxl_image_header.specs.declared.colour.ColourEncoding.{ColourEncoding}
 use Rattle.jxl_image_header.specs.declared.colour.ToneMapping.{ToneMapping}
-use Rattle.jxl_image_header_write.specs.Writable.{is_usual_white, is_usual_primaries, is_usual_function, is_usual_intent, is_usual_space, is_unknown_space, is_named_white, is_named_primaries, is_curve, is_colour, is_usual_colour, is_tone, is_usual_tone}
+use Rattle.jxl_image_header_write.specs.Writable.{is_usual_white, is_usual_primaries, is_usual_function, is_usual_intent, is_usual_space, is_unknown_space, is_named_white, is_named_primaries, is_curve, is_colour, is_usual_colour}
 use Rattle.jxl_image_header_write.specs.Inner.Numbers.{IsWhiteNumber, IsPrimariesNumber, IsCurveNumber}
 use Rattle.jxl_image_header_write.proofs.Spellings.{meant_if, variant_if}
 

@@ -1,15 +1,15 @@
 -- Spellings of image headers.
-use Rattle.std.proofs.Common.{◌≡◌, ℕ, zero, suc, ◌+◌, ◌-◌, ◌≤◌, List, [], ◌∷◌, length, Bool, true, false, Option, Some, None, refl, sym, ap, ◌∙◌, subst, arith}
-use Rattle.std.specs.Prelude.{not, ◌==◌, ◌&&◌, ◌||◌, nat_le, nat_lt, if◌then◌else◌, is_some, codes, ◌/◌, ◌%◌}
+use Rattle.std.proofs.Common.{◌≡◌, ℕ, zero, suc, ◌+◌, ◌-◌, ◌≤◌, List, [], ◌∷◌, length, Bool, true, false, Option, Some, None, refl, sym, ap, ◌∙◌, arith}
+use Rattle.std.specs.Prelude.{not, ◌==◌, ◌&&◌, ◌||◌, nat_le, nat_lt, is_some, codes}
 use Rattle.std.specs.List.{list_all}
 use Rattle.std.proofs.lemmas.Bool.{and_parts, eqb-true, leb-true, false≢true}
 use Rattle.std.proofs.lemmas.Bool.Decides.{nat_tests}
-use Rattle.jxlm_bits.specs.Grammar.{Grammar, number, flag, u32, give, either, repeated, ◌>>=◌}
+use Rattle.jxlm_bits.specs.Grammar.{number, flag, u32, repeated}
 use Rattle.jxlm_bits.specs.declared.bits.U32Spec.TheVariants.{Const, Offset}
 use Rattle.jxlm_bit_writer.specs.Fields.{is_spelled}
-use Rattle.jxlm_bit_writer.specs.Writes.{Adds, Spells, Writes}
+use Rattle.jxlm_bit_writer.specs.Writes.{Spells, Writes}
 use Rattle.jxlm_bit_writer.proofs.WriteLaws.{after, becomes, spelled_reads}
-use Rattle.jxl_image_header.specs.Fields.{when, optional, bundle_follows, extensions, number_where}
+use Rattle.jxl_image_header.specs.Fields.{when, bundle_follows, extensions}
 use Rattle.jxl_image_header.specs.Sizes.{size}
 use Rattle.jxl_image_header.specs.Channels.{bit_depth, extra_channel}
 use Rattle.jxl_image_header.specs.Colours.{colour_encoding, tone_mapping}

@@ -1,15 +1,13 @@
 -- Spellings of fields that are absent, of enumerations, names, extensions and sizes.
-use Rattle.std.proofs.Common.{◌≡◌, ℕ, ◌+◌, List, [], ◌++◌, Bool, true, false, Option, Some, None, refl, sym, ap, ◌∙◌, subst, arith}
-use Rattle.std.specs.Prelude.{not, ◌==◌, MatchBool, sum, count_ones}
-use Rattle.std.proofs.lemmas.List.{append-nil}
-use Rattle.std.proofs.lemmas.Bool.{and_parts}
+use Rattle.std.proofs.Common.{◌≡◌, ℕ, List, [], Bool, true, false, Option, Some, None, refl, sym, subst}
+use Rattle.std.specs.Prelude.{not, MatchBool, count_ones}
 use Rattle.jxlm_bits.specs.ErrorKind.{BadEnum}
-use Rattle.jxlm_bits.specs.Grammar.{Grammar, number, flag, u32, give, either, ◌>>=◌}
+use Rattle.jxlm_bits.specs.Grammar.{Grammar, number, flag, u32, give, ◌>>=◌}
 use Rattle.jxlm_bits.specs.declared.bits.U32Spec.TheVariants.{Const, Offset}
-use Rattle.jxlm_bit_writer.specs.Writes.{Adds, Spells}
-use Rattle.jxlm_bit_writer.proofs.WriteLaws.{after, becomes, none_added, given, chose_first, chose_second, absent}
-use Rattle.jxl_image_header.specs.Fields.{long, when, optional, bundle_follows, enum_number, value_or, variant, number_meant, number_where, ignored_bytes, extensions, name}
-use Rattle.jxl_image_header.specs.Sizes.{side, size, width_at}
+use Rattle.jxlm_bit_writer.specs.Writes.{Spells}
+use Rattle.jxlm_bit_writer.proofs.WriteLaws.{after, becomes, chose_first, absent}
+use Rattle.jxl_image_header.specs.Fields.{long, when, optional, bundle_follows, enum_number, value_or, variant, number_where, extensions, name}
+use Rattle.jxl_image_header.specs.Sizes.{side, size}
 use Rattle.jxl_image_header.specs.declared.size.Size.{Size}
 
 -- a field that is present

@@ -1,6 +1,6 @@
 -- The headers that the writer spells: each field that a record keeps is in the range of its spellings, and those whose
 -- contents a record does not keep (names, spot colours, colour filters, extensions) are absent.
-use Rattle.std.specs.Prelude.{ℕ, ◌==◌, ◌&&◌, ◌||◌, not, nat_lt, nat_le, List, length, Bool, true, false, if◌then◌else◌, Option, is_some}
+use Rattle.std.specs.Prelude.{ℕ, ◌==◌, ◌&&◌, ◌||◌, not, nat_lt, nat_le, length, Bool, true, false, if◌then◌else◌, is_some}
 use Rattle.std.specs.List.{list_all}
 use Rattle.jxlm_bits.specs.declared.bits.U32Spec.TheVariants.{Const, Offset}
 use Rattle.jxlm_bit_writer.specs.Fields.{is_spelled}

@@ -1,5 +1,5 @@
 -- The numbers by which white points, primaries and curves are spelled.
-use Rattle.std.specs.Prelude.{◌≡◌, ℕ, ◌==◌, ◌||◌, Bool, true, false}
+use Rattle.std.specs.Prelude.{◌≡◌, ℕ, ◌==◌, ◌||◌, true, false}
 use Rattle.jxlm_bits.specs.declared.bits.U32Spec.TheVariants.{Const, Offset}
 use Rattle.jxlm_bit_writer.specs.Fields.{is_spelled}
 use Rattle.jxl_image_header.specs.declared.colour.Chromaticity.{Chromaticity}

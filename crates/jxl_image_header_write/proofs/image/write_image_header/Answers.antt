@@ -1,4 +1,4 @@
-use Rattle.std.proofs.Common.{◌≡◌, refl, sym, ap, ◌∙◌, ◌-◌, arith, true, false}
+use Rattle.std.proofs.Common.{sym, ap, ◌∙◌, ◌-◌, arith}
 use Rattle.std.proofs.lemmas.Bool.{false≢true}
 use Rattle.jxl_image_header.specs.Images.{image_of}
 use Rattle.jxl_image_header_write.proofs.HeaderSpellings.{header_parts, header_spelled, untold_parts, no_more}
