@@ -1,0 +1,4 @@
+//! Writes headers of frames so that the reader of `jxl_frame_header` reads them (ISO/IEC 18181-1, frame header).
+#![tactic(auto)]
+
+pub mod still;
