@@ -1,10 +1,9 @@
 -- Lists of bits: digits of a number, and where they stand in bytes.
-use Rattle.std.proofs.Common.{◌≡◌, inl, inr, subst, ℕ, zero, suc, ◌+◌, ◌-◌, ◌*◌, ◌/◌, ◌%◌, ◌^◌, ◌<◌, ◌≤◌, List, [], ◌∷◌, ◌++◌, length, get_or, slice_index, replicate, refl, sym, ap, ◌∙◌, arith, append_assoc}
-use Rattle.std.proofs.lemmas.List.{append-nil, length-append, get_or_append_left, get_or-append-add}
-use Rattle.std.proofs.lemmas.Grind.{flat_map-append, one_shifted, replicate_next}
+use Rattle.std.proofs.Common.{◌≡◌, inl, inr, subst, ℕ, zero, suc, ◌+◌, ◌-◌, ◌*◌, ◌/◌, ◌%◌, ◌^◌, ◌<◌, List, [], ◌∷◌, ◌++◌, length, get_or, slice_index, replicate, refl, sym, ap, ◌∙◌, arith}
+use Rattle.std.proofs.lemmas.List.{length-append, get_or_append_left, get_or-append-add}
 use Rattle.std.proofs.lemmas.Nat.{pow_pos, mod-pow-add}
 use Rattle.std.proofs.lemmas.Bool.{cases_lt}
-use Rattle.std.proofs.Math.Nat.{pow-suc, pow-le-pow_right, add-mul-div_right, add-mul-mod_self_right, mul_assoc, mul_comm, div-eq_of_lt, mod-eq_of_lt, zero-add}
+use Rattle.std.proofs.Math.Nat.{pow-suc, add-mul-div_right, add-mul-mod_self_right, mul_assoc, mul_comm, zero-add}
 use Rattle.jxlm_bits.specs.Bits.{bit_at, bits_at}
 use Rattle.jxlm_bit_writer.specs.Written.{digits, bits_of, AreFilled, HasBits}
 
@@ -27,76 +26,6 @@ digits_low (suc n) v w =
     ap (λ x. digits (suc n) x) e
     ∙ ap (λ xs. xs ++ (v + w * 2 * 2 ^ n) / 2 ^ n % 2 ∷ []) (digits_low n v (w * 2))
     ∙ ap (λ b. digits n v ++ b ∷ []) last
-
--- one digit more
-pub digits_more : (n v b : ℕ) → v < 2 ^ n → b < 2 → digits (suc n) (v + b * 2 ^ n) ≡ digits n v ++ b ∷ []
-digits_more n v b h k =
-    let last : (v + b * 2 ^ n) / 2 ^ n % 2 ≡ b = ap (λ x. x % 2) (add-mul-div_right v b (pow_pos n) ∙ ap (λ x. x + b) (div-eq_of_lt h) ∙ zero-add b) ∙ mod-eq_of_lt k in
-    ap (λ xs. xs ++ (v + b * 2 ^ n) / 2 ^ n % 2 ∷ []) (digits_low n v b) ∙ ap (λ c. digits n v ++ c ∷ []) last
-
--- the bits of one byte more
-pub bits_more : (bytes : List ℕ) (b : ℕ) → bits_of (bytes ++ b ∷ []) ≡ bits_of bytes ++ digits 8 b
-bits_more bytes b = flat_map-append (digits 8) bytes (b ∷ []) ∙ ap (λ xs. bits_of bytes ++ xs) (append-nil (digits 8 b))
-
-placed : (held count bit : ℕ) → count < 8 → held < 2 ^ count → bit ≤ 1 → digits (count + 1) (held + bit * (1 * 2 ^ count % 256)) ≡ digits count held ++ bit ∷ []
-placed held count bit few small one =
-    let e : count + 1 ≡ suc count = omega arith in
-    let s : 1 * 2 ^ count % 256 ≡ 2 ^ count = (one_shifted count 255 refl few).0 in
-    ap (λ n. digits n (held + bit * (1 * 2 ^ count % 256))) e
-    ∙ ap (λ x. digits (suc count) (held + bit * x)) s
-    ∙ digits_more count held bit small (omega (arith, one))
-
--- a bit more, where it does not fill a byte
-pub held_bit : (bytes : List ℕ) (held count bit : ℕ) → count < 8 → held < 2 ^ count → bit ≤ 1 →
-    bits_of bytes ++ digits (count + 1) (held + bit * (1 * 2 ^ count % 256)) ≡ (bits_of bytes ++ digits count held) ++ bit ∷ []
-held_bit bytes held count bit few small one =
-    ap (λ xs. bits_of bytes ++ xs) (placed held count bit few small one) ∙ sym (append_assoc (bits_of bytes) (digits count held) (bit ∷ []))
-
--- a bit more, where it fills a byte
-pub filling_bit : (bytes new : List ℕ) (held count bit : ℕ) → count ≡ 7 → held < 2 ^ count → bit ≤ 1 → new ≡ bytes ++ (held + bit * (1 * 2 ^ count % 256)) ∷ [] →
-    bits_of new ++ digits 0 0 ≡ (bits_of bytes ++ digits count held) ++ bit ∷ []
-filling_bit bytes new held count bit seven small one e =
-    let byte : ℕ = held + bit * (1 * 2 ^ count % 256) in
-    let few : count < 8 = omega (arith, seven) in
-    let eight : 8 ≡ count + 1 = omega (arith, seven) in
-    append-nil (bits_of new)
-    ∙ ap bits_of e
-    ∙ bits_more bytes byte
-    ∙ ap (λ n. bits_of bytes ++ digits n byte) eight
-    ∙ held_bit bytes held count bit few small one
-
--- what digits a held number has up to eight: its own and then zeros
-zeros_above : (n v k : ℕ) → v < 2 ^ n → digits (n + k) v ≡ digits n v ++ replicate k 0
-zeros_above n v zero h = ap (λ m. digits m v) (let e : n + 0 ≡ n = omega arith in e) ∙ sym (append-nil (digits n v))
-zeros_above n v (suc k) h =
-    let wide : 2 ^ n ≤ 2 ^ (n + k) = pow-le-pow_right (omega arith) (omega arith) in
-    let none : v / 2 ^ (n + k) % 2 ≡ 0 = ap (λ x. x % 2) (div-eq_of_lt (omega (arith, h, wide))) in
-    let next : k + 1 ≡ suc k = omega arith in
-    let longer : n + suc k ≡ suc (n + k) = omega arith in
-    ap (λ m. digits m v) longer
-    ∙ ap (λ xs. xs ++ v / 2 ^ (n + k) % 2 ∷ []) (zeros_above n v k h)
-    ∙ ap (λ b. (digits n v ++ replicate k 0) ++ b ∷ []) none
-    ∙ append_assoc (digits n v) (replicate k 0) (0 ∷ [])
-    ∙ ap (λ xs. digits n v ++ xs) (sym (replicate_next k 0) ∙ ap (λ m. replicate m 0) next)
-
--- no byte is begun
-pub filled_whole : (bytes : List ℕ) (held count : ℕ) → count ≡ 0 → AreFilled bytes (bits_of bytes ++ digits count held)
-filled_whole bytes held count e = record {
-  zeros = 0;
-  few = omega arith;
-  filled = sym (append-nil (bits_of bytes ++ digits count held) ∙ ap (λ n. bits_of bytes ++ digits n held) e ∙ append-nil (bits_of bytes));
-}
-
--- a byte is begun
-pub filled_last : (bytes new : List ℕ) (held count : ℕ) → 0 < count → count < 8 → held < 2 ^ count → new ≡ bytes ++ held ∷ [] → AreFilled new (bits_of bytes ++ digits count held)
-filled_last bytes new held count some few small e = record {
-  zeros = 8 - count;
-  few = omega (arith, some, few);
-  filled =
-      let n : 8 ≡ count + (8 - count) = omega (arith, few) in
-      ap bits_of e ∙ bits_more bytes held ∙ ap (λ k. bits_of bytes ++ digits k held) n ∙ ap (λ xs. bits_of bytes ++ xs) (zeros_above count held (8 - count) small)
-      ∙ sym (append_assoc (bits_of bytes) (digits count held) (replicate (8 - count) 0));
-}
 
 -- bit i of bytes, among their bits
 digit_of : (n v j : ℕ) → j < n → get_or (digits n v) j 0 ≡ v / 2 ^ j % 2

@@ -1,6 +1,6 @@
 //! Bits written, least significant first (ISO/IEC 18181-1, bit packing).
 
-ghost use Rattle.std.specs.Prelude.{◌≡◌, ◌≤◌, [], ◌∷◌, ◌++◌, IfOk};
+ghost use Rattle.std.specs.Prelude.{◌≡◌, ◌≤◌, [], ◌++◌, IfOk};
 ghost use Rattle.jxlm_bit_writer.specs.Written.{digits, AreFilled};
 
 use std::alloc::{AllocError, Global};
@@ -12,8 +12,8 @@ use std::marker::Model;
 #[derive(Drop)]
 pub struct BitWriter {
     bytes: Vec<u8>,
-    // The bits after the last whole byte, fewer than 8, as a number.
-    held: u8,
+    // The bits after these bytes, fewer than 32, as a number.
+    held: u64,
     count: u32,
 }
 
@@ -25,7 +25,7 @@ impl Model for BitWriter {
 
     ghost view = { λ w. bits_of w.bytes.items ++ digits w.count w.held };
 
-    ghost invariant = { λ w. (w.count < 8) × (w.held < 2 ^ w.count) };
+    ghost invariant = { λ w. (w.count < 32) × (w.held < 2 ^ w.count) };
 }
 
 impl BitWriter {
@@ -40,30 +40,22 @@ impl BitWriter {
         }
     }
 
-    /// Adds a bit.
-    fn bit(&mut self, bit: u8) -> Result<(), AllocError>
-        requires { bit ≤ 1 }
-        ensures { IfOk result (λ _. self.new ≡ self.old ++ bit ∷ []) }
-    {
-        let held = self.held + bit * (1 << self.count);
-        if self.count == 7 {
-            self.bytes.push(held)?;
-            self.held = 0;
-            self.count = 0;
-        } else {
-            self.held = held;
-            self.count += 1;
-        }
-        Ok(())
-    }
-
     /// Adds the `n` least significant bits of a number, at most 32, the least significant first: `u(n)`.
     pub fn put(&mut self, value: u32, n: u32) -> Result<(), AllocError>
         requires { n ≤ 32 }
         ensures { IfOk result (λ _. self.new ≡ self.old ++ digits n value) }
     {
-        for i in 0..n {
-            self.bit(((value >> i) % 2) as u8)?;
+        let low = u64::from(value) % (1u64 << n);
+        let held = self.held + (low << self.count);
+        let count = self.count + n;
+        if count < 32 {
+            self.held = held;
+            self.count = count;
+        } else {
+            let word = (held % 4294967296) as u32;
+            self.bytes.extend_from_slice(&word.to_le_bytes())?;
+            self.held = held >> 32;
+            self.count = count - 32;
         }
         Ok(())
     }
@@ -77,9 +69,8 @@ impl BitWriter {
             held,
             count,
         } = self;
-        if count > 0 {
-            bytes.push(held)?;
-        }
+        let last = held.to_le_bytes();
+        bytes.extend_from_slice(&last[..count.div_ceil(8) as usize])?;
         Ok(bytes)
     }
 }
