@@ -1,0 +1,75 @@
+//! What a still picture has before the sections of its frame, written.
+
+ghost use Rattle.std.specs.Prelude.{◌≡◌, ◌<◌, ◌≤◌, ◌++◌, ℕ, List, true, false, None, length, IfOk};
+ghost use Rattle.std.specs.List.{list_all};
+ghost use Rattle.jxl_container.specs.Files.{is_bare};
+ghost use Rattle.jxl_image_header.specs.Images.{image_of, image_refusal};
+ghost use Rattle.jxl_image_header_write.specs.Writable.{is_writable};
+ghost use Rattle.jxl_frame_header_write.specs.Stills.{still_frame};
+ghost use Rattle.jxl_codestream.specs.Fronts.{layout_in};
+ghost use Rattle.jxl_codestream.specs.Layouts.{max_sections, section_count_of};
+ghost use Rattle.jxl_codestream_write.specs.Tables.{is_section_size};
+ghost use Rattle.jxl_codestream_write.specs.StillFronts.{IsFrameFront, IsImageFront, IsStillFront};
+
+use crate::toc::write_toc;
+use jxl_frame_header_write::still::write_still_header;
+use jxl_image_header::image::ImageHeader;
+use jxl_image_header_write::image::write_image_header;
+use jxlm_bit_writer::writer::BitWriter;
+use jxlm_bits::decoder::Decoder;
+use std::alloc::{AllocError, Global};
+
+// The image header, padded to a byte.
+fn write_image(alloc: Global, image: &ImageHeader) -> Result<Vec<u8>, AllocError>
+    requires { is_writable (image_of image.now) ≡ true }
+    ensures front { IfOk result (λ v. IsImageFront (image_of image.now) v.items) }
+    ensures bare { IfOk result (λ v. (rest : List ℕ) → is_bare (v.items ++ rest) ≡ true) }
+{
+    let mut bits = BitWriter::new(alloc);
+    write_image_header(&mut bits, image)?;
+    let bytes = bits.into_bytes()?;
+    Ok(bytes)
+}
+
+// The header of the frame and its table of contents.
+fn write_frame<D: Decoder>(
+    alloc: Global,
+    image: &ImageHeader,
+    shift: u32,
+    sizes: &[u32],
+) -> Result<Vec<u8>, AllocError>
+    requires still { (image_of image.now).animation ≡ None }
+    requires shift { shift < 4 }
+    requires sizes { list_all is_section_size sizes.now ≡ true }
+    ensures { IfOk result (λ v. IsFrameFront D.meaning (image_of image.now) shift sizes.now v.items) }
+{
+    let mut bits = BitWriter::new(alloc);
+    write_still_header(&mut bits, image, shift)?;
+    let bytes = write_toc::<D>(alloc, bits, sizes)?;
+    Ok(bytes)
+}
+
+/// What a still picture without a profile has before the sections of its only frame, which have these sizes: the
+/// signature and the image header, the header of the frame and its table of contents. The sides of groups are 128 times 2
+/// to the power of `shift`. The sections follow one behind another, and nothing after them.
+pub fn write_front<D: Decoder>(
+    alloc: Global,
+    image: &ImageHeader,
+    shift: u32,
+    sizes: &[u32],
+) -> Result<Vec<u8>, AllocError>
+    requires writable { is_writable (image_of image.now) ≡ true }
+    requires supported { image_refusal (image_of image.now) ≡ None }
+    requires plain { (image_of image.now).colour_encoding.want_icc ≡ false }
+    requires shift { shift < 4 }
+    requires count { length sizes.now
+        ≡ section_count_of (layout_in (image_of image.now) (still_frame (image_of image.now) shift)) }
+    requires few { length sizes.now ≤ max_sections }
+    requires sizes { list_all is_section_size sizes.now ≡ true }
+    ensures { IfOk result (λ v. IsStillFront D.meaning (image_of image.now) shift sizes.now v.items) }
+{
+    let mut front = write_image(alloc, image)?;
+    let frame = write_frame::<D>(alloc, image, shift, sizes)?;
+    front.extend_from_slice(&frame)?;
+    Ok(front)
+}
