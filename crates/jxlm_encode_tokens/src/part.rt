@@ -11,7 +11,7 @@ ghost use Rattle.jxlm_samples.specs.Placed.{PartLies, part_placed};
 ghost use Rattle.jxlm_weighted.specs.SelfCorrecting.{IsHeader};
 ghost use Rattle.jxlm_samples.specs.Reading.{sampled_width as the_sampled_width};
 ghost use Rattle.jxlm_samples.specs.Reading.{HasFlats, HasRoom, IsRoomyFor, LeadsAlone, part_of, regions_of, row_width, tree_of};
-ghost use Rattle.jxlm_encode_tokens.specs.Tokens.{AreTokensOf, MultipliesByOne};
+ghost use Rattle.jxlm_encode_tokens.specs.Tokens.{AreClusteredTokensOf, AreTokensOf, MultipliesByOne};
 ghost use Rattle.jxlm_encode_tokens.specs.Inner.Walks.{AreFirstTokens, AreRowTokens, IsInChannel, IsLoneLeaf, IsWalked};
 
 use crate::leaf::{gradient_row, zero_row};
@@ -266,4 +266,22 @@ pub fn sample_tokens<S: Sample, D: Decoder>(
     let mut tokens = Vec::with_capacity(alloc, count_cells(part.channels))?;
     push_channels(&mut tokens, &mut walk, store, &coding, &mut scratch)?;
     Ok(tokens)
+}
+
+/// The tokens of all samples of a part as [`sample_tokens`] gives them, each with the cluster of its leaf.
+///
+/// # Errors
+///
+/// Out of memory. Eight bytes are taken for each sample, before the first token is made.
+pub fn clustered_tokens<S: Sample, D: Decoder>(
+    alloc: Global,
+    part: &PlacedPart<'_, D>,
+    store: &[AlignedGrid<S>],
+) -> std::result::Result<Vec<Token>, OutOfMemory>
+    requires lies { PartLies part.now store.now }
+    requires multipliers { AllLeaves MultipliesByOne part.now.config.now.tree }
+    ensures { IfOk result (λ v. AreClusteredTokensOf S.width (part_placed part.now)
+        (cells_of (grids_in (regions part.now.channels.now) (store_meanings S.to_int store.now))) v.items) }
+{
+    all_tokens::<S, D, Token>(alloc, part, store)
 }
