@@ -1,12 +1,11 @@
 //! The nodes of a tree: their tokens, each in the cluster of its context, and their stream.
 
-ghost use Rattle.std.specs.Prelude.{◌≡◌, ℕ, ◌<◌, ◌≤◌, ◌^◌, ◌++◌, true, map, length, IfOk};
+ghost use Rattle.std.specs.Prelude.{◌≡◌, ◌<◌, ◌≤◌, ◌*◌, ◌^◌, ◌++◌, true, map, length, IfOk};
 ghost use Rattle.std.specs.List.{All};
 ghost use Rattle.jxlm_bit_writer.specs.Writes.{Adds};
 ghost use Rattle.jxlm_encode_write.specs.Nodes.{has_token, tree_tokens};
 ghost use Rattle.jxlm_encode_streams.specs.TreeStreams.{node_contexts, tree_contexts};
-ghost use Rattle.jxl_coding.specs.Clusters.{count_of};
-ghost use Rattle.jxl_encode_tree.specs.Inner.Contexts.{AreNodesRead, cluster_in, clusters_in};
+ghost use Rattle.jxl_encode_tree.specs.Inner.Contexts.{AreNodesRead, cluster_count, cluster_in, clusters_in};
 
 use jxl_coding_build::streams::{write_all, writer_for};
 use jxlm_bit_writer::token::Token;
@@ -52,6 +51,13 @@ fn cluster_of(separate: bool, context: u8) -> u8
     if separate { context } else { 0 }
 }
 
+/// How many clusters there are.
+fn count_of(separate: bool) -> u32
+    ensures { result ≡ cluster_count separate }
+{
+    if separate { 6 } else { 1 }
+}
+
 /// The clusters of the six contexts.
 fn clusters_of(alloc: Global, separate: bool) -> Result<Vec<u8>, AllocError>
     ensures { IfOk result (λ v. v.items ≡ clusters_in separate) }
@@ -94,6 +100,8 @@ fn node_tokens(
     ensures values { IfOk result (λ v. map (λ t. t.value) v.items ≡ tree_tokens nodes.now) }
     ensures clusters { IfOk result (λ v. map (λ t. t.cluster) v.items
         ≡ map (cluster_in separate) (tree_contexts nodes.now)) }
+    ensures below { IfOk result (λ v. All (λ t. t.cluster < cluster_count separate) v.items) }
+    ensures few { IfOk result (λ v. length v.items ≤ 5 * length nodes.now) }
 {
     let values = tokens_of(alloc, nodes)?;
     let contexts = contexts_of(alloc, nodes)?;
@@ -114,8 +122,7 @@ pub(crate) fn write_nodes(
     let separate = nodes.len() > 16;
     let tokens = node_tokens(alloc, nodes, separate)?;
     let clusters = clusters_of(alloc, separate)?;
-    let many = if separate { 6 } else { 1 };
-    let writer = writer_for(alloc, clusters, many, &tokens)?;
+    let writer = writer_for(alloc, clusters, count_of(separate), &tokens)?;
     write_all(alloc, bits, &writer, &tokens)?;
     Ok(())
 }

@@ -17,7 +17,6 @@ use std::alloc::{AllocError, Global};
 /// # Errors
 ///
 /// Out of memory alone; then nothing is promised of the bits.
-#[tactic(auto, using(crate::proofs::CodedSamples::samples_coded))]
 pub fn write_samples(
     alloc: Global,
     bits: &mut BitWriter,

@@ -12,6 +12,10 @@ use Rattle.jxl_coding.specs.Tokens.{Entropy, entropy}
 abbrev pub cluster_in : Bool → ℕ → ℕ
 cluster_in separate context = if separate then context else 0
 
+-- how many clusters there are then
+abbrev pub cluster_count : Bool → ℕ
+cluster_count separate = if separate then 6 else 1
+
 -- those of the six contexts
 abbrev pub clusters_in : Bool → List ℕ
 clusters_in separate = map (cluster_in separate) (0 ∷ 1 ∷ 2 ∷ 3 ∷ 4 ∷ 5 ∷ [])
