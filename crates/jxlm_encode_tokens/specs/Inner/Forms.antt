@@ -23,9 +23,9 @@ token_form = record { value = λ t. t.value; clustered = true; cluster = λ t. t
 
 module _ {T : Type 0} (f : Form T) where
   -- this cluster and this value are kept so
-  pub record IsKept (cluster value : ℕ) (t : T) : Type 0 where
-    pub value : f.value t ≡ value
-    pub cluster : f.clustered ≡ true → f.cluster t ≡ cluster
+  pub record IsKept (c v : ℕ) (t : T) : Type 0 where
+    pub value : f.value t ≡ v
+    pub cluster : f.clustered ≡ true → f.cluster t ≡ c
 
   -- this is kept of the token of a sample at a leaf, over a prediction
   pub record IsLeafToken (w : Width) (leaf : Leaf) (predicted sample : ℤ) (t : T) : Type 0 where

@@ -5,8 +5,8 @@ use Rattle.jxlm_encode_tokens.proofs.Cells.{row_of_region}
 use Rattle.jxlm_encode_tokens.proofs.LeafRows.{table_tokens}
 use Rattle.jxlm_encode_tokens.proofs.part.row_by_table.Goals as goal
 
-pub table_row-requires-then-y-eq0-clause-table : goal.table_row-requires-then-y-eq0-clause-table
-table_row-requires-then-y-eq0-clause-table g c κs within = c.requires.table.gradient
+pub table_row-requires-clause-table : goal.table_row-requires-clause-table
+table_row-requires-clause-table g c κs within = c.requires.table.gradient
 
 pub table_row-requires-else-y-eq0-clause-table : goal.table_row-requires-else-y-eq0-clause-table
 table_row-requires-else-y-eq0-clause-table g c κs within = c.requires.table.gradient
