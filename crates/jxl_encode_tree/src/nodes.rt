@@ -58,32 +58,27 @@ fn count_of(separate: bool) -> u32
     if separate { 6 } else { 1 }
 }
 
-/// The clusters of the six contexts.
-fn clusters_of(alloc: Global, separate: bool) -> Result<Vec<u8>, AllocError>
-    ensures { IfOk result (λ v. v.items ≡ clusters_in separate) }
+/// The clusters of contexts.
+fn clusters_of(alloc: Global, contexts: &[u8], separate: bool) -> Result<Vec<u8>, AllocError>
+    ensures { IfOk result (λ v. v.items ≡ map (cluster_in separate) contexts.now) }
 {
     let mut clusters = Vec::new(alloc);
-    for context in 0..6u8 {
-        clusters.push(cluster_of(separate, context))?;
+    for context in contexts {
+        clusters.push(cluster_of(separate, *context))?;
     }
     Ok(clusters)
 }
 
-/// Tokens of these values, each in the cluster of its context.
-fn clustered(
-    alloc: Global,
-    separate: bool,
-    contexts: &[u8],
-    values: &[u32],
-) -> Result<Vec<Token>, AllocError>
-    requires same { length contexts.now ≡ length values.now }
+/// Tokens of these clusters and values.
+fn tokens_in(alloc: Global, clusters: &[u8], values: &[u32]) -> Result<Vec<Token>, AllocError>
+    requires same { length clusters.now ≡ length values.now }
     ensures values { IfOk result (λ v. map (λ t. t.value) v.items ≡ values.now) }
-    ensures clusters { IfOk result (λ v. map (λ t. t.cluster) v.items ≡ map (cluster_in separate) contexts.now) }
+    ensures clusters { IfOk result (λ v. map (λ t. t.cluster) v.items ≡ clusters.now) }
 {
     let mut tokens = Vec::new(alloc);
     for i in 0..values.len() {
         tokens.push(Token {
-            cluster: cluster_of(separate, contexts[i]),
+            cluster: clusters[i],
             value: values[i],
         })?;
     }
@@ -105,7 +100,9 @@ fn node_tokens(
 {
     let values = tokens_of(alloc, nodes)?;
     let contexts = contexts_of(alloc, nodes)?;
-    clustered(alloc, separate, &contexts, &values)
+    let clusters = clusters_of(alloc, &contexts, separate)?;
+    let tokens = tokens_in(alloc, &clusters, &values)?;
+    Ok(tokens)
 }
 
 /// Adds a decoder of six contexts and the stream of the nodes' tokens. Contexts have codes of their own unless nodes
@@ -121,7 +118,7 @@ pub(crate) fn write_nodes(
 {
     let separate = nodes.len() > 16;
     let tokens = node_tokens(alloc, nodes, separate)?;
-    let clusters = clusters_of(alloc, separate)?;
+    let clusters = clusters_of(alloc, &[0, 1, 2, 3, 4, 5], separate)?;
     let writer = writer_for(alloc, clusters, count_of(separate), &tokens)?;
     write_all(alloc, bits, &writer, &tokens)?;
     Ok(())
