@@ -7,7 +7,7 @@ use Rattle.jxl_coding.specs.Clusters.{count_of, greatest, are_used}
 use Rattle.jxl_coding_stream_write.specs.Heads.{map_token}
 use Rattle.jxl_coding_stream_write.specs.Tokens.{HasSlot}
 use Rattle.jxl_coding_stream_write.specs.declared.cluster.ClusterWriter.{ClusterWriter}
-use Rattle.jxl_coding_stream_write.specs.declared.token.Token.{Token}
+use Rattle.jxlm_bit_writer.specs.declared.token.Token.{Token}
 use Rattle.jxl_coding_stream_write.proofs.OneContext.{only_zero}
 use Rattle.jxl_coding_build.specs.Histograms.{AllOccur}
 

@@ -5,7 +5,7 @@ use Rattle.std.proofs.lemmas.Bool.{cases_lt}
 use Rattle.std.proofs.lemmas.List.{get_or_default}
 use Rattle.jxl_coding_codes.specs.declared.config.IntegerConfig.{IntegerConfig}
 use Rattle.jxl_coding_write.specs.HybridIntegers.{symbol_of}
-use Rattle.jxl_coding_stream_write.specs.declared.token.Token.{Token}
+use Rattle.jxlm_bit_writer.specs.declared.token.Token.{Token}
 use Rattle.jxl_coding_build.specs.Histograms.{AllOccur}
 
 more_than : (a b : ℕ) → 0 < a → a ≤ b → 0 < b

@@ -13,8 +13,8 @@ use crate::normalise::{normalise, total_of};
 use jxl_coding_codes::alias::only;
 use jxl_coding_codes::config::IntegerConfig;
 use jxl_coding_stream_write::cluster::ClusterWriter;
-use jxl_coding_stream_write::token::Token;
 use jxl_coding_write::spelling::spell;
+use jxlm_bit_writer::token::Token;
 use std::alloc::{AllocError, Global};
 
 /// The logarithm of the size of the alphabets.

@@ -15,7 +15,7 @@ use jxl_coding_codes::config::IntegerConfig;
 use jxl_coding_stream_write::cluster::ClusterWriter;
 use jxl_coding_stream_write::head::{are_below, map_tokens, write_head, write_mapped_head};
 use jxl_coding_stream_write::stream::StreamWriter;
-use jxl_coding_stream_write::token::Token;
+use jxlm_bit_writer::token::Token;
 use jxlm_bit_writer::writer::BitWriter;
 use std::alloc::{AllocError, Global};
 

@@ -17,7 +17,7 @@ use Rattle.jxl_coding.proofs.DecoderLaw.{entropy_is_lawful}
 use Rattle.jxl_coding_stream_write.specs.Codes.{codes_of}
 use Rattle.jxl_coding_stream_write.specs.Streams.{IsStream, in_stream}
 use Rattle.jxl_coding_stream_write.specs.declared.stream.StreamWriter.{StreamWriter}
-use Rattle.jxl_coding_stream_write.specs.declared.token.Token.{Token}
+use Rattle.jxlm_bit_writer.specs.declared.token.Token.{Token}
 use Rattle.jxl_coding_fields_write.specs.Readings.{Stands, Writes}
 use Rattle.jxl_coding_fields_write.proofs.NumberFields.{number_stands_as}
 use Rattle.jxl_coding_stream_write.specs.Heads.{map_token}

@@ -14,7 +14,7 @@ use Rattle.jxl_coding_stream_write.specs.Codes.{codes_of}
 use Rattle.jxl_coding_stream_write.specs.Pieces.{bits_back}
 use Rattle.jxl_coding_stream_write.specs.Streams.{in_stream, AreAsked, Reads, IsStream, StreamsAreRead}
 use Rattle.jxl_coding_stream_write.specs.declared.stream.StreamWriter.{StreamWriter}
-use Rattle.jxl_coding_stream_write.specs.declared.token.Token.{Token}
+use Rattle.jxlm_bit_writer.specs.declared.token.Token.{Token}
 
 clusters_of : List Asked → List ℕ
 clusters_of asked = map (λ a. a.cluster) asked

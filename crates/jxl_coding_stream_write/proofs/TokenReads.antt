@@ -15,7 +15,7 @@ use Rattle.jxl_coding_stream_write.specs.Streams.{in_stream, Reads}
 use Rattle.jxl_coding_stream_write.specs.Tokens.{SymbolLeads, TokenWrites}
 use Rattle.jxl_coding_stream_write.specs.declared.cluster.ClusterWriter.{ClusterWriter}
 use Rattle.jxl_coding_stream_write.specs.declared.stream.StreamWriter.{StreamWriter}
-use Rattle.jxl_coding_stream_write.specs.declared.token.Token.{Token}
+use Rattle.jxlm_bit_writer.specs.declared.token.Token.{Token}
 use Rattle.jxl_coding_stream_write.proofs.StreamReads.{one_more}
 use Rattle.jxl_coding_stream_write.proofs.CodesAt.{IsAt, at_all, code_at, code_is, slot_is}
 use Rattle.jxl_coding_stream_write.proofs.SymbolReads.{symbol_none, symbol_only}

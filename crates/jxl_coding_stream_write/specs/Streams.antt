@@ -7,7 +7,7 @@ use Rattle.jxl_coding.specs.Copies.{empty_ring}
 use Rattle.jxl_coding.specs.Parse.{decoder_at}
 use Rattle.jxl_coding.specs.Symbols.{Codes}
 use Rattle.jxl_coding.specs.Tokens.{Entropy, begin_at, end_of, end_state, entropy}
-use Rattle.jxl_coding_stream_write.specs.declared.token.Token.{Token}
+use Rattle.jxlm_bit_writer.specs.declared.token.Token.{Token}
 
 -- the decoder of these codes in a state of a stream, without copies
 abbrev pub in_stream : Codes → ℕ → Entropy

@@ -8,7 +8,7 @@ use Rattle.jxl_coding_write.specs.HybridIntegers.{IsSpelled, symbol_of}
 use Rattle.jxl_coding_write.specs.declared.piece.BitPiece.{BitPiece}
 use Rattle.jxl_coding_write.specs.declared.slot_table.SlotTable.{SlotTable}
 use Rattle.jxl_coding_stream_write.specs.declared.cluster.ClusterWriter.{ClusterWriter}
-use Rattle.jxl_coding_stream_write.specs.declared.token.Token.{Token}
+use Rattle.jxlm_bit_writer.specs.declared.token.Token.{Token}
 
 -- From the state before, the decoder reads a symbol of the cluster and is in the state after: an only symbol keeps the
 -- state, another leads to it by its slot and the bits that follow.

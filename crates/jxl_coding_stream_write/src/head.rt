@@ -14,10 +14,10 @@ ghost use Rattle.jxl_coding_stream_write.specs.Heads.{IsHead, FitsCluster, FitsC
 
 use crate::cluster::ClusterWriter;
 use crate::stream::StreamWriter;
-use crate::token::Token;
 use jxl_coding_fields_write::configs::write_config;
 use jxl_coding_fields_write::counts::write_counts;
 use jxl_coding_fields_write::distributions::write_only;
+use jxlm_bit_writer::token::Token;
 use jxlm_bit_writer::writer::BitWriter;
 use std::alloc::{AllocError, Global};
 

@@ -7,4 +7,3 @@ pub mod head;
 pub mod head_limits;
 pub mod laws;
 pub mod stream;
-pub mod token;

@@ -3,4 +3,5 @@
 
 pub mod fields;
 pub mod spelled;
+pub mod token;
 pub mod writer;

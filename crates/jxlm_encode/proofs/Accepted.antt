@@ -23,7 +23,7 @@ use Rattle.jxlm_encode_write.specs.Laws.{IsWritten}
 use Rattle.jxlm_encode_write.specs.declared.header.EncodeTransform.{EncodeTransform}
 use Rattle.jxlm_encode_write.specs.declared.header.EncodeTransform.TheVariants as given
 use Rattle.jxlm_encode.specs.Encoded.{AreAccepted, IsRefusedAfter, IsTransformRefused}
-use Rattle.jxlm_encode.specs.Inner.Errors.{IsNotMemory}
+use Rattle.jxlm_encode.specs.Errors.{IsNotMemory}
 use Rattle.jxlm_encode.specs.Inner.Placing.{AppliesOne, AreRefused, HaveCome, Refuses, listed}
 use Rattle.jxlm_encode.specs.declared.error.EncodeError.{EncodeError}
 use Rattle.jxlm_encode.specs.declared.error.EncodeError.TheVariants.{InvalidTransform, InvalidTree, OutOfMemory}

@@ -1,16 +1,18 @@
 -- The nodes of one tree, counted off one by one.
 use Rattle.std.proofs.Common.{◌≡◌, ℕ, zero, suc, ◌+◌, ◌-◌, ◌/◌, ◌<◌, ◌≤◌, List, [], ◌∷◌, ◌++◌, length, map, take, drop, get_or, refl, sym, ap, ◌∙◌, subst, arith}
-use Rattle.std.specs.Prelude.{◌↔◌}
+use Rattle.std.specs.Prelude.{◌↔◌, slice_index}
 use Rattle.std.proofs.lemmas.List.{take-append-drop, length-take-le, drop_all, drop_more, length-append, length-drop, length-map}
 use Rattle.jxlm_tree.specs.Tree.{AllLeaves, Node, Shape, leaf, decision, leaf_node, decision_node, levels, node_count}
+use Rattle.jxlm_tree.specs.TreeReading.{with_clusters}
 use Rattle.jxlm_tree.specs.declared.flat.Leaf.{Leaf}
 use Rattle.jxlm_tree.proofs.Listing.{Lists, lists-levels, queue_of-levels, queue_of-lists}
-use Rattle.jxlm_tree.proofs.Shapes.{levels-count}
+use Rattle.jxlm_tree.proofs.Shapes.{count_is, levels-count}
 use Rattle.jxlm_encode_write.specs.Nodes.{node_of}
 use Rattle.jxlm_encode_write.specs.Trees.{leaves_in}
 use Rattle.jxlm_encode_write.specs.declared.tree.EncodeNode.{EncodeNode}
 use Rattle.jxlm_encode_write.specs.declared.tree.EncodeNode.TheVariants as given
-use Rattle.jxlm_encode.specs.Inner.Listing.{AreNodesOf, ListsOneTree, left_after}
+use Rattle.jxlm_encode.specs.Inner.Listing.{AreNodesOf, left_after}
+use Rattle.jxlm_encode.specs.Listing.{ListsOneTree}
 
 -- ---- a list of nodes that is one tree's, and its tree
 
@@ -27,10 +29,10 @@ listed_tree : (nodes : List EncodeNode) → ListsOneTree nodes → AreNodesOf 1 
 listed_tree nodes h = listed_trees nodes (h.0 ∷ []) (subst (Lists (h.0 ∷ [])) h.1 (queue_of-lists (levels h.0) (h.0 ∷ []) (queue_of-levels h.0)))
 
 -- n trees with these nodes
-record Forest (n : ℕ) (nodes : List EncodeNode) : Type 0 where
+record Forest (n : ℕ) (nodes : List (Node Leaf)) : Type 0 where
   trees : List (Shape Leaf)
   count : length trees ≡ n
-  lists : Lists trees (map node_of nodes)
+  lists : Lists trees nodes
 
 two : {X : Type 0} (xs : List X) → length xs ≡ 2 → (a : X) × (b : X) × (xs ≡ a ∷ b ∷ [])
 two [] h = absurd (omega (arith, h))
@@ -38,15 +40,20 @@ two (a ∷ []) h = absurd (omega (arith, h))
 two (a ∷ (b ∷ [])) h = (a, b, refl)
 two (a ∷ (b ∷ (c ∷ xs))) h = absurd (omega (arith, h))
 
-forest : (nodes : List EncodeNode) (n : ℕ) → AreNodesOf n nodes → Forest n nodes
-forest [] zero h = record { trees = []; count = refl; lists = tt }
-forest (x ∷ nodes) zero h = absurd h
-forest [] (suc m) h = absurd h
-forest (given.Leaf predictor offset ∷ nodes) (suc m) h =
-    let f = forest nodes m h in
-    record { trees = leaf (record { cluster = 0; predictor = predictor; offset = offset; multiplier = 1 }) ∷ f.trees; count = ap suc f.count; lists = (refl, f.lists) }
-forest (given.Decision property value ∷ nodes) (suc m) h =
-    let f = forest nodes (m + 2) h in
+-- whatever clusters their leaves have, from number k on
+forest : (clusters : List ℕ) (k : ℕ) (nodes : List EncodeNode) (n : ℕ) → AreNodesOf n nodes → Forest n (with_clusters clusters k (map node_of nodes))
+forest clusters k [] zero h = record { trees = []; count = refl; lists = tt }
+forest clusters k (x ∷ nodes) zero h = absurd h
+forest clusters k [] (suc m) h = absurd h
+forest clusters k (given.Leaf predictor offset ∷ nodes) (suc m) h =
+    let f = forest clusters (suc k) nodes m h in
+    record {
+      trees = leaf (record { cluster = slice_index clusters k; predictor = predictor; offset = offset; multiplier = 1 }) ∷ f.trees;
+      count = ap suc f.count;
+      lists = (refl, f.lists);
+    }
+forest clusters k (given.Decision property value ∷ nodes) (suc m) h =
+    let f = forest clusters k nodes (m + 2) h in
     let count = f.count in
     let ts : List (Shape Leaf) = take m f.trees in
     let parts : ts ++ drop m f.trees ≡ f.trees = take-append-drop m f.trees in
@@ -55,14 +62,28 @@ forest (given.Decision property value ∷ nodes) (suc m) h =
     let whole_length = ap length parts in
     let last = two (drop m f.trees) (omega (arith, count, front, both, whole_length)) in
     let whole : f.trees ≡ ts ++ last.0 ∷ last.1 ∷ [] = sym parts ∙ ap (λ xs. ts ++ xs) last.2 in
-    record { trees = decision property value last.0 last.1 ∷ ts; count = ap suc front; lists = ((refl, refl), subst (λ xs. Lists xs (map node_of nodes)) whole f.lists) }
+    record { trees = decision property value last.0 last.1 ∷ ts; count = ap suc front; lists = ((refl, refl), subst (λ xs. Lists xs (with_clusters clusters k (map node_of nodes))) whole f.lists) }
+
+single : (ns : List (Node Leaf)) → Forest 1 ns → (t : Shape Leaf) × (levels t ≡ ns)
+single ns f = of_list f.trees f.count f.lists where
+  of_list : (ts : List (Shape Leaf)) → length ts ≡ 1 → Lists ts ns → (t : Shape Leaf) × (levels t ≡ ns)
+  of_list [] e l = absurd (omega (arith, e))
+  of_list (t ∷ []) e l = (t, sym (lists-levels t ns l))
+  of_list (t ∷ (u ∷ ts)) e l = absurd (omega (arith, e))
+
+-- without clusters each leaf has cluster 0
+without_clusters : (k : ℕ) (nodes : List EncodeNode) → with_clusters [] k (map node_of nodes) ≡ map node_of nodes
+without_clusters k [] = refl
+without_clusters k (given.Decision property value ∷ nodes) = ap (λ (ns : List (Node Leaf)). decision_node property value ∷ ns) (without_clusters k nodes)
+without_clusters k (given.Leaf predictor offset ∷ nodes) =
+    ap (λ (ns : List (Node Leaf)). leaf_node (record { cluster = 0; predictor = predictor; offset = offset; multiplier = 1 }) ∷ ns) (without_clusters (suc k) nodes)
 
 tree_listed : (nodes : List EncodeNode) → AreNodesOf 1 nodes → ListsOneTree nodes
-tree_listed nodes h = let f = forest nodes 1 h in of_list f.trees f.count f.lists where
-  of_list : (ts : List (Shape Leaf)) → length ts ≡ 1 → Lists ts (map node_of nodes) → ListsOneTree nodes
-  of_list [] e l = absurd (omega (arith, e))
-  of_list (t ∷ []) e l = (t, sym (lists-levels t (map node_of nodes) l))
-  of_list (t ∷ (u ∷ ts)) e l = absurd (omega (arith, e))
+tree_listed nodes h = let one = single _ (forest [] 0 nodes 1 h) in (one.0, one.1 ∙ without_clusters 0 nodes)
+
+-- the same tree, whatever clusters its leaves have
+pub clustered_tree : (clusters : List ℕ) (nodes : List EncodeNode) → ListsOneTree nodes → (t : Shape Leaf) × (levels t ≡ with_clusters clusters 0 (map node_of nodes))
+clustered_tree clusters nodes h = single _ (forest clusters 0 nodes 1 (listed_tree nodes h))
 
 -- ---- counted off
 
@@ -120,6 +141,10 @@ leaves_twice (given.Decision property value ∷ nodes) (suc m) h = let rest = le
 pub half_are_leaves : (nodes : List EncodeNode) → ListsOneTree nodes → leaves_in nodes ≡ length nodes / 2 + 1
 half_are_leaves nodes h = let twice = leaves_twice nodes 1 (listed_tree nodes h) in omega (arith, twice)
 
+-- a tree has as many nodes as are listed, whatever clusters its leaves have
+pub clustered_counted : (clusters : List ℕ) (t : Shape Leaf) (nodes : List EncodeNode) → levels t ≡ with_clusters clusters 0 (map node_of nodes) → node_count t ≡ length nodes
+clustered_counted clusters t nodes e = count_is clusters t (map node_of nodes) e ∙ length-map nodes node_of
+
 -- a tree has as many nodes as are listed
 pub nodes_counted : (t : Shape Leaf) (nodes : List EncodeNode) → levels t ≡ map node_of nodes → node_count t ≡ length nodes
 nodes_counted t nodes e = sym (levels-count t) ∙ ap length e ∙ length-map nodes node_of
@@ -148,6 +173,16 @@ leaves_of_listed P (decision_node q w ∷ ns) (leaf l ∷ ts) h all = absurd h
 leaves_of_listed P (leaf_node m ∷ ns) (decision p v a b ∷ ts) h all = absurd h
 leaves_of_listed P (decision_node q w ∷ ns) (decision p v a b ∷ ts) h all =
     let rest = last_two P ts a b (leaves_of_listed P ns (ts ++ a ∷ b ∷ []) h.1 all) in (rest.1, rest.0)
+
+ones_listed : (clusters : List ℕ) (k : ℕ) (nodes : List EncodeNode) → AllListed (λ l. l.multiplier ≡ 1) (with_clusters clusters k (map node_of nodes))
+ones_listed clusters k [] = tt
+ones_listed clusters k (given.Decision property value ∷ nodes) = ones_listed clusters k nodes
+ones_listed clusters k (given.Leaf predictor offset ∷ nodes) = (refl, ones_listed clusters (suc k) nodes)
+
+-- each leaf has the multiplier 1, whatever its cluster is
+pub ones_clustered : (clusters : List ℕ) (t : Shape Leaf) (nodes : List EncodeNode) → levels t ≡ with_clusters clusters 0 (map node_of nodes) → AllLeaves (λ l. l.multiplier ≡ 1) t
+ones_clustered clusters t nodes e =
+    (leaves_of_listed (λ l. l.multiplier ≡ 1) (levels t) (t ∷ []) (queue_of-lists (levels t) (t ∷ []) (queue_of-levels t)) (subst (AllListed (λ l. l.multiplier ≡ 1)) (sym e) (ones_listed clusters 0 nodes))).0
 
 -- of a tree that an encoder is given
 abbrev pub IsGivenLeaf : Leaf → Type 0

@@ -1,12 +1,12 @@
 -- The tree that nodes list, read where it was written.
 use Rattle.std.proofs.Common.{◌≡◌, ◌⊎◌, inl, inr, ℕ, ◌+◌, ◌^◌, ◌<◌, ◌≤◌, max, List, [], ◌++◌, length, map, Result, Ok, Err, IfOk, sym, ap, ◌∙◌, subst, append_assoc, arith}
 use Rattle.std.specs.List.{All}
-use Rattle.jxlm_bits.specs.Decoding.{Taken}
+use Rattle.jxlm_bits.specs.Decoding.{Meaning, Taken}
 use Rattle.jxlm_bits.specs.ErrorKind.{ErrorAt, kind_of}
 use Rattle.jxlm_bits.specs.Grammar.{IsErrorAt}
 use Rattle.jxlm_bits.specs.declared.error.Error.{Error}
 use Rattle.jxlm_header.specs.Opening.{depth_limit}
-use Rattle.jxlm_tree.specs.Tree.{Config, Node, Shape, config_of, depth, levels}
+use Rattle.jxlm_tree.specs.Tree.{Config, Node, Shape, config_of, depth, levels, node_count}
 use Rattle.jxlm_tree.specs.TreeReading.{IsTooDeep, IsTreeAt, TreeGives, listing_at}
 use Rattle.jxlm_tree.specs.TreeStands.{OneTreeStands, TreeStands, TreesAreReadExactly}
 use Rattle.jxlm_tree.specs.declared.flat.Leaf.{Leaf}
@@ -19,36 +19,26 @@ use Rattle.jxlm_bit_writer.specs.Written.{AreFilled, HasBits}
 use Rattle.jxlm_bit_writer.proofs.BitLists.{filled_stands}
 use Rattle.jxlm_encode_write.specs.declared.tree.EncodeNode.{EncodeNode}
 use Rattle.jxlm_encode_write.proofs.TreeLaws.{trees_stand}
-use Rattle.jxlm_encode.specs.Inner.Errors.{IsNotMemory}
+use Rattle.jxlm_encode.specs.Errors.{IsNotMemory}
 use Rattle.jxlm_encode.specs.declared.error.EncodeError.{EncodeError}
 use Rattle.jxlm_encode.specs.declared.error.EncodeError.TheVariants.{InvalidTree, OutOfMemory}
-use Rattle.jxlm_encode.specs.Inner.Listing.{IsNotRead, IsTreeRead, ListsOneTree}
+use Rattle.jxlm_encode.specs.Inner.Listing.{IsNotRead, IsTreeRead}
+use Rattle.jxlm_encode.specs.Listing.{ListsOneTree}
 use Rattle.jxlm_encode.proofs.Accepted.{unless_so}
 use Rattle.jxlm_encode.proofs.Listings.{nodes_counted}
 
-same_listing : (x y : Taken (List (Node Leaf)) PlainState) (r : Result (Taken (List (Node Leaf)) PlainState) ErrorAt) → r ≡ Ok x → r ≡ Ok y → x ≡ y
-same_listing x y r h k = cc
+-- ---- a tree that stands at the start of the bytes, as deep as it is, by whatever decoder
 
-no_listing : (x : Taken (List (Node Leaf)) PlainState) (e : ErrorAt) (r : Result (Taken (List (Node Leaf)) PlainState) ErrorAt) → r ≡ Ok x → r ≡ Err e → ⊥
-no_listing x e r h k = cc
-
-module _ (exact : TreesAreReadExactly plain) (alone : OneTreeStands plain) (bytes : List ℕ) (nodes : List EncodeNode) (own limit : ℕ) (most : own ≤ 32) (fits : All (λ v. v < 2 ^ own) (tree_tokens nodes)) (few : length nodes ≤ limit + 1) (limited : limit ≤ 2 ^ 20)
-    (has : HasBits bytes 0 (tree_bits nodes own 0)) where
-  -- a tree that the nodes list stands, as deep as it is
-  stands : (t : Shape Leaf) (d : ℕ) → levels t ≡ map node_of nodes → depth t ≤ d →
-      TreeStands plain bytes limit d 0 (config_of t (one_cluster (leaves_in nodes) 0)) (0 + length (tree_bits nodes own 0))
-  stands t d listed deep =
-      let count = nodes_counted t nodes listed in
-      trees_stand bytes 0 own 0 limit d t nodes listed most (omega arith) fits (omega (arith, count, few, limited)) (omega (arith, count, few)) deep has
-
+module _ {S : Type 0} (m : Meaning S) (exact : TreesAreReadExactly m) (alone : OneTreeStands m) (bytes : List ℕ) (limit deepest end : ℕ) (ns : List (Node Leaf)) (leaves : S)
+    (stands : (t : Shape Leaf) (d : ℕ) → levels t ≡ ns → depth t ≤ d → TreeStands m bytes limit d 0 (config_of t leaves) end) where
   -- what is read is that tree
-  pub read_is : (config : Config PlainState) (q : ℕ) → ListsOneTree nodes → IsTreeAt plain bytes limit depth_limit 0 config q → IsTreeRead nodes limit config.tree
-  read_is config q one at =
-      let t : Shape Leaf = one.0 in
-      let read : TreeStands plain bytes limit depth_limit 0 config q = (exact bytes limit depth_limit 0 config q).0 at in
+  pub standing_read : (config : Config S) (q : ℕ) (t : Shape Leaf) → levels t ≡ ns → IsTreeAt m bytes limit deepest 0 config q →
+      (levels config.tree ≡ ns) × (node_count config.tree ≤ limit + 1) × (depth config.tree ≤ deepest)
+  standing_read config q t listed at =
+      let read : TreeStands m bytes limit deepest 0 config q = (exact bytes limit deepest 0 config q).0 at in
       let within = read.within in
-      let d : ℕ = max depth_limit (depth t) in
-      let wide : TreeStands plain bytes limit d 0 config q = record {
+      let d : ℕ = max deepest (depth t) in
+      let wide : TreeStands m bytes limit d 0 config q = record {
         decoder = read.decoder;
         decoder_stands = read.decoder_stands;
         first = read.first;
@@ -62,25 +52,51 @@ module _ (exact : TreesAreReadExactly plain) (alone : OneTreeStands plain) (byte
         limit = read.limit;
         within = omega (arith, within);
       } in
-      let same = alone bytes limit d 0 config (config_of t (one_cluster (leaves_in nodes) 0)) q _ wide (stands t d one.1 (omega arith)) in
-      record { listed = ap (λ (c : Config PlainState). levels c.tree) same.0 ∙ one.1; count = read.limit; within = within }
+      let same = alone bytes limit d 0 config (config_of t leaves) q _ wide (stands t d listed (omega arith)) in
+      (ap (λ (c : Config S). levels c.tree) same.0 ∙ listed, read.limit, within)
+
+  same_listing : (x y : Taken (List (Node Leaf)) S) (r : Result (Taken (List (Node Leaf)) S) ErrorAt) → r ≡ Ok x → r ≡ Ok y → x ≡ y
+  same_listing x y r h k = cc
+
+  no_listing : (x : Taken (List (Node Leaf)) S) (e : ErrorAt) (r : Result (Taken (List (Node Leaf)) S) ErrorAt) → r ≡ Ok x → r ≡ Err e → ⊥
+  no_listing x e r h k = cc
 
   -- a tree within the limit of depth is not refused
-  pub not_refused : (e : Error) (q : ℕ) → TreeGives plain bytes limit depth_limit 0 (Err e) q → IsNotMemory (kind_of e) → (t : Shape Leaf) → levels t ≡ map node_of nodes → depth t ≤ depth_limit → ⊥
-  not_refused e q gives other t listed deep =
-      let at : IsTreeAt plain bytes limit depth_limit 0 (config_of t (one_cluster (leaves_in nodes) 0)) (0 + length (tree_bits nodes own 0)) =
-      (exact bytes limit depth_limit 0 (config_of t (one_cluster (leaves_in nodes) 0)) (0 + length (tree_bits nodes own 0))).1 (stands t depth_limit listed deep) in
+  pub standing_accepted : (e : Error) (q : ℕ) → TreeGives m bytes limit deepest 0 (Err e) q → IsNotMemory (kind_of e) → (t : Shape Leaf) → levels t ≡ ns → depth t ≤ deepest → ⊥
+  standing_accepted e q gives other t listed deep =
+      let at : IsTreeAt m bytes limit deepest 0 (config_of t leaves) end = (exact bytes limit deepest 0 (config_of t leaves) end).1 (stands t deepest listed deep) in
       refuted (unless_so (kind_of e) _ other gives) at where
-        refuted : IsErrorAt (listing_at plain bytes limit 0) (kind_of e) q ⊎ IsTooDeep plain bytes limit depth_limit 0 (kind_of e) q →
-            IsTreeAt plain bytes limit depth_limit 0 (config_of t (one_cluster (leaves_in nodes) 0)) (0 + length (tree_bits nodes own 0)) → ⊥
-        refuted (inl error) at = no_listing _ _ (listing_at plain bytes limit 0) at.reads error.refuses
+        refuted : IsErrorAt (listing_at m bytes limit 0) (kind_of e) q ⊎ IsTooDeep m bytes limit deepest 0 (kind_of e) q → IsTreeAt m bytes limit deepest 0 (config_of t leaves) end → ⊥
+        refuted (inl error) at = no_listing _ _ (listing_at m bytes limit 0) at.reads error.refuses
         refuted (inr beyond) at =
             let one = beyond.reads in
             let other = at.reads in
-            let same : levels beyond.config.tree ≡ levels t = ap (λ (x : Taken (List (Node Leaf)) PlainState). x.value) (same_listing _ _ (listing_at plain bytes limit 0) one other) in
+            let same : levels beyond.config.tree ≡ levels t = ap (λ (x : Taken (List (Node Leaf)) S). x.value) (same_listing _ _ (listing_at m bytes limit 0) one other) in
             let is : beyond.config.tree ≡ t = levels-injective beyond.config.tree t same in
             let deeper = beyond.beyond in
             omega (arith, deeper, deep, ap depth is)
+
+-- ---- the tree that nodes list
+
+module _ (exact : TreesAreReadExactly plain) (alone : OneTreeStands plain) (bytes : List ℕ) (nodes : List EncodeNode) (own limit : ℕ) (most : own ≤ 32) (fits : All (λ v. v < 2 ^ own) (tree_tokens nodes)) (few : length nodes ≤ limit + 1) (limited : limit ≤ 2 ^ 20)
+    (has : HasBits bytes 0 (tree_bits nodes own 0)) where
+  -- a tree that the nodes list stands, as deep as it is
+  stands : (t : Shape Leaf) (d : ℕ) → levels t ≡ map node_of nodes → depth t ≤ d →
+      TreeStands plain bytes limit d 0 (config_of t (one_cluster (leaves_in nodes) 0)) (0 + length (tree_bits nodes own 0))
+  stands t d listed deep =
+      let count = nodes_counted t nodes listed in
+      trees_stand bytes 0 own 0 limit d t nodes listed most (omega arith) fits (omega (arith, count, few, limited)) (omega (arith, count, few)) deep has
+
+  -- what is read is that tree
+  pub read_is : (config : Config PlainState) (q : ℕ) → ListsOneTree nodes → IsTreeAt plain bytes limit depth_limit 0 config q → IsTreeRead nodes limit config.tree
+  read_is config q one at =
+      let read = standing_read plain exact alone bytes limit depth_limit (0 + length (tree_bits nodes own 0)) (map node_of nodes) (one_cluster (leaves_in nodes) 0) stands config q one.0 one.1 at in
+      record { listed = read.0; count = read.1; within = read.2 }
+
+  -- a tree within the limit of depth is not refused
+  pub not_refused : (e : Error) (q : ℕ) → TreeGives plain bytes limit depth_limit 0 (Err e) q → IsNotMemory (kind_of e) → (t : Shape Leaf) → levels t ≡ map node_of nodes → depth t ≤ depth_limit → ⊥
+  not_refused =
+      standing_accepted plain exact alone bytes limit depth_limit (0 + length (tree_bits nodes own 0)) (map node_of nodes) (one_cluster (leaves_in nodes) 0) stands
 
 -- ---- the bytes of a tree alone
 

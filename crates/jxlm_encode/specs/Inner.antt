@@ -1,4 +1,3 @@
-pub mod Errors
 pub mod Listing
 pub mod Placing
 pub mod Writing

@@ -16,7 +16,7 @@ ghost use Rattle.jxlm_encode_write.specs.Headers.{transform_of};
 ghost use Rattle.jxlm_encode_write.specs.Nodes.{tree_tokens};
 ghost use Rattle.jxlm_encode.specs.Bytes.{AreBytesOf, AreBytesOf2, AreWritten, AreWritten2};
 ghost use Rattle.jxlm_encode.specs.Encoded.{EncodeFails, IsEncoded, IsEncoded2, IsSmall};
-ghost use Rattle.jxlm_encode.specs.Inner.Listing.{ListsOneTree};
+ghost use Rattle.jxlm_encode.specs.Listing.{ListsOneTree};
 ghost use Rattle.jxlm_encode.specs.Inner.Writing.{ChannelsLie, part_at};
 ghost use Rattle.jxlm_encode.specs.Prepared.{ArePrepared};
 ghost use Rattle.jxlm_encode_transform.specs.Redo.{UndoesNoPalette};

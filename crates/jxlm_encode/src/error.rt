@@ -2,7 +2,7 @@
 
 ghost use Rattle.std.specs.Prelude.{◌≡◌, ◌⊎◌};
 ghost use Rattle.jxlm_bits.specs.ErrorKind.{kind_of};
-ghost use Rattle.jxlm_encode.specs.Inner.Errors.{IsNotMemory};
+ghost use Rattle.jxlm_encode.specs.Errors.{IsNotMemory};
 ghost use Rattle.jxlm_encode.specs.declared.error.EncodeError.TheVariants.{OutOfMemory as Memory};
 
 use jxlm_base::grid::OutOfMemory;
@@ -56,7 +56,7 @@ impl<T: Drop> From<AllocFailed<T>> for EncodeError {
 }
 
 /// The error of a call that has this error where it is not out of memory.
-pub(crate) fn unless_memory(error: Error, other: EncodeError) -> EncodeError
+pub fn unless_memory(error: Error, other: EncodeError) -> EncodeError
     ensures { (result ≡ Memory) ⊎ ((result ≡ other) × IsNotMemory (kind_of error)) }
 {
     match error {

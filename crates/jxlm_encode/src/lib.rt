@@ -2,7 +2,7 @@
 #![tactic(auto)]
 
 pub mod encode;
-mod error;
+pub mod error;
 pub mod laws;
-mod listing;
+pub mod listing;
 mod placing;

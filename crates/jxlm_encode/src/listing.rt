@@ -5,7 +5,8 @@ ghost use Rattle.jxlm_encode_write.specs.Nodes.{tree_tokens};
 ghost use Rattle.jxlm_encode_write.specs.Trees.{gamma_tree_bits, tree_bits};
 ghost use Rattle.jxlm_transform.specs.Channels.{infos};
 ghost use Rattle.jxlm_encode.specs.Encoded.{IsTreeGiven};
-ghost use Rattle.jxlm_encode.specs.Inner.Listing.{IsNotGiven, IsNotRead, IsTreeRead, ListsOneTree, left_after};
+ghost use Rattle.jxlm_encode.specs.Inner.Listing.{IsNotGiven, IsNotRead, IsTreeRead, left_after};
+ghost use Rattle.jxlm_encode.specs.Listing.{ListsOneTree};
 
 use crate::error::{EncodeError, unless_memory};
 use jxlm_bit_writer::writer::BitWriter;
@@ -33,7 +34,7 @@ fn missing_after(node: EncodeNode, missing: usize) -> usize
 }
 
 /// Whether the nodes are those of exactly one tree, level by level.
-fn lists_one_tree(nodes: &[EncodeNode]) -> bool
+pub fn lists_one_tree(nodes: &[EncodeNode]) -> bool
     requires { length nodes.now ≤ 2 ^ 26 }
     ensures { IsTrue result ↔ ListsOneTree nodes.now }
 {

@@ -6,8 +6,10 @@ use Rattle.jxlm_bits.specs.Decoding.{Asked, IsLawful, Meaning}
 use Rattle.jxlm_base.specs.Grid.{Grid}
 use Rattle.jxlm_encode_streams.specs.Streams.{AsksFor}
 use Rattle.jxlm_encode_streams.proofs.ReadStreams.{read_streams_coded}
-use Rattle.jxlm_encode_streams.proofs.ReadTrees.{read_tree_stands}
+use Rattle.jxlm_encode_streams.specs.TreeStreams.{clustered_nodes}
+use Rattle.jxlm_encode_streams.proofs.ReadTrees.{read_tree_stands, zeros_clustered}
 use Rattle.jxlm_header.specs.Opening.{depth_limit, node_limit}
+use Rattle.jxlm_tree.specs.Tree.{levels}
 use Rattle.jxlm_tree.proofs.FlatTrees.{reached_leaf}
 use Rattle.jxlm_samples.specs.Coded.{IsCodedToTheEnd, IsCodedWhole}
 use Rattle.jxlm_samples.specs.Part.{Part, cell_count, cells_of, max_width}
@@ -57,6 +59,7 @@ module _ {S : Type 0} (d : Meaning S) (lawful : IsLawful d) (ts : List Transform
   encoded : IsEncodedFor ts nodes image d w bytes
   encoded =
       let limit = p.given.limit in
+      let listed : levels p.tree ≡ clustered_nodes nodes (d.cluster_map r.leaves) = p.given.listed ∙ sym (ap (clustered_nodes nodes) r.one_cluster ∙ zeros_clustered nodes) in
       record {
         coded = p.coded;
         accepted = p.accepted;
@@ -68,8 +71,8 @@ module _ {S : Type 0} (d : Meaning S) (lawful : IsLawful d) (ts : List Transform
         header_stands = headers_stand bytes 0 ts p.accepted.few p.accepted.written has;
         samples_at = r.samples_at;
         tree_stands =
-            read_tree_stands d lawful bytes (node_limit p.coded.list.channels) depth_limit (0 + length (header_bits ts)) r.tree_end r.samples_at p.tree nodes r.own r.leaves p.given.listed r.own_stands r.tree
-            r.leaves_stand r.one_cluster (omega (arith, limit)) p.given.limit p.given.within;
+            read_tree_stands d lawful bytes (node_limit p.coded.list.channels) depth_limit (0 + length (header_bits ts)) r.tree_end r.samples_at p.tree nodes r.own r.leaves listed r.own_stands r.tree
+            r.leaves_stand (omega (arith, limit)) p.given.limit p.given.within;
         samples = p.samples;
         end = end_for (cell_count p.coded.list.channels);
         codes = codes (cell_count p.coded.list.channels) refl;

@@ -36,7 +36,7 @@ use Rattle.jxlm_samples.proofs.Loops.{fits_in, grid_in, same_count, same_size}
 use Rattle.jxlm_samples.proofs.NextSample.{IsNext, SeesRegions, is_next}
 use Rattle.jxlm_samples.proofs.Places.{each_sees_before, split}
 use Rattle.jxlm_encode_tokens.specs.Inner.Walks.{AreRowTokens, HasRow, IsNextToken}
-use Rattle.jxlm_encode_tokens.specs.Tokens.{IsSampleToken, IsTokenOfCell}
+use Rattle.jxlm_encode_tokens.specs.Inner.Forms.{Form, IsCellToken, IsLeafToken}
 
 -- what holds of all earlier channels holds of those that are given to the state
 all_handed : {X : Type 0} (n : ℕ) (P : X → Type 0) (xs : List X) → All P xs → All P (earlier_for n xs)
@@ -131,13 +131,13 @@ module _ {D : Type 0} (c : PartCoding D) (coding : IsCodingOf c) (i : ℕ) (li :
       predicted = prediction (setting_of c i).weights (take j own) (setting_of c i).width reached.predictor
 
       -- so is its token
-      pub token_is : (w : Width) (flat : FlatTree) (sample : ℤ) (token : ℕ) → flat ≡ tree_of c i → sample ≡ get_or own j (pos 0) →
-          IsNextToken (clamps (part_of c) i) flat w ints (setting_of c i) (take j own) sample token → IsTokenOfCell w (part_of c) all (first + j) token
-      token_is w flat sample token same is h =
-          let here : IsSampleToken w reached predicted sample token = subst (λ f. IsNextToken (clamps (part_of c) i) f w ints (setting_of c i) (take j own) sample token) same h in
-          let of_cell = subst (λ z. IsSampleToken w reached predicted z token) (is ∙ sym cell_is) here in
-          let over = subst (λ z. IsSampleToken w reached z (get_or all (first + j) (pos 0)) token) next.predicted_is of_cell in
-          subst (λ (l : Leaf). IsSampleToken w l (next_prediction (part_of c) (take (first + j) all)) (get_or all (first + j) (pos 0)) token) next.leaf_is over
+      pub token_is : {T : Type 0} (form : Form T) (w : Width) (flat : FlatTree) (sample : ℤ) (token : T) → flat ≡ tree_of c i → sample ≡ get_or own j (pos 0) →
+          IsNextToken form (clamps (part_of c) i) flat w ints (setting_of c i) (take j own) sample token → IsCellToken form w (part_of c) all (first + j) token
+      token_is form w flat sample token same is h =
+          let here : IsLeafToken form w reached predicted sample token = subst (λ f. IsNextToken form (clamps (part_of c) i) f w ints (setting_of c i) (take j own) sample token) same h in
+          let of_cell = subst (λ z. IsLeafToken form w reached predicted z token) (is ∙ sym cell_is) here in
+          let over = subst (λ z. IsLeafToken form w reached z (get_or all (first + j) (pos 0)) token) next.predicted_is of_cell in
+          subst (λ (l : Leaf). IsLeafToken form w l (next_prediction (part_of c) (take (first + j) all)) (get_or all (first + j) (pos 0)) token) next.leaf_is over
 
     -- the cell in column x of row y
     module _ (x y : ℕ) (px : x < reg.width) (qy : y < reg.height) where
@@ -242,8 +242,8 @@ at_row_end c i to_int store y n state is h =
     subst (λ k. StandsAfter c to_int store i k state) (ap (λ m. y * (region_at (regions_of c) i).width + m) is ∙ e) h
 
 -- no token of a row yet
-pub none_yet : {D X : Type 0} (c : PartCoding D) (w : Width) (to_int : X → ℤ) (store : List (Grid X)) (i y : ℕ) (out : List ℕ) → AreRowTokens c w to_int store i y 0 out
-none_yet c w to_int store i y out x less = absurd (omega (arith, less))
+pub none_yet : {D X T : Type 0} (c : PartCoding D) (w : Width) (to_int : X → ℤ) (store : List (Grid X)) (form : Form T) (i y : ℕ) (out : List T) → AreRowTokens c w to_int store form i y 0 out
+none_yet c w to_int store form i y out x d less = absurd (omega (arith, less))
 
 -- what is known of a state is known of the same
 pub stands_so : {X : Type 0} (s : Setting) (samples : List ℤ) (a b : PredictorState X) → b ≡ a → StandsAt a s samples → StandsAt b s samples

@@ -1,7 +1,8 @@
 -- The tokens of samples, as an encoder writes them (ISO/IEC 18181-1, Modular: decoding of samples).
-use Rattle.std.specs.Prelude.{◌≡◌, ℕ, ◌%◌, ◌<◌, ℤ, pos, List, length, take, get_or, FitsSigned}
+use Rattle.std.specs.Prelude.{◌≡◌, ℕ, ◌%◌, ◌<◌, ℤ, pos, List, length, map, take, get_or, FitsSigned}
 use Rattle.std.specs.Int.{Width}
 use Rattle.jxlm_bits.specs.Numbers.{unpack}
+use Rattle.jxlm_bit_writer.specs.declared.token.Token.{Token}
 use Rattle.jxlm_tree.specs.declared.flat.Leaf.{Leaf}
 use Rattle.jxlm_samples.specs.Coded.{next_prediction, sample_of}
 use Rattle.jxlm_samples.specs.Part.{Part, next_leaf}
@@ -28,3 +29,8 @@ IsTokenOfCell w part cells k token =
 pub record AreTokensOf (w : Width) (part : Part) (cells : List ℤ) (tokens : List ℕ) : Type 0 where
   pub count : length tokens ≡ length cells
   pub each : (k : ℕ) → k < length cells → IsTokenOfCell w part cells k (get_or tokens k 0)
+
+-- the same tokens, each with the cluster of its cell's leaf
+pub record AreClusteredTokensOf (w : Width) (part : Part) (cells : List ℤ) (tokens : List Token) : Type 0 where
+  pub values : AreTokensOf w part cells (map (λ t. t.value) tokens)
+  pub clusters : (k : ℕ) (d : Token) → k < length cells → (get_or tokens k d).cluster ≡ (next_leaf part (take k cells)).cluster

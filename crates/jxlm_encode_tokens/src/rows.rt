@@ -11,7 +11,8 @@ ghost use Rattle.jxlm_samples.specs.Lines.{AreAway, region_on};
 ghost use Rattle.jxlm_encode_tokens.specs.Tokens.{MultipliesByOne};
 ghost use Rattle.jxlm_encode_tokens.specs.Inner.Walks.{IsAtToken, IsNextToken, IsTokenLine, IsTokenRow};
 
-use crate::token::sample_token;
+use crate::form::TokenForm;
+use crate::token::kept_token;
 use jxlm_base::region::region_row;
 use jxlm_base::sample::{Sample, Sealed};
 use jxlm_bits::decoder::Decoder;
@@ -33,13 +34,13 @@ pub(crate) struct TokenWalk<S> {
 /// The token of the sample at the walk's cell, which is in a channel that goes by this tree; the walk is at the next
 /// cell afterwards. `rows` are those of the nearest earlier channels.
 #[inline(always)]
-fn next_token<S: Sample, D: Decoder, const EDGE: bool>(
+fn next_token<S: Sample, D: Decoder, T: TokenForm, const EDGE: bool>(
     walk: &mut TokenWalk<S>,
     line: &Line<'_, '_, S, D>,
     flat: &FlatMaTree,
     rows: &[EarlierRow<'_, S>],
     sample: S,
-) -> u32
+) -> T
     requires ready { IsReady walk.old.state line.now.store.now }
     requires inner { EDGE ≡ false → IsInnerCell walk.old.state }
     requires rows { HoldRows walk.old.state line.now.store.now rows.now }
@@ -47,7 +48,7 @@ fn next_token<S: Sample, D: Decoder, const EDGE: bool>(
     requires gives { Gives flat.now line.now.path }
     requires sums { line.now.clamped ≡ true → GoesBySum flat.now }
     ensures token { (s : Setting) (samples : List ℤ) → StandsAt walk.old.state s samples →
-        IsNextToken line.now.clamped flat.now S.width (store_meanings S.to_int line.now.store.now) s samples
+        IsNextToken T.form line.now.clamped flat.now S.width (store_meanings S.to_int line.now.store.now) s samples
         (S.to_int sample) result }
     ensures stands { (s : Setting) (samples : List ℤ) → StandsAt walk.old.state s samples →
         StandsAt walk.new.state s (samples ++ S.to_int sample ∷ []) }
@@ -57,18 +58,18 @@ fn next_token<S: Sample, D: Decoder, const EDGE: bool>(
     let leaf = leaf_of(flat, line.path, line.clamped, &properties, &mut walk.steps);
     let predicted = leaf.predictor.predict(&properties);
     properties.record(sample.to_i32());
-    sample_token(&leaf, sample, predicted)
+    kept_token(&leaf, sample, predicted)
 }
 
 /// The tokens of the cells of a row from column `from` to before column `to`; the walk must be at the first of them, and
 /// is after the last one then. `rows` are those of the nearest earlier channels. Without `EDGE` the cells are two or more
 /// columns and rows away from every edge but the last row.
-fn cell_tokens<S: Sample, D: Decoder, const EDGE: bool>(
+fn cell_tokens<S: Sample, D: Decoder, T: TokenForm, const EDGE: bool>(
     walk: &mut TokenWalk<S>,
     line: &Line<'_, '_, S, D>,
     rows: &[EarlierRow<'_, S>],
     row: &[S],
-    out: &mut [u32],
+    out: &mut [T],
     from: usize,
     to: usize,
 )
@@ -76,25 +77,25 @@ fn cell_tokens<S: Sample, D: Decoder, const EDGE: bool>(
     requires order { from ≤ to }
     requires in_row { to ≤ (region_on line.now).width }
     requires inner { EDGE ≡ false → AreAway from to line.now.y (region_on line.now).width }
-    requires at { IsAtToken line.now S.width S.to_int from out.old walk.old.state }
-    ensures at { IsAtToken line.now S.width S.to_int to out.new walk.new.state }
+    requires at { IsAtToken line.now T.form S.width S.to_int from out.old walk.old.state }
+    ensures at { IsAtToken line.now T.form S.width S.to_int to out.new walk.new.state }
     ensures room { HasSameRoom walk.old.state walk.new.state }
 {
     let flat = &line.coding.flats[line.i].flat;
     for x in from..to {
-        out[x] = next_token::<S, D, EDGE>(walk, line, flat, rows, row[x]);
+        out[x] = next_token::<S, D, T, EDGE>(walk, line, flat, rows, row[x]);
     }
 }
 
 /// The tokens of a row; the walk must be at its first cell, and is after its last one then.
-pub(crate) fn walked_row<S: Sample, D: Decoder>(
+pub(crate) fn walked_row<S: Sample, D: Decoder, T: TokenForm>(
     walk: &mut TokenWalk<S>,
     line: &Line<'_, '_, S, D>,
-    out: &mut [u32],
+    out: &mut [T],
 )
     requires line { IsTokenLine line.now }
-    requires at { IsAtToken line.now S.width S.to_int 0 out.old walk.old.state }
-    ensures at { IsAtToken line.now S.width S.to_int (region_on line.now).width out.new walk.new.state }
+    requires at { IsAtToken line.now T.form S.width S.to_int 0 out.old walk.old.state }
+    ensures at { IsAtToken line.now T.form S.width S.to_int (region_on line.now).width out.new walk.new.state }
     ensures room { HasSameRoom walk.old.state walk.new.state }
 {
     let row = region_row(line.store, line.coding.region(line.i), line.y);
@@ -103,7 +104,7 @@ pub(crate) fn walked_row<S: Sample, D: Decoder>(
     let earlier = EarlierRows::of(&walk.state, line.store, asked);
     let rows = earlier.rows();
     let (from, to) = inner_columns(width, line.y);
-    cell_tokens::<S, D, true>(walk, line, rows, row, out, 0, from);
-    cell_tokens::<S, D, false>(walk, line, rows, row, out, from, to);
-    cell_tokens::<S, D, true>(walk, line, rows, row, out, to, width);
+    cell_tokens::<S, D, T, true>(walk, line, rows, row, out, 0, from);
+    cell_tokens::<S, D, T, false>(walk, line, rows, row, out, from, to);
+    cell_tokens::<S, D, T, true>(walk, line, rows, row, out, to, width);
 }

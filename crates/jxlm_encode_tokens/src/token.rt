@@ -4,7 +4,9 @@ ghost use Rattle.std.specs.Prelude.{◌≡◌, ◌*◌, ◌%◌, ◌^◌, ◌-�
 ghost use Rattle.std.specs.Int.{cast_signed, int_wrap, w32};
 ghost use Rattle.jxlm_samples.specs.Token.{IsTokenOf};
 ghost use Rattle.jxlm_encode_tokens.specs.Tokens.{IsSampleToken, MultipliesByOne};
+ghost use Rattle.jxlm_encode_tokens.specs.Inner.Forms.{IsLeafToken};
 
+use crate::form::TokenForm;
 use jxlm_base::sample::{Sample, Sealed};
 use jxlm_encode_write::tree::pack;
 use jxlm_tree::flat::Leaf;
@@ -60,4 +62,13 @@ pub fn sample_token<S: Sample>(leaf: &Leaf, sample: S, prediction: i32) -> u32
 {
     let rest = residual(sample.to_i32(), leaf.offset, prediction);
     pack(S::from_i32(rest).to_i32())
+}
+
+/// What is kept of the token of a sample at a leaf whose multiplier is 1, over this prediction.
+#[inline(always)]
+pub(crate) fn kept_token<S: Sample, T: TokenForm>(leaf: &Leaf, sample: S, prediction: i32) -> T
+    requires { MultipliesByOne leaf.now }
+    ensures { IsLeafToken T.form S.width leaf.now prediction (S.to_int sample) result }
+{
+    T::new(leaf.cluster, sample_token(leaf, sample, prediction))
 }

@@ -13,7 +13,7 @@ use Rattle.jxlm_weighted.specs.Neighbours.{neighbours}
 use Rattle.jxlm_predictor.specs.Properties.{Surroundings, place_property}
 use Rattle.jxlm_predictor.specs.Sums.{clamp_sum, gradient_sum}
 use Rattle.jxlm_samples.specs.Part.{place_by, property_by}
-use Rattle.jxlm_samples.specs.Inner.Paths.{sum_by}
+use Rattle.jxlm_samples.specs.RowNeighbours.{sum_by}
 
 -- a clamped number is one of 32 bits
 clamped-fit : (z : ℤ) → (neg_ℤ (pos (2 ^ 31)) ≤ℤ clamp_sum z) × (clamp_sum z <ℤ pos (2 ^ 31))

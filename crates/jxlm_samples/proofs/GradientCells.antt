@@ -12,14 +12,14 @@ use Rattle.jxlm_bits.specs.Numbers.{clamped_gradient, unpack}
 use Rattle.jxlm_bits.specs.declared.decoder.DecoderError.{DecoderError}
 use Rattle.jxlm_tree.specs.declared.flat.Leaf.{Leaf}
 use Rattle.jxlm_samples.specs.Coded.{sample_of}
-use Rattle.jxlm_samples.specs.Inner.Paths.{AreGradients, AreLeft, IsPlain, gradient_rule, leaf_by, property_9_in, steps_by, sum_by}
+use Rattle.jxlm_samples.specs.Inner.Paths.{AreGradients, AreLeft, IsPlain, gradient_rule, leaf_by, steps_by}
 use Rattle.jxlm_samples.specs.Inner.Rows.{FailsRow, ReadsCells}
 use Rattle.jxlm_samples.specs.declared.source.Source.{Source}
 use Rattle.jxlm_samples.specs.Rule.{Rule}
 use Rattle.jxlm_samples.specs.declared.gradient.Leaves.{Leaves}
 use Rattle.jxlm_samples.proofs.ClampedSums.{sum-fits}
 use Rattle.jxlm_samples.proofs.RowReads.{cell_fails, cell_more}
-use Rattle.jxlm_samples.specs.RowNeighbours.{gradient_in, north_in, north_west_in, west_in}
+use Rattle.jxlm_samples.specs.RowNeighbours.{gradient_in, north_in, north_west_in, property_9_in, sum_by, west_in}
 
 -- at a leaf that adds nothing more, tokens and predictions are added as samples
 pub plain_sample : (w : Width) (l : Leaf) (token : ℕ) (g : ℤ) → IsPlain l → sample_of w l g token ≡ int_wrap w (unpack token +ℤ g)

@@ -18,8 +18,8 @@ use Rattle.jxlm_predictor.specs.Properties.{Surroundings, gradient_at}
 use Rattle.jxlm_predictor.specs.Sums.{gradient_sum}
 use Rattle.jxlm_weighted.specs.declared.weights.WpHeader.{WpHeader}
 use Rattle.jxlm_predictor.specs.declared.predictor.Predictor.TheVariants as predictor
-use Rattle.jxlm_samples.specs.Inner.Paths.{property_9_in, row_above, sum_by}
-use Rattle.jxlm_samples.specs.RowNeighbours.{gradient_in, north_in, north_west_in, west_in}
+use Rattle.jxlm_samples.specs.Inner.Paths.{row_above}
+use Rattle.jxlm_samples.specs.RowNeighbours.{gradient_in, north_in, north_west_in, property_9_in, sum_by, west_in}
 
 -- the row above, as it is read from a store
 pub row_above_is : {X : Type 0} (f : X → ℤ) (store : List (Grid X)) (r : Region) (y : ℕ) (vs : List X) → 0 < y → y < r.height → length vs ≡ r.width →

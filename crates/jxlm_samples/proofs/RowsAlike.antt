@@ -25,7 +25,7 @@ use Rattle.jxlm_samples.specs.Part.{Part, channel, clamps, max_width, next_chann
 use Rattle.jxlm_samples.specs.Progress.{grids_in}
 use Rattle.jxlm_samples.specs.Reading.{FindsClusters, cost_of, flat, part_of, regions_of, tree_of}
 use Rattle.jxlm_samples.specs.ChannelSettings.{region_at}
-use Rattle.jxlm_samples.specs.Inner.Paths.{AreGradients, AreLeavesOf, gradient_rule, leaf_by, leaf_rule, property_9_in, row_above, steps_by, zero_rule}
+use Rattle.jxlm_samples.specs.Inner.Paths.{AreGradients, AreLeavesOf, gradient_rule, leaf_by, leaf_rule, row_above, steps_by, zero_rule}
 use Rattle.jxlm_samples.specs.Inner.Progress.{preceding_cells}
 use Rattle.jxlm_samples.specs.Inner.Rows.{AreAlike, GradientGives, IsLine, ReadsRow, RowGives, row_rule, rule_on}
 use Rattle.jxlm_samples.specs.Rule.{Rule}
@@ -40,7 +40,7 @@ use Rattle.jxlm_samples.proofs.NextSample.{SeesRegions, leaf_with, place-fit, se
 use Rattle.jxlm_samples.proofs.RowNeighbours.{gradient_is, property_9_seen, samples, sum_seen, zero_is}
 use Rattle.jxlm_samples.proofs.RowReads.{alike_row}
 use Rattle.jxlm_samples.proofs.RowSees.{sees_regions}
-use Rattle.jxlm_samples.specs.RowNeighbours.{gradient_in}
+use Rattle.jxlm_samples.specs.RowNeighbours.{gradient_in, property_9_in}
 use Rattle.jxlm_samples.specs.Lines.{region_on}
 
 module _ {S : Type 0} (d : Meaning S) (w : Width) (part : Part) (bytes : List ℕ) (regions : List Region) (ints : List (Grid ℤ)) (i y : ℕ) (sizes : AreRegionsOf part.channels regions) (li : i < length regions)

@@ -3,20 +3,19 @@
 //! No state of the predictors is needed for them: a row is read from the row above it.
 
 ghost use Rattle.std.specs.Prelude.{◌≡◌, ◌+◌, ◌+ℤ◌, ◌-ℤ◌, ◌<◌, ◌≤◌, true, map, length, if◌then◌else◌};
-ghost use Rattle.std.specs.Int.{int_wrap, w32};
-ghost use Rattle.jxlm_samples.specs.Inner.Paths.{AreGradients, AreLeavesOf, are_of_table, leaf_by, steps_by, sum_by};
+ghost use Rattle.jxlm_samples.specs.Inner.Paths.{AreGradients, AreLeavesOf, are_of_table, leaf_by, steps_by};
 ghost use Rattle.jxlm_samples.specs.Inner.Rows.{GradientGives, IsLine, RowGives};
 ghost use Rattle.jxlm_samples.specs.Reading.{FindsClusters, cost_of, tree_of};
 ghost use Rattle.jxlm_samples.specs.Lines.{region_on};
+ghost use Rattle.jxlm_samples.specs.RowNeighbours.{sum_by};
 
-use crate::above::sample_above;
+use crate::above::{property_9, sample_above};
 use crate::one_gradient::read_one_gradient;
 use crate::rows::{Line, RowError};
 use crate::source::Source;
 use jxlm_base::region::region_row;
 use jxlm_base::sample::{Sample, Sealed};
 use jxlm_bits::decoder::Decoder;
-use jxlm_predictor::clamping::clamped_sum;
 use jxlm_tree::flat::{Leaf, Steps};
 use jxlm_tree::paths::ClusterTable;
 
@@ -27,28 +26,6 @@ pub(crate) enum Leaves<'t> {
     One(Leaf),
     /// Those of a table on property 9, which differ in the cluster alone.
     Table(&'t ClusterTable),
-}
-
-/// West less north west plus north, reduced to 32 bits.
-#[inline(always)]
-fn reduced_sum<S: Sample>(n: S, w: S, nw: S) -> i32
-    ensures { result ≡ int_wrap w32 (S.to_int w -ℤ S.to_int nw +ℤ S.to_int n) }
-{
-    w.to_i32()
-        .wrapping_sub(nw.to_i32())
-        .wrapping_add(n.to_i32())
-}
-
-/// Property 9: west less north west plus north, clamped (`CLAMPED`) or reduced to 32 bits.
-#[inline(always)]
-fn property_9<S: Sample, const CLAMPED: bool>(n: S, w: S, nw: S) -> i32
-    ensures { result ≡ sum_by CLAMPED (S.to_int w -ℤ S.to_int nw +ℤ S.to_int n) }
-{
-    if CLAMPED {
-        clamped_sum(w.to_i32(), nw.to_i32(), n.to_i32())
-    } else {
-        reduced_sum(n, w, nw)
-    }
 }
 
 /// The cluster of a cell with these neighbours, by the table.

@@ -11,10 +11,6 @@ use Rattle.jxlm_encode.specs.Encoded.{IsTreeGiven}
 use Rattle.jxlm_encode.specs.declared.error.EncodeError.{EncodeError}
 use Rattle.jxlm_encode.specs.declared.error.EncodeError.TheVariants.{InvalidTransform, InvalidTree, OutOfMemory}
 
--- the nodes are those of one tree, level by level
-abbrev pub ListsOneTree : List EncodeNode → Type 0
-ListsOneTree nodes = (t : Shape Leaf) × (levels t ≡ map node_of nodes)
-
 -- these nodes are those of n trees, the rows of all side by side
 abbrev pub AreNodesOf : ℕ → List EncodeNode → Type 0
 AreNodesOf zero [] = Unit {0}

@@ -1,6 +1,6 @@
 -- How the rows of a channel are read, and the cells of a row.
-use Rattle.std.specs.Prelude.{◌≡◌, ℕ, zero, suc, ◌+◌, ◌≤◌, ℤ, pos, ◌+ℤ◌, ◌-ℤ◌, FitsSigned, List, [], length, map, Bool, true, false, Contains}
-use Rattle.std.specs.Int.{Width, w32, int_wrap}
+use Rattle.std.specs.Prelude.{◌≡◌, ℕ, zero, suc, ◌+◌, ◌≤◌, ℤ, pos, FitsSigned, List, [], length, map, Bool, true, false, Contains}
+use Rattle.std.specs.Int.{Width, w32}
 use Rattle.jxlm_bits.specs.Decoding.{Meaning}
 use Rattle.jxlm_base.specs.Grid.{Grid, row as grid_row}
 use Rattle.jxlm_tree.specs.ClusterTables.{IsTableOf, table_leaf}
@@ -11,10 +11,9 @@ use Rattle.jxlm_tree.specs.Tree.{Shape}
 use Rattle.jxlm_tree.specs.declared.flat.Leaf.{Leaf}
 use Rattle.jxlm_tree.specs.declared.paths.Path.{Path}
 use Rattle.jxlm_tree.specs.declared.paths.Path.TheVariants as path
-use Rattle.jxlm_predictor.specs.Sums.{clamp_sum}
 use Rattle.jxlm_predictor.specs.declared.predictor.Predictor.TheVariants as predictor
 use Rattle.jxlm_samples.specs.Coded.{sample_of}
-use Rattle.jxlm_samples.specs.RowNeighbours.{gradient_in, north_in, north_west_in, west_in}
+use Rattle.jxlm_samples.specs.RowNeighbours.{gradient_in, north_west_in, property_9_in, west_in}
 use Rattle.jxlm_samples.specs.Rule.{Rule}
 use Rattle.jxlm_samples.specs.declared.gradient.Leaves.{Leaves}
 use Rattle.jxlm_samples.specs.declared.gradient.Leaves.TheVariants.{One, Table}
@@ -75,16 +74,6 @@ pub record AreGradients (clusters : List ℕ) (leaves : Leaves) : Type 0 where
 abbrev pub AreLeavesOf : FlatTree → Leaves → Type 0
 AreLeavesOf t (One l) = IsLeafOf t l × IsPlainGradient l
 AreLeavesOf t (Table c) = IsTableOf t c.now × IsOnGradient c.now
-
--- a sum as property 9 has it, clamped or reduced to 32 bits
-abbrev pub sum_by : Bool → ℤ → ℤ
-sum_by true z = clamp_sum z
-sum_by false z = int_wrap w32 z
-
--- property 9 in column x of a row, from the row above and the row: west less north west plus north, clamped or reduced
--- to 32 bits
-abbrev pub property_9_in : List ℤ → List ℤ → Bool → ℕ → ℤ
-property_9_in above row clamp_sum x = sum_by clamp_sum (west_in above row x -ℤ north_west_in above row x +ℤ north_in above row x)
 
 -- two samples are those to the left of column x of a row, and above that one
 pub record AreLeft {X : Type 0} (to_int : X → ℤ) (above row : List X) (x : ℕ) (w nw : X) : Type 0 where

@@ -4,7 +4,7 @@ use Rattle.std.proofs.lemmas.List.{length-map}
 use Rattle.jxl_coding.specs.Clusters.{count_of}
 use Rattle.jxl_coding_stream_write.specs.Heads.{map_token}
 use Rattle.jxl_coding_stream_write.specs.Tokens.{HasSlot}
-use Rattle.jxl_coding_stream_write.specs.declared.token.Token.{Token}
+use Rattle.jxlm_bit_writer.specs.declared.token.Token.{Token}
 use Rattle.jxl_coding_build.proofs.Maps.{one_used, zero_tokens}
 use Rattle.jxl_coding_build.proofs.streams.map_writer.Goals as goal
 

@@ -2,7 +2,7 @@ use Rattle.std.proofs.Common.{◌∙◌, ◌<◌, ℕ, List, subst, arith}
 use Rattle.std.proofs.lemmas.List.Elements.{All-from_get_or}
 use Rattle.jxl_coding_stream_write.specs.Codes.{codes_of}
 use Rattle.jxl_coding_stream_write.specs.Streams.{IsStream}
-use Rattle.jxl_coding_stream_write.specs.declared.token.Token.{Token}
+use Rattle.jxlm_bit_writer.specs.declared.token.Token.{Token}
 use Rattle.jxl_coding_stream_write.proofs.CodedClusters.{coded_written}
 use Rattle.jxl_coding_stream_write.proofs.head.write_coded_clusters.Goals as goal
 

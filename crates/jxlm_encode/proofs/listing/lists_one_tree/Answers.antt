@@ -4,7 +4,8 @@ use Rattle.std.proofs.lemmas.List.{get_or_default}
 use Rattle.jxlm_encode_write.specs.declared.tree.EncodeNode.{EncodeNode}
 use Rattle.jxlm_encode_write.specs.declared.tree.EncodeNode.TheVariants.{Decision}
 use Rattle.std.proofs.lemmas.Bool.{false≢true}
-use Rattle.jxlm_encode.specs.Inner.Listing.{AreNodesOf, ListsOneTree}
+use Rattle.jxlm_encode.specs.Inner.Listing.{AreNodesOf}
+use Rattle.jxlm_encode.specs.Listing.{ListsOneTree}
 use Rattle.jxlm_encode.proofs.Listings.{counted_off, left_bound, none_counted, too_many}
 use Rattle.jxlm_encode.proofs.listing.lists_one_tree.Goals as goal
 

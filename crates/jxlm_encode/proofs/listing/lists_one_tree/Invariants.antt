@@ -1,6 +1,7 @@
 use Rattle.std.proofs.Common.{◌+◌, ◌≤◌, drop}
 use Rattle.std.specs.Prelude.{◌↔◌}
-use Rattle.jxlm_encode.specs.Inner.Listing.{AreNodesOf, ListsOneTree}
+use Rattle.jxlm_encode.specs.Inner.Listing.{AreNodesOf}
+use Rattle.jxlm_encode.specs.Listing.{ListsOneTree}
 use Rattle.jxlm_encode.proofs.listing.lists_one_tree.Given as goal
 
 abbrev pub invariant-loop-node : goal.invariant-loop-node

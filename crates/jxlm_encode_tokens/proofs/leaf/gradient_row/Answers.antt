@@ -1,7 +1,7 @@
 use Rattle.std.proofs.Common.{rules, map, pos, get_or, arith, refl, sym, ap, ◌∙◌, subst, w32, to_z, of_z, FitsSigned}
 use Rattle.jxlm_bits.specs.Numbers.{clamped_gradient}
 use Rattle.std.proofs.lemmas.Int.{to_z-of_z}
-use Rattle.jxlm_encode_tokens.specs.Tokens.{IsSampleToken}
+use Rattle.jxlm_encode_tokens.specs.Inner.Forms.{IsLeafToken}
 use Rattle.jxlm_samples.specs.RowNeighbours.{gradient_in, west_in}
 use Rattle.jxlm_encode_tokens.proofs.GradientRows.{above_is, gradient_value, next_north_west, next_west}
 use Rattle.jxlm_encode_tokens.proofs.Lists.{mapped_at, written}
@@ -11,6 +11,7 @@ pub loop-x-preserved : goal.loop-x-preserved
 loop-x-preserved g c =
     let to_int = g.S.Sealed.to_int in
     let w = g.S.Sealed.width in
+    let form = g.T.TokenForm.form in
     let A = map to_int c.args.above.now in
     let R = map to_int c.args.row.now in
     let x = c.loop-x.x in
@@ -22,10 +23,10 @@ loop-x-preserved g c =
     let fits : FitsSigned w32 c.to_i32.result = search rules in
     let value = gradient_value A R x (to_int c.sample_above-n.result) (to_int c.loop-x.w) (to_int c.loop-x.nw) c.to_i32.result north c.loop-x.invariant.w_is c.loop-x.invariant.nw_is
     (c.to_i32.ensures.value ∙ gradient) fits in
-    let here = subst (λ z. IsSampleToken w c.args.leaf z (get_or R x (pos 0)) c.sample_token.result) (to_z-of_z w32 c.to_i32.result fits ∙ value)
-    (subst (λ z. IsSampleToken w c.args.leaf (to_z w32 (of_z w32 c.to_i32.result)) z c.sample_token.result) (sym row_is) c.sample_token.ensures) in
+    let here = subst (λ z. IsLeafToken form w c.args.leaf z (get_or R x (pos 0)) c.kept_token.result) (to_z-of_z w32 c.to_i32.result fits ∙ value)
+    (subst (λ z. IsLeafToken form w c.args.leaf (to_z w32 (of_z w32 c.to_i32.result)) z c.kept_token.result) (sym row_is) c.kept_token.ensures) in
     record {
-      tokens = written (λ k t. IsSampleToken w c.args.leaf (gradient_in A R k) (get_or R k (pos 0)) t) c.loop-x.out x c.sample_token.result
+      tokens = written (λ k t. IsLeafToken form w c.args.leaf (gradient_in A R k) (get_or R k (pos 0)) t) c.loop-x.out x c.kept_token.result
           (omega (arith, same, c.requires.long, c.loop-x-test.true)) c.loop-x.invariant.tokens here;
       w_is = next_west A R x (to_int v) row_is;
       nw_is = next_north_west A R x (to_int c.sample_above-nw.result) (to_int v)

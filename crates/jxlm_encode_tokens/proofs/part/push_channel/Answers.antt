@@ -16,13 +16,13 @@ slice_bounds-out-end-2 g c =
     let n = fits_widest c.args.coding.now c.requires.walked.coding c.args.i c.requires.channel c.region-region.result c.region-region.ensures (omega (arith, c.if-region-eq0-2.false)) in
     sym (length-take-le c.region-region.result.width c.args.scratch.now (omega (arith, n, c.requires.room)))
 
-pub push_leaf_rows-requires-clause-leaf : goal.push_leaf_rows-requires-clause-leaf
-push_leaf_rows-requires-clause-leaf g c κs within =
-    c.lone_leaf.ensures (tree_of c.args.coding.now c.args.i)
+pub push_lone_rows-requires-clause-leaves : goal.push_lone_rows-requires-clause-leaves
+push_lone_rows-requires-clause-leaves g c κs within =
+    c.lone_leaves.ensures (tree_of c.args.coding.now c.args.i)
     (lone_at c.args.coding.now c.requires.walked.coding c.args.i c.requires.channel c.index-coding-i.result c.in-Some.alone c.in-Some.is) c.requires.walked.ones
 
-pub push_leaf_rows-requires-clause-long : goal.push_leaf_rows-requires-clause-long
-push_leaf_rows-requires-clause-long g c κs within =
+pub push_lone_rows-requires-clause-long : goal.push_lone_rows-requires-clause-long
+push_lone_rows-requires-clause-long g c κs within =
     let n = fits_widest c.args.coding.now c.requires.walked.coding c.args.i c.requires.channel c.region-region.result c.region-region.ensures (omega (arith, c.if-region-eq0-2.false)) in
     length-take-le c.region-region.result.width c.args.scratch.now (omega (arith, n, c.requires.room)) ∙ ap (λ (r : Region). r.width) c.region-region.ensures
 
@@ -36,7 +36,7 @@ push_walked_rows-requires-clause-stands g c κs within = c.start_channel.ensures
 
 pub returns-then-region-eq0-clause-tokens : goal.returns-then-region-eq0-clause-tokens
 returns-then-region-eq0-clause-tokens g c =
-    no_cells c.args.coding.now g.S.Sealed.width g.S.Sealed.to_int c.args.store.now c.requires.walked.coding c.args.i c.requires.channel c.args.tokens.now.items
+    no_cells c.args.coding.now g.S.Sealed.width g.S.Sealed.to_int c.args.store.now g.T.TokenForm.form c.requires.walked.coding c.args.i c.requires.channel c.args.tokens.now.items
     (elim c.then-region-eq0.branch [
       | then-region-eq0-via-then-region-eq0 w ↦ inl (rw c.region-region.ensures at w.if-region-eq0.true)
       | then-region-eq0-via-else-region-eq0+then-region-eq0-2 w ↦ inr (rw c.region-region.ensures at w.if-region-eq0-2.true)
@@ -51,11 +51,11 @@ returns-then-region-eq0-clause-last g c =
     ])
 
 pub returns-in-Some-clause-roomy : goal.returns-in-Some-clause-roomy
-returns-in-Some-clause-roomy g c = on_ok c.push_leaf_rows.result _ c.requires.roomy
+returns-in-Some-clause-roomy g c = on_ok c.push_lone_rows.result _ c.requires.roomy
 
 pub returns-in-Some-clause-last : goal.returns-in-Some-clause-last
 returns-in-Some-clause-last g c =
-    on_ok c.push_leaf_rows.result _
+    on_ok c.push_lone_rows.result _
     (after_channel c.args.coding.now c.args.i c.args.walk.now.state
     (λ walked. absurd (not_walked c.args.coding.now c.requires.walked.coding c.args.i c.requires.channel c.index-coding-i.result c.in-Some.alone c.in-Some.is walked)))
 

@@ -27,4 +27,4 @@ loop-i-preserved g c = record {
 pub returns : goal.returns
 returns g c =
     let all : c.loop-i.i ≡ length (regions_of c.args.coding.now) = let end = c.loop-i.auto.i-end in let n = as_many_channels c.args.coding.now in omega (arith, end, n, c.loop-i-test.false) in
-    subst (λ n. AreFirstTokens c.args.coding.now g.S.Sealed.width g.S.Sealed.to_int c.args.store.now (cells_before (part_of c.args.coding.now).channels n) c.loop-i.tokens.items) all c.loop-i.invariant.tokens
+    subst (λ n. AreFirstTokens c.args.coding.now g.S.Sealed.width g.S.Sealed.to_int c.args.store.now g.T.TokenForm.form (cells_before (part_of c.args.coding.now).channels n) c.loop-i.tokens.items) all c.loop-i.invariant.tokens

@@ -8,7 +8,7 @@ use Rattle.jxlm_encode_tokens.proofs.part.push_walked_rows.Given as goal
 abbrev pub invariant-loop-y : goal.invariant-loop-y
 invariant-loop-y g l = record {
   long : length l.out ≡ (region_at (regions_of l.coding) l.i).width;
-  tokens : AreFirstTokens l.coding g.S.Sealed.width g.S.Sealed.to_int l.store
+  tokens : AreFirstTokens l.coding g.S.Sealed.width g.S.Sealed.to_int l.store g.T.TokenForm.form
       (cells_before (part_of l.coding).channels l.i + l.y * (region_at (regions_of l.coding) l.i).width) l.tokens.items;
   roomy : HasRoom l.coding l.walk.state;
   stands : StandsAfter l.coding g.S.Sealed.to_int l.store l.i (l.y * (region_at (regions_of l.coding) l.i).width) l.walk.state;

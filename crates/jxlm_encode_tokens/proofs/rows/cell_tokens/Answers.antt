@@ -11,7 +11,8 @@ use Rattle.jxlm_samples.specs.Part.{cells_before}
 use Rattle.jxlm_samples.specs.Reading.{part_of}
 use Rattle.jxlm_samples.proofs.CellLaws.{flat_at, flat_there, sums_at}
 use Rattle.jxlm_encode_tokens.specs.Inner.Walks.{IsAtToken, all_cells}
-use Rattle.jxlm_encode_tokens.specs.Tokens.{IsTokenOfCell, MultipliesByOne}
+use Rattle.jxlm_encode_tokens.specs.Tokens.{MultipliesByOne}
+use Rattle.jxlm_encode_tokens.specs.Inner.Forms.{IsCellToken}
 use Rattle.jxlm_encode_tokens.proofs.Cells.{is_inner, is_ready, own_more, rows_held, same_room_twice, token_is, value_is, within_at}
 use Rattle.jxlm_encode_tokens.proofs.Lists.{written}
 use Rattle.jxlm_encode_tokens.proofs.rows.cell_tokens.Goals as goal
@@ -67,6 +68,7 @@ pub loop-x-preserved : goal.loop-x-preserved
 loop-x-preserved g c =
     let to_int = g.S.Sealed.to_int in
     let w = g.S.Sealed.width in
+    let form = g.T.TokenForm.form in
     let l = c.args.line.now in
     let is = c.requires.line.line in
     let coding = l.coding.now in
@@ -87,13 +89,13 @@ loop-x-preserved g c =
     let j : ℕ = y * wide + x in
     let own : List ℤ = (grid_of (store_meanings to_int store) (region_on l)).cells in
     let next = c.next_token.ensures.token (setting_of coding i) (take j own) at.stands in
-    let here = token_is coding ok i li to_int store j (within_at coding ok i li to_int store x y px qy) w _ (to_int v) c.next_token.result
+    let here = token_is coding ok i li to_int store j (within_at coding ok i li to_int store x y px qy) form w _ (to_int v) c.next_token.result
     (flat_at coding ok i li _) value (rw is.clamped at next) in
     record {
       from = omega (arith, from);
       at = record {
         long = length-set _ _ _ ∙ long;
-        tokens = written (λ k t. IsTokenOfCell w (part_of coding) (all_cells coding w to_int store) (cells_before (part_of coding).channels i + (y * wide + k)) t)
+        tokens = written (λ k t. IsCellToken form w (part_of coding) (all_cells coding w to_int store) (cells_before (part_of coding).channels i + (y * wide + k)) t)
             c.loop-x.out x c.next_token.result (omega (arith, long, px)) at.tokens here;
         stands = subst (StandsAt c.next_token.new.walk.state (setting_of coding i)) (own_more coding ok i li to_int store x y px qy (to_int v) value)
             (c.next_token.ensures.stands (setting_of coding i) (take j own) at.stands);
@@ -104,4 +106,4 @@ loop-x-preserved g c =
 pub returns-clause-at : goal.returns-clause-at
 returns-clause-at g c =
     let all : c.loop-x.x ≡ c.args.to = let end = c.loop-x.auto.x-end in omega (arith, end, c.requires.order, c.loop-x-test.false) in
-    subst (λ n. IsAtToken c.args.line.now g.S.Sealed.width g.S.Sealed.to_int n c.loop-x.out c.loop-x.walk.state) all c.loop-x.invariant.at
+    subst (λ n. IsAtToken c.args.line.now g.T.TokenForm.form g.S.Sealed.width g.S.Sealed.to_int n c.loop-x.out c.loop-x.walk.state) all c.loop-x.invariant.at

@@ -6,6 +6,6 @@ use Rattle.jxlm_encode_tokens.proofs.rows.cell_tokens.Given as goal
 abbrev pub invariant-loop-x : goal.invariant-loop-x
 invariant-loop-x g l = record {
   from : l.from ≤ l.x;
-  at : IsAtToken l.line g.S.Sealed.width g.S.Sealed.to_int l.x l.out l.walk.state;
+  at : IsAtToken l.line g.T.TokenForm.form g.S.Sealed.width g.S.Sealed.to_int l.x l.out l.walk.state;
   room : HasSameRoom l.fn.walk.state l.walk.state;
 }

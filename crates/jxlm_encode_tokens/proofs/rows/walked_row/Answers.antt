@@ -55,7 +55,7 @@ cell_tokens-requires-3-clause-line g c κs within =
 
 pub returns-clause-at : goal.returns-clause-at
 returns-clause-at g c =
-    subst (λ n. IsAtToken c.args.line.now g.S.Sealed.width g.S.Sealed.to_int n c.cell_tokens-3.new.out c.cell_tokens-3.new.walk.state) (rw c.region.ensures at c.region_row-row.ensures.len) c.cell_tokens-3.ensures.at
+    subst (λ n. IsAtToken c.args.line.now g.T.TokenForm.form g.S.Sealed.width g.S.Sealed.to_int n c.cell_tokens-3.new.out c.cell_tokens-3.new.walk.state) (rw c.region.ensures at c.region_row-row.ensures.len) c.cell_tokens-3.ensures.at
 
 pub returns-clause-room : goal.returns-clause-room
 returns-clause-room g c = same_room_twice _ _ _ c.cell_tokens.ensures.room (same_room_twice _ _ _ c.cell_tokens-2.ensures.room c.cell_tokens-3.ensures.room)

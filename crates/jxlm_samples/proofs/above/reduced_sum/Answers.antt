@@ -1,7 +1,7 @@
 use Rattle.std.proofs.Common.{◌≡◌, ◌∙◌, ap, ℤ, ◌+ℤ◌, ◌-ℤ◌, ◌+◌, ◌-◌, ◌%◌, to_z, of_z, FitsSigned, rules, w32}
 use Rattle.std.specs.Int.{int_wrap}
 use Rattle.std.proofs.lemmas.Int.{wraps}
-use Rattle.jxlm_samples.proofs.gradient.reduced_sum.Goals as goal
+use Rattle.jxlm_samples.proofs.above.reduced_sum.Goals as goal
 
 -- the sum that the code computes
 reduced : (a b d : ℤ) → FitsSigned w32 a → FitsSigned w32 b → FitsSigned w32 d →

@@ -1,0 +1,3 @@
+pub mod CodedSamples
+pub mod CodedNodes
+pub mod CodedTrees
