@@ -1,10 +1,11 @@
 -- Spellings of colours and of brightness.
-use Rattle.std.proofs.Common.{◌≡◌, ℕ, List, Bool, true, false, Some, inl, inr, ◌⊎◌, refl, sym, subst}
-use Rattle.std.specs.Prelude.{not, ◌==◌, ◌&&◌, ◌||◌, if◌then◌else◌, codes}
-use Rattle.std.proofs.lemmas.Bool.{and_parts, false≢true}
-use Rattle.jxlm_bits.specs.Grammar.{number, flag}
+use Rattle.std.proofs.Common.{◌≡◌, ℕ, ◌<◌, List, Bool, true, false, Option, Some, None, inl, inr, ◌⊎◌, refl, sym, ap, subst, arith}
+use Rattle.std.specs.Prelude.{not, ◌*◌, ◌==◌, ◌&&◌, ◌||◌, nat_le, if◌then◌else◌, is_some, codes}
+use Rattle.std.proofs.lemmas.Bool.{and_parts, leb-true, false≢true}
+use Rattle.jxlm_bits.specs.Grammar.{number, flag, u32}
+use Rattle.jxlm_bits.specs.declared.bits.U32Spec.TheVariants.{Offset}
 use Rattle.jxlm_bit_writer.specs.Writes.{Spells}
-use Rattle.jxlm_bit_writer.proofs.WriteLaws.{after, becomes}
+use Rattle.jxlm_bit_writer.proofs.WriteLaws.{after, becomes, absent}
 use Rattle.jxl_image_header.specs.Fields.{when, bundle_follows, enum_number, variant}
 use Rattle.jxl_image_header.specs.Colours.{coordinate, chromaticity, custom_primaries, white_point, primaries, transfer_function, space_of, intent_of, is_grey, is_xyb, colour_encoding, tone_mapping}
 use Rattle.jxl_image_header.specs.declared.colour.Chromaticity.{Chromaticity}
@@ -21,36 +22,95 @@ use Rattle.jxl_image_header.specs.declared.colour.RenderingIntent.{RenderingInte
 use Rattle.jxl_image_header.specs.declared.colour.RenderingIntent.TheVariants as intents
 use Rattle.jxl_image_header.specs.declared.colour.ColourEncoding.{ColourEncoding}
 use Rattle.jxl_image_header.specs.declared.colour.ToneMapping.{ToneMapping}
-use Rattle.jxl_image_header_write.specs.Writable.{is_usual_white, is_usual_primaries, is_usual_function, is_usual_intent, is_usual_space, is_unknown_space, is_named_white, is_named_primaries, is_curve, is_colour, is_usual_colour}
-use Rattle.jxl_image_header_write.specs.Inner.Numbers.{IsWhiteNumber, IsPrimariesNumber, IsCurveNumber}
-use Rattle.jxl_image_header_write.proofs.Spellings.{meant_if, variant_if}
+use Rattle.jxl_image_header_write.specs.Writable.{is_chromaticity, is_usual_white, is_usual_primaries, is_usual_function, is_usual_intent, is_usual_space, is_unknown_space, is_white, are_primaries, is_function, is_colour, is_usual_colour}
+use Rattle.jxl_image_header_write.specs.Inner.Numbers.{white_coordinates, primaries_coordinates, exponent_of, IsWhiteNumber, IsPrimariesNumber, IsCurveNumber}
+use Rattle.jxl_image_header_write.proofs.Spellings.{present, meant, meant_if, variant_if}
 
--- no coordinates
-no_chromaticity : (bytes : List ℕ) (q : ℕ) → (chromaticity false).Stands bytes q (record { x = 0; y = 0 }) q
-unfolding chromaticity coordinate
-no_chromaticity bytes q = (0, q, (refl, refl), (0, q, (refl, refl), (refl, refl)))
+-- coordinates
+pub coordinate_present : (t : Bool) (v : ℕ) (a b : List ℕ) → t ≡ true → Spells a b (u32 (Offset 0 19) (Offset 524288 19) (Offset 1048576 20) (Offset 2097152 21)) v → Spells a b (coordinate t) v
+unfolding coordinate
+coordinate_present t v a b e u = present t (u32 (Offset 0 19) (Offset 524288 19) (Offset 1048576 20) (Offset 2097152 21)) 0 v a b e u
 
-no_primaries : (bytes : List ℕ) (q : ℕ) → (custom_primaries false).Stands bytes q (record { red = record { x = 0; y = 0 }; green = record { x = 0; y = 0 }; blue = record { x = 0; y = 0 } }) q
+pub coordinate_absent : (t : Bool) (v : ℕ) (a : List ℕ) → t ≡ false → v ≡ 0 → Spells a a (coordinate t) v
+unfolding coordinate
+coordinate_absent t v a e zero = absent t (u32 (Offset 0 19) (Offset 524288 19) (Offset 1048576 20) (Offset 2097152 21)) 0 v a e zero
+
+pub chromaticity_spelled : (t : Bool) (c : Chromaticity) (b0 b1 b2 : List ℕ) → Spells b0 b1 (coordinate t) c.x → Spells b1 b2 (coordinate t) c.y → Spells b0 b2 (chromaticity t) c
+unfolding chromaticity
+chromaticity_spelled t c b0 b1 b2 u v = becomes (after u v) (λ bytes p q s. (c.x, s.0, s.1, (c.y, q, s.2, (refl, refl))))
+
+pub custom_spelled : (t : Bool) (c : CustomPrimaries) (b0 b1 b2 b3 : List ℕ) → Spells b0 b1 (chromaticity t) c.red → Spells b1 b2 (chromaticity t) c.green → Spells b2 b3 (chromaticity t) c.blue →
+    Spells b0 b3 (custom_primaries t) c
 unfolding custom_primaries
-no_primaries bytes q =
-    let none : Chromaticity = record { x = 0; y = 0 } in
-    let c = no_chromaticity bytes q in
-    (none, q, c, (none, q, c, (none, q, c, (refl, refl))))
+custom_spelled t c b0 b1 b2 b3 u v w = becomes (after u (after v w)) (λ bytes p q s. (c.red, s.0, s.1, (c.green, s.2.0, s.2.1, (c.blue, q, s.2.2, (refl, refl)))))
 
-pub white_spelled : (t : Bool) (white : WhitePoint) (v : ℕ) (a b : List ℕ) → IsWhiteNumber v white → Spells a b (when t enum_number 1) v → Spells a b (white_point t) white
+-- coordinates that are spelled
+pub white_known : (w : WhitePoint) → is_white w ≡ true → is_chromaticity (white_coordinates w) ≡ true
+white_known whites.D65 h = refl
+white_known (whites.Custom c) h = h
+white_known whites.E h = refl
+white_known whites.Dci h = refl
+
+pub primaries_known : (w : Primaries) → are_primaries w ≡ true →
+    (is_chromaticity (primaries_coordinates w).red && is_chromaticity (primaries_coordinates w).green && is_chromaticity (primaries_coordinates w).blue) ≡ true
+primaries_known primary_sets.Srgb h = refl
+primaries_known (primary_sets.Custom c) h = h
+primaries_known primary_sets.Bt2100 h = refl
+primaries_known primary_sets.P3 h = refl
+
+pub white_spelled : (t : Bool) (white : WhitePoint) (v : ℕ) (a b c : List ℕ) → IsWhiteNumber v white → Spells a b (when t enum_number 1) v → Spells b c (chromaticity (v == 2)) (white_coordinates white) →
+    Spells a c (white_point t) white
 unfolding white_point
-white_spelled t white v a b is u =
-    let none : Chromaticity = record { x = 0; y = 0 } in
+white_spelled t white v a b c is u x =
     let w = meant_if t (codes "WhitePoint") (λ n. (n == 1) || (n == 2) || (n == 10) || (n == 11)) v 1 a b is.known u in
-    becomes w (λ bytes p q s. (v, q, s, (none, q, subst (λ (r : Bool). (chromaticity r).Stands bytes q none q) (sym is.named) (no_chromaticity bytes q), (sym (is.meant none), refl))))
+    becomes (after w x) (λ bytes p q s. (v, s.0, s.1, (white_coordinates white, q, s.2, (sym is.meant, refl))))
 
-pub primaries_spelled : (t : Bool) (mixed : Primaries) (v : ℕ) (a b : List ℕ) → IsPrimariesNumber v mixed → Spells a b (when t enum_number 1) v → Spells a b (primaries t) mixed
+pub primaries_spelled : (t : Bool) (mixed : Primaries) (v : ℕ) (a b c : List ℕ) → IsPrimariesNumber v mixed → Spells a b (when t enum_number 1) v →
+    Spells b c (custom_primaries (v == 2)) (primaries_coordinates mixed) → Spells a c (primaries t) mixed
 unfolding primaries
-primaries_spelled t mixed v a b is u =
-    let zero_one : Chromaticity = record { x = 0; y = 0 } in
-    let none : CustomPrimaries = record { red = zero_one; green = zero_one; blue = zero_one } in
+primaries_spelled t mixed v a b c is u x =
     let w = meant_if t (codes "Primaries") (λ n. (n == 1) || (n == 2) || (n == 9) || (n == 11)) v 1 a b is.known u in
-    becomes w (λ bytes p q s. (v, q, s, (none, q, subst (λ (r : Bool). (custom_primaries r).Stands bytes q none q) (sym is.named) (no_primaries bytes q), (sym (is.meant none), refl))))
+    becomes (after w x) (λ bytes p q s. (v, s.0, s.1, (primaries_coordinates mixed, q, s.2, (sym is.meant, refl))))
+
+-- a transfer function by its exponent
+pub exponent_spelled : (g : ℕ) (a b c : List ℕ) → is_function (functions.Gamma g) ≡ true → Spells a b flag true → Spells b c (number 24) g → Spells a c (transfer_function true) (functions.Gamma g)
+unfolding transfer_function
+exponent_spelled g a b c fits f u =
+    let w = meant (codes "gamma") (λ v. nat_le v 10000000 && nat_le 10000000 (8192 * v)) (number 24) g b c fits u in
+    becomes (after f w) (λ bytes p q s. (true, s.0, s.1, (g, q, s.2, (0, q, (refl, refl), (refl, refl)))))
+
+-- an exponent is below 2^24
+pub exponent_small : (g : ℕ) → is_function (functions.Gamma g) ≡ true → g < 16777216
+exponent_small g h = let m = leb-true g 10000000 (and_parts (nat_le g 10000000) (nat_le 10000000 (8192 * g)) h).0 in omega (arith, m)
+
+-- the transfer function of an exponent
+some_is : (g h : ℕ) → Some g ≡ Some h → g ≡ h
+some_is g h e = ap (λ (o : Option ℕ). option_or_zero o) e
+  where
+    option_or_zero : Option ℕ → ℕ
+    option_or_zero (Some n) = n
+    option_or_zero None = 0
+
+none_some : (g : ℕ) → None ≡ Some g → ⊥
+none_some g e = false≢true (ap is_some e)
+
+pub exponent_is : (f : TransferFunction) (g : ℕ) → exponent_of f ≡ Some g → f ≡ functions.Gamma g
+exponent_is (functions.Gamma x) g e = ap (λ (n : ℕ). functions.Gamma n) (some_is x g e)
+exponent_is functions.Bt709 g e = absurd (none_some g e)
+exponent_is functions.Linear g e = absurd (none_some g e)
+exponent_is functions.Srgb g e = absurd (none_some g e)
+exponent_is functions.Pq g e = absurd (none_some g e)
+exponent_is functions.Dci g e = absurd (none_some g e)
+exponent_is functions.Hlg g e = absurd (none_some g e)
+
+-- a transfer function by its exponent is present, since it is not the one by default
+pub exponent_present : (t : Bool) (f : TransferFunction) (g : ℕ) (a b : List ℕ) → exponent_of f ≡ Some g → (t ≡ false → is_usual_function f ≡ true) →
+    Spells a b (transfer_function true) (functions.Gamma g) → Spells a b (transfer_function t) f
+exponent_present true f g a b e usual u = subst (λ (x : TransferFunction). Spells a b (transfer_function true) x) (sym (exponent_is f g e)) u
+exponent_present false f g a b e usual u = absurd (false≢true (subst (λ (x : TransferFunction). is_usual_function x ≡ true) (exponent_is f g e) (usual refl)))
+
+pub exponent_known : (f : TransferFunction) (g : ℕ) → exponent_of f ≡ Some g → is_function f ≡ true → is_function (functions.Gamma g) ≡ true
+exponent_known f g e h = subst (λ (x : TransferFunction). is_function x ≡ true) (exponent_is f g e) h
 
 pub curve_spelled : (t : Bool) (function : TransferFunction) (v : ℕ) (a b c : List ℕ) → IsCurveNumber v function → Spells a b (when t flag false) false → Spells b c (when t enum_number 13) v →
     Spells a c (transfer_function t) function
@@ -124,35 +184,35 @@ tone_spelled t follows x b0 b1 b2 b3 b4 b5 u v w r l =
     becomes (after u (after v (after w (after r l)))) (λ bytes p q k.
     (follows, k.0, k.1, (x.intensity_target, k.2.0, k.2.1, (x.min_nits, k.2.2.0, k.2.2.1, (x.relative_to_max_display, k.2.2.2.0, k.2.2.2.1, (x.linear_below, q, k.2.2.2.2, (refl, refl)))))))
 
-named_white : (w : WhitePoint) → is_usual_white w ≡ true → is_named_white w ≡ true
-named_white whites.D65 h = refl
-named_white (whites.Custom c) h = h
-named_white whites.E h = refl
-named_white whites.Dci h = refl
+usual_white : (w : WhitePoint) → is_usual_white w ≡ true → is_white w ≡ true
+usual_white whites.D65 h = refl
+usual_white (whites.Custom c) h = absurd (false≢true h)
+usual_white whites.E h = refl
+usual_white whites.Dci h = refl
 
-named_primaries : (w : Primaries) → is_usual_primaries w ≡ true → is_named_primaries w ≡ true
-named_primaries primary_sets.Srgb h = refl
-named_primaries (primary_sets.Custom c) h = h
-named_primaries primary_sets.Bt2100 h = refl
-named_primaries primary_sets.P3 h = refl
+usual_mixed : (w : Primaries) → is_usual_primaries w ≡ true → are_primaries w ≡ true
+usual_mixed primary_sets.Srgb h = refl
+usual_mixed (primary_sets.Custom c) h = absurd (false≢true h)
+usual_mixed primary_sets.Bt2100 h = refl
+usual_mixed primary_sets.P3 h = refl
 
-named_curve : (w : TransferFunction) → is_usual_function w ≡ true → is_curve w ≡ true
-named_curve (functions.Gamma g) h = h
-named_curve functions.Bt709 h = refl
-named_curve functions.Linear h = refl
-named_curve functions.Srgb h = refl
-named_curve functions.Pq h = refl
-named_curve functions.Dci h = refl
-named_curve functions.Hlg h = refl
+usual_function : (w : TransferFunction) → is_usual_function w ≡ true → is_function w ≡ true
+usual_function (functions.Gamma g) h = absurd (false≢true h)
+usual_function functions.Bt709 h = refl
+usual_function functions.Linear h = refl
+usual_function functions.Srgb h = refl
+usual_function functions.Pq h = refl
+usual_function functions.Dci h = refl
+usual_function functions.Hlg h = refl
 
--- where a test holds the usual value, else one with a name: so one with a name
-either_named : (t usual named : Bool) → (usual ≡ true → named ≡ true) → (if t then usual else named) ≡ true → named ≡ true
-either_named true usual named f h = f h
-either_named false usual named f h = h
+-- where a test holds the usual value, else a known one: so a known one
+either_known : (t usual known : Bool) → (usual ≡ true → known ≡ true) → (if t then usual else known) ≡ true → known ≡ true
+either_known true usual known f h = f h
+either_known false usual known f h = h
 
-either_usual : (t usual named : Bool) → (if t then usual else named) ≡ true → t ≡ true → usual ≡ true
-either_usual true usual named h e = h
-either_usual false usual named h e = absurd (false≢true e)
+either_usual : (t usual known : Bool) → (if t then usual else known) ≡ true → t ≡ true → usual ≡ true
+either_usual true usual known h e = h
+either_usual false usual known h e = absurd (false≢true e)
 
 -- what is not explicit is usual, as all is usual or a profile tells it, or by its kind
 implicit : (usual profile kind : Bool) → (not usual && not profile && not kind) ≡ false → (usual ≡ true) ⊎ ((profile || kind) ≡ true)
@@ -164,11 +224,11 @@ implicit false false false h = absurd (false≢true (sym h))
 -- what colours that are spelled are
 pub record ColourParts (c : ColourEncoding) : Type 0 where
   pub known : (c.want_icc || not (is_unknown_space c.colour_space)) ≡ true
-  pub white : is_named_white c.white_point ≡ true
+  pub white : is_white c.white_point ≡ true
   pub white_usual : (c.want_icc || is_xyb c.colour_space) ≡ true → is_usual_white c.white_point ≡ true
-  pub mixed : is_named_primaries c.primaries ≡ true
+  pub mixed : are_primaries c.primaries ≡ true
   pub mixed_usual : (c.want_icc || (is_grey c.colour_space || is_xyb c.colour_space)) ≡ true → is_usual_primaries c.primaries ≡ true
-  pub curve : is_curve c.transfer_function ≡ true
+  pub curve : is_function c.transfer_function ≡ true
   pub curve_usual : (c.want_icc || is_xyb c.colour_space) ≡ true → is_usual_function c.transfer_function ≡ true
   pub intent : c.want_icc ≡ true → is_usual_intent c.rendering_intent ≡ true
 
@@ -181,9 +241,9 @@ colour_parts c w =
     let k : Bool = c.want_icc || not (is_unknown_space c.colour_space) in
     let t : Bool = c.want_icc || is_xyb c.colour_space in
     let g : Bool = c.want_icc || (is_grey c.colour_space || is_xyb c.colour_space) in
-    let wh : Bool = if t then is_usual_white c.white_point else is_named_white c.white_point in
-    let mi : Bool = if g then is_usual_primaries c.primaries else is_named_primaries c.primaries in
-    let cu : Bool = if t then is_usual_function c.transfer_function else is_curve c.transfer_function in
+    let wh : Bool = if t then is_usual_white c.white_point else is_white c.white_point in
+    let mi : Bool = if g then is_usual_primaries c.primaries else are_primaries c.primaries in
+    let cu : Bool = if t then is_usual_function c.transfer_function else is_function c.transfer_function in
     let it : Bool = not c.want_icc || is_usual_intent c.rendering_intent in
     let s4 = and_parts (k && wh && mi && cu) (it) w in
     let s3 = and_parts (k && wh && mi) (cu) s4.0 in
@@ -191,12 +251,12 @@ colour_parts c w =
     let s1 = and_parts (k) (wh) s2.0 in
     record {
       known = s1.0;
-      white = either_named t (is_usual_white c.white_point) (is_named_white c.white_point) (named_white c.white_point) s1.1;
-      white_usual = either_usual t (is_usual_white c.white_point) (is_named_white c.white_point) s1.1;
-      mixed = either_named g (is_usual_primaries c.primaries) (is_named_primaries c.primaries) (named_primaries c.primaries) s2.1;
-      mixed_usual = either_usual g (is_usual_primaries c.primaries) (is_named_primaries c.primaries) s2.1;
-      curve = either_named t (is_usual_function c.transfer_function) (is_curve c.transfer_function) (named_curve c.transfer_function) s3.1;
-      curve_usual = either_usual t (is_usual_function c.transfer_function) (is_curve c.transfer_function) s3.1;
+      white = either_known t (is_usual_white c.white_point) (is_white c.white_point) (usual_white c.white_point) s1.1;
+      white_usual = either_usual t (is_usual_white c.white_point) (is_white c.white_point) s1.1;
+      mixed = either_known g (is_usual_primaries c.primaries) (are_primaries c.primaries) (usual_mixed c.primaries) s2.1;
+      mixed_usual = either_usual g (is_usual_primaries c.primaries) (are_primaries c.primaries) s2.1;
+      curve = either_known t (is_usual_function c.transfer_function) (is_function c.transfer_function) (usual_function c.transfer_function) s3.1;
+      curve_usual = either_usual t (is_usual_function c.transfer_function) (is_function c.transfer_function) s3.1;
       intent = untold_intent c.want_icc (is_usual_intent c.rendering_intent) s4.1;
     }
 

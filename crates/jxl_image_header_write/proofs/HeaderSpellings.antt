@@ -2,6 +2,7 @@
 use Rattle.std.proofs.Common.{◌≡◌, ℕ, zero, suc, ◌+◌, ◌-◌, ◌≤◌, List, [], ◌∷◌, length, Bool, true, false, Option, Some, None, refl, sym, ap, ◌∙◌, arith}
 use Rattle.std.specs.Prelude.{not, ◌==◌, ◌&&◌, ◌||◌, nat_le, nat_lt, is_some, codes}
 use Rattle.std.specs.List.{list_all}
+use Rattle.std.specs.Option.{option_map_or}
 use Rattle.std.proofs.lemmas.Bool.{and_parts, eqb-true, leb-true, false≢true}
 use Rattle.std.proofs.lemmas.Bool.Decides.{nat_tests}
 use Rattle.jxlm_bits.specs.Grammar.{number, flag, u32, repeated}
@@ -9,18 +10,17 @@ use Rattle.jxlm_bits.specs.declared.bits.U32Spec.TheVariants.{Const, Offset}
 use Rattle.jxlm_bit_writer.specs.Fields.{is_spelled}
 use Rattle.jxlm_bit_writer.specs.Writes.{Spells, Writes}
 use Rattle.jxlm_bit_writer.proofs.WriteLaws.{after, becomes, spelled_reads}
-use Rattle.jxl_image_header.specs.Fields.{when, bundle_follows, extensions}
+use Rattle.jxl_image_header.specs.Fields.{when, optional, bundle_follows, extensions}
 use Rattle.jxl_image_header.specs.Sizes.{size}
 use Rattle.jxl_image_header.specs.Channels.{bit_depth, extra_channel}
 use Rattle.jxl_image_header.specs.Colours.{colour_encoding, tone_mapping}
 use Rattle.jxl_image_header.specs.Images.{Image, animation, matrices, image_header}
-use Rattle.jxl_image_header.specs.declared.size.Size.{Size}
 use Rattle.jxl_image_header.specs.declared.image.Animation.{Animation}
 use Rattle.jxl_image_header.specs.declared.channel.ExtraChannel.{ExtraChannel}
 use Rattle.jxl_image_header.proofs.HeaderLaws.{exact-image_header}
 use Rattle.jxl_image_header_write.specs.Inner.Channels.{extra_channels}
-use Rattle.jxl_image_header_write.specs.Writable.{is_size, is_depth, is_usual_depth, is_channel, is_colour, is_usual_colour, is_tone, is_usual_tone, has_more, is_told, is_writable}
-use Rattle.jxl_image_header_write.proofs.Spellings.{present, meant, untold}
+use Rattle.jxl_image_header_write.specs.Writable.{is_size, is_animation, is_depth, is_usual_depth, is_channel, is_colour, is_usual_colour, is_tone, is_usual_tone, has_more, is_told, is_writable}
+use Rattle.jxl_image_header_write.proofs.Spellings.{present, meant}
 
 -- the matrices by default
 pub matrices_usual : (xyb : Bool) (a b : List ℕ) → Spells a b flag true → Spells a b (matrices xyb) tt
@@ -58,13 +58,13 @@ pub count_spelled : (n : ℕ) → n ≤ 4096 → is_spelled (Const 0) (Const 1) 
 count_spelled zero most = refl
 count_spelled (suc n) most = some_spelled (suc n) (omega arith) most
 
-abbrev image_by : Image → ℕ → Option Size → Option Size → Option Animation → ℕ → Image
-image_by h turned own preview animation extensions = record {
+abbrev image_by : Image → ℕ → ℕ → Image
+image_by h turned extensions = record {
   size = h.size;
   orientation = turned;
-  intrinsic_size = own;
-  preview = preview;
-  animation = animation;
+  intrinsic_size = h.intrinsic_size;
+  preview = h.preview;
+  animation = h.animation;
   bit_depth = h.bit_depth;
   modular_16bit_buffers = h.modular_16bit_buffers;
   ec_info = h.ec_info;
@@ -76,12 +76,12 @@ image_by h turned own preview animation extensions = record {
 
 -- what a header that is spelled is
 pub record HeaderParts (h : Image) : Type 0 where
-  pub size : is_size h.size ≡ true
+  pub size : is_size false h.size ≡ true
   pub least : 1 ≤ h.orientation
   pub most : h.orientation ≤ 8
-  pub own : h.intrinsic_size ≡ None
-  pub preview : h.preview ≡ None
-  pub animation : h.animation ≡ None
+  pub own : option_map_or (is_size false) h.intrinsic_size true ≡ true
+  pub preview : option_map_or (is_size true) h.preview true ≡ true
+  pub animation : option_map_or is_animation h.animation true ≡ true
   pub depth : is_depth h.bit_depth ≡ true
   pub few : length h.ec_info ≤ 4096
   pub channels : list_all is_channel h.ec_info ≡ true
@@ -89,30 +89,26 @@ pub record HeaderParts (h : Image) : Type 0 where
   pub tone : is_tone h.tone_mapping ≡ true
   pub extensions : h.extensions ≡ 0
 
-not_true : (b : Bool) → not b ≡ true → b ≡ false
-not_true true h = absurd (false≢true h)
-not_true false h = refl
-
 pub header_parts : (h : Image) → is_writable h ≡ true → HeaderParts h
 header_parts h w =
-    let s11 = and_parts (is_size h.size && nat_le 1 h.orientation && nat_le h.orientation 8 && not (is_some h.intrinsic_size) && not (is_some h.preview) && not (is_some h.animation) && is_depth h.bit_depth && nat_le (length h.ec_info) 4096 && list_all is_channel h.ec_info && is_colour h.colour_encoding && is_tone h.tone_mapping) ((h.extensions == 0)) w in
-    let s10 = and_parts (is_size h.size && nat_le 1 h.orientation && nat_le h.orientation 8 && not (is_some h.intrinsic_size) && not (is_some h.preview) && not (is_some h.animation) && is_depth h.bit_depth && nat_le (length h.ec_info) 4096 && list_all is_channel h.ec_info && is_colour h.colour_encoding) (is_tone h.tone_mapping) s11.0 in
-    let s9 = and_parts (is_size h.size && nat_le 1 h.orientation && nat_le h.orientation 8 && not (is_some h.intrinsic_size) && not (is_some h.preview) && not (is_some h.animation) && is_depth h.bit_depth && nat_le (length h.ec_info) 4096 && list_all is_channel h.ec_info) (is_colour h.colour_encoding) s10.0 in
-    let s8 = and_parts (is_size h.size && nat_le 1 h.orientation && nat_le h.orientation 8 && not (is_some h.intrinsic_size) && not (is_some h.preview) && not (is_some h.animation) && is_depth h.bit_depth && nat_le (length h.ec_info) 4096) (list_all is_channel h.ec_info) s9.0 in
-    let s7 = and_parts (is_size h.size && nat_le 1 h.orientation && nat_le h.orientation 8 && not (is_some h.intrinsic_size) && not (is_some h.preview) && not (is_some h.animation) && is_depth h.bit_depth) (nat_le (length h.ec_info) 4096) s8.0 in
-    let s6 = and_parts (is_size h.size && nat_le 1 h.orientation && nat_le h.orientation 8 && not (is_some h.intrinsic_size) && not (is_some h.preview) && not (is_some h.animation)) (is_depth h.bit_depth) s7.0 in
-    let s5 = and_parts (is_size h.size && nat_le 1 h.orientation && nat_le h.orientation 8 && not (is_some h.intrinsic_size) && not (is_some h.preview)) (not (is_some h.animation)) s6.0 in
-    let s4 = and_parts (is_size h.size && nat_le 1 h.orientation && nat_le h.orientation 8 && not (is_some h.intrinsic_size)) (not (is_some h.preview)) s5.0 in
-    let s3 = and_parts (is_size h.size && nat_le 1 h.orientation && nat_le h.orientation 8) (not (is_some h.intrinsic_size)) s4.0 in
-    let s2 = and_parts (is_size h.size && nat_le 1 h.orientation) (nat_le h.orientation 8) s3.0 in
-    let s1 = and_parts (is_size h.size) (nat_le 1 h.orientation) s2.0 in
+    let s11 = and_parts (is_size false h.size && nat_le 1 h.orientation && nat_le h.orientation 8 && option_map_or (is_size false) h.intrinsic_size true && option_map_or (is_size true) h.preview true && option_map_or is_animation h.animation true && is_depth h.bit_depth && nat_le (length h.ec_info) 4096 && list_all is_channel h.ec_info && is_colour h.colour_encoding && is_tone h.tone_mapping) ((h.extensions == 0)) w in
+    let s10 = and_parts (is_size false h.size && nat_le 1 h.orientation && nat_le h.orientation 8 && option_map_or (is_size false) h.intrinsic_size true && option_map_or (is_size true) h.preview true && option_map_or is_animation h.animation true && is_depth h.bit_depth && nat_le (length h.ec_info) 4096 && list_all is_channel h.ec_info && is_colour h.colour_encoding) (is_tone h.tone_mapping) s11.0 in
+    let s9 = and_parts (is_size false h.size && nat_le 1 h.orientation && nat_le h.orientation 8 && option_map_or (is_size false) h.intrinsic_size true && option_map_or (is_size true) h.preview true && option_map_or is_animation h.animation true && is_depth h.bit_depth && nat_le (length h.ec_info) 4096 && list_all is_channel h.ec_info) (is_colour h.colour_encoding) s10.0 in
+    let s8 = and_parts (is_size false h.size && nat_le 1 h.orientation && nat_le h.orientation 8 && option_map_or (is_size false) h.intrinsic_size true && option_map_or (is_size true) h.preview true && option_map_or is_animation h.animation true && is_depth h.bit_depth && nat_le (length h.ec_info) 4096) (list_all is_channel h.ec_info) s9.0 in
+    let s7 = and_parts (is_size false h.size && nat_le 1 h.orientation && nat_le h.orientation 8 && option_map_or (is_size false) h.intrinsic_size true && option_map_or (is_size true) h.preview true && option_map_or is_animation h.animation true && is_depth h.bit_depth) (nat_le (length h.ec_info) 4096) s8.0 in
+    let s6 = and_parts (is_size false h.size && nat_le 1 h.orientation && nat_le h.orientation 8 && option_map_or (is_size false) h.intrinsic_size true && option_map_or (is_size true) h.preview true && option_map_or is_animation h.animation true) (is_depth h.bit_depth) s7.0 in
+    let s5 = and_parts (is_size false h.size && nat_le 1 h.orientation && nat_le h.orientation 8 && option_map_or (is_size false) h.intrinsic_size true && option_map_or (is_size true) h.preview true) (option_map_or is_animation h.animation true) s6.0 in
+    let s4 = and_parts (is_size false h.size && nat_le 1 h.orientation && nat_le h.orientation 8 && option_map_or (is_size false) h.intrinsic_size true) (option_map_or (is_size true) h.preview true) s5.0 in
+    let s3 = and_parts (is_size false h.size && nat_le 1 h.orientation && nat_le h.orientation 8) (option_map_or (is_size false) h.intrinsic_size true) s4.0 in
+    let s2 = and_parts (is_size false h.size && nat_le 1 h.orientation) (nat_le h.orientation 8) s3.0 in
+    let s1 = and_parts (is_size false h.size) (nat_le 1 h.orientation) s2.0 in
     record {
       size = s1.0;
       least = leb-true 1 h.orientation s1.1;
       most = leb-true h.orientation 8 s2.1;
-      own = none_is h.intrinsic_size (not_true (is_some h.intrinsic_size) s3.1);
-      preview = none_is h.preview (not_true (is_some h.preview) s4.1);
-      animation = none_is h.animation (not_true (is_some h.animation) s5.1);
+      own = s3.1;
+      preview = s4.1;
+      animation = s5.1;
       depth = s6.1;
       few = leb-true (length h.ec_info) 4096 s7.1;
       channels = s8.1;
@@ -126,9 +122,9 @@ pub header_spelled : (h : Image) (told more : Bool) (b0 b1 b2 b3 b4 b5 b6 b7 b8 
     Spells b2 b3 (bundle_follows true) told →
     Spells b3 b4 (when told flag false) more →
     Spells b4 b5 (when more (number 3) 0) (h.orientation - 1) →
-    Spells b5 b6 (when more flag false) false →
-    Spells b6 b7 (when more flag false) false →
-    Spells b7 b8 (when more flag false) false →
+    Spells b5 b6 (when more (optional (size false)) None) h.intrinsic_size →
+    Spells b6 b7 (when more (optional (size true)) None) h.preview →
+    Spells b7 b8 (when more (optional animation) None) h.animation →
     Spells b8 b9 (when told bit_depth (record { bits_per_sample = 8; exp_bits = 0 })) h.bit_depth →
     Spells b9 b10 (when told flag true) h.modular_16bit_buffers →
     Spells b10 b11 (when told extra_channels []) h.ec_info →
@@ -140,18 +136,10 @@ pub header_spelled : (h : Image) (told more : Bool) (b0 b1 b2 b3 b4 b5 b6 b7 b8 
 unfolding image_header
 header_spelled h told more b0 b1 b2 b3 b4 b5 b6 b7 b8 b9 b10 b11 b12 b13 b14 b15 b16 parts u0 u1 u2 u3 u4 u5 u6 u7 u8 u9 u10 u11 u12 u13 u14 u15 =
     let sig = meant (codes "signature") (λ v. v == 0x0AFF) (number 16) 0x0AFF b0 b1 refl u0 in
-    let own = untold more (size false) b5 b6 u5 in
-    let preview = untold more (size true) b6 b7 u6 in
-    let animation = untold more animation b7 b8 u7 in
     let last = matrices_usual h.xyb_encoded b15 b16 u15 in
     let turned : h.orientation ≡ h.orientation - 1 + 1 = (let l = parts.least in omega (arith, l)) in
-    let e : h ≡ image_by h (h.orientation - 1 + 1) None None None 0 =
-    ap (λ (n : ℕ). image_by h n h.intrinsic_size h.preview h.animation h.extensions) turned
-    ∙ ap (λ (o : Option Size). image_by h (h.orientation - 1 + 1) o h.preview h.animation h.extensions) parts.own
-    ∙ ap (λ (o : Option Size). image_by h (h.orientation - 1 + 1) None o h.animation h.extensions) parts.preview
-    ∙ ap (λ (o : Option Animation). image_by h (h.orientation - 1 + 1) None None o h.extensions) parts.animation
-    ∙ ap (λ (n : ℕ). image_by h (h.orientation - 1 + 1) None None None n) parts.extensions in
-    spelled_reads image_header h b0 b16 exact-image_header (becomes (after sig (after u1 (after u2 (after u3 (after u4 (after own (after preview (after animation (after u8 (after u9 (after u10 (after u11 (after u12 (after u13 (after u14 last))))))))))))))) (λ bytes p q t. (0x0AFF, t.0, t.1, (h.size, t.2.0, t.2.1, (told, t.2.2.0, t.2.2.1, (more, t.2.2.2.0, t.2.2.2.1, (h.orientation - 1, t.2.2.2.2.0, t.2.2.2.2.1, (None, t.2.2.2.2.2.0, t.2.2.2.2.2.1, (None, t.2.2.2.2.2.2.0, t.2.2.2.2.2.2.1, (None, t.2.2.2.2.2.2.2.0, t.2.2.2.2.2.2.2.1, (h.bit_depth, t.2.2.2.2.2.2.2.2.0, t.2.2.2.2.2.2.2.2.1, (h.modular_16bit_buffers, t.2.2.2.2.2.2.2.2.2.0, t.2.2.2.2.2.2.2.2.2.1, (h.ec_info, t.2.2.2.2.2.2.2.2.2.2.0, t.2.2.2.2.2.2.2.2.2.2.1, (h.xyb_encoded, t.2.2.2.2.2.2.2.2.2.2.2.0, t.2.2.2.2.2.2.2.2.2.2.2.1, (h.colour_encoding, t.2.2.2.2.2.2.2.2.2.2.2.2.0, t.2.2.2.2.2.2.2.2.2.2.2.2.1, (h.tone_mapping, t.2.2.2.2.2.2.2.2.2.2.2.2.2.0, t.2.2.2.2.2.2.2.2.2.2.2.2.2.1, (0, t.2.2.2.2.2.2.2.2.2.2.2.2.2.2.0, t.2.2.2.2.2.2.2.2.2.2.2.2.2.2.1, (tt, q, t.2.2.2.2.2.2.2.2.2.2.2.2.2.2.2, (e, refl)))))))))))))))))))
+    let e : h ≡ image_by h (h.orientation - 1 + 1) 0 = ap (λ (n : ℕ). image_by h n h.extensions) turned ∙ ap (λ (n : ℕ). image_by h (h.orientation - 1 + 1) n) parts.extensions in
+    spelled_reads image_header h b0 b16 exact-image_header (becomes (after sig (after u1 (after u2 (after u3 (after u4 (after u5 (after u6 (after u7 (after u8 (after u9 (after u10 (after u11 (after u12 (after u13 (after u14 last))))))))))))))) (λ bytes p q t. (0x0AFF, t.0, t.1, (h.size, t.2.0, t.2.1, (told, t.2.2.0, t.2.2.1, (more, t.2.2.2.0, t.2.2.2.1, (h.orientation - 1, t.2.2.2.2.0, t.2.2.2.2.1, (h.intrinsic_size, t.2.2.2.2.2.0, t.2.2.2.2.2.1, (h.preview, t.2.2.2.2.2.2.0, t.2.2.2.2.2.2.1, (h.animation, t.2.2.2.2.2.2.2.0, t.2.2.2.2.2.2.2.1, (h.bit_depth, t.2.2.2.2.2.2.2.2.0, t.2.2.2.2.2.2.2.2.1, (h.modular_16bit_buffers, t.2.2.2.2.2.2.2.2.2.0, t.2.2.2.2.2.2.2.2.2.1, (h.ec_info, t.2.2.2.2.2.2.2.2.2.2.0, t.2.2.2.2.2.2.2.2.2.2.1, (h.xyb_encoded, t.2.2.2.2.2.2.2.2.2.2.2.0, t.2.2.2.2.2.2.2.2.2.2.2.1, (h.colour_encoding, t.2.2.2.2.2.2.2.2.2.2.2.2.0, t.2.2.2.2.2.2.2.2.2.2.2.2.1, (h.tone_mapping, t.2.2.2.2.2.2.2.2.2.2.2.2.2.0, t.2.2.2.2.2.2.2.2.2.2.2.2.2.1, (0, t.2.2.2.2.2.2.2.2.2.2.2.2.2.2.0, t.2.2.2.2.2.2.2.2.2.2.2.2.2.2.1, (tt, q, t.2.2.2.2.2.2.2.2.2.2.2.2.2.2.2, (e, refl)))))))))))))))))))
 
 or_parts : (a b : Bool) → (a || b) ≡ false → (a ≡ false) × (b ≡ false)
 or_parts true b h = absurd (false≢true (sym h))
@@ -191,7 +179,31 @@ untold_parts h w =
     }
 
 -- what a header is that says nothing of how it is shown
-pub no_more : (h : Image) → has_more h ≡ false → (h.orientation ≡ 1) × (is_usual_tone h.tone_mapping ≡ true)
+pub record NoMore (h : Image) : Type 0 where
+  pub turned : h.orientation ≡ 1
+  pub own : h.intrinsic_size ≡ None
+  pub preview : h.preview ≡ None
+  pub animation : h.animation ≡ None
+  pub tone : is_usual_tone h.tone_mapping ≡ true
+
+pub no_more : (h : Image) → has_more h ≡ false → NoMore h
 no_more h w =
-    let s = or_parts (not (h.orientation == 1)) (not (is_usual_tone h.tone_mapping)) w in
-    (eqb-true h.orientation 1 (not_false (h.orientation == 1) s.0), not_false (is_usual_tone h.tone_mapping) s.1)
+    let s4 = or_parts (not (h.orientation == 1) || is_some h.intrinsic_size || is_some h.preview || is_some h.animation) (not (is_usual_tone h.tone_mapping)) w in
+    let s3 = or_parts (not (h.orientation == 1) || is_some h.intrinsic_size || is_some h.preview) (is_some h.animation) s4.0 in
+    let s2 = or_parts (not (h.orientation == 1) || is_some h.intrinsic_size) (is_some h.preview) s3.0 in
+    let s1 = or_parts (not (h.orientation == 1)) (is_some h.intrinsic_size) s2.0 in
+    record {
+      turned = eqb-true h.orientation 1 (not_false (h.orientation == 1) s1.0);
+      own = none_is h.intrinsic_size s1.1;
+      preview = none_is h.preview s2.1;
+      animation = none_is h.animation s3.1;
+      tone = not_false (is_usual_tone h.tone_mapping) s4.1;
+    }
+
+-- an animation
+pub animation_spelled : (x : Animation) (b0 b1 b2 b3 b4 : List ℕ) → Spells b0 b1 (u32 (Const 100) (Const 1000) (Offset 1 10) (Offset 1 30)) x.tps_numerator →
+    Spells b1 b2 (u32 (Const 1) (Const 1001) (Offset 1 8) (Offset 1 10)) x.tps_denominator → Spells b2 b3 (u32 (Const 0) (Offset 0 3) (Offset 0 16) (Offset 0 32)) x.num_loops →
+    Spells b3 b4 flag x.have_timecodes → Spells b0 b4 animation x
+unfolding animation
+animation_spelled x b0 b1 b2 b3 b4 u v w t =
+    becomes (after u (after v (after w t))) (λ bytes p q k. (x.tps_numerator, k.0, k.1, (x.tps_denominator, k.2.0, k.2.1, (x.num_loops, k.2.2.0, k.2.2.1, (x.have_timecodes, q, k.2.2.2, (refl, refl))))))

@@ -2,3 +2,4 @@ pub mod Spellings
 pub mod ChannelSpellings
 pub mod ColourSpellings
 pub mod HeaderSpellings
+pub mod SizeSpellings

@@ -1,14 +1,13 @@
 -- Spellings of fields that are absent, of enumerations, names, extensions and sizes.
-use Rattle.std.proofs.Common.{◌≡◌, ℕ, List, [], Bool, true, false, Option, Some, None, refl, sym, subst}
-use Rattle.std.specs.Prelude.{not, MatchBool, count_ones}
+use Rattle.std.proofs.Common.{◌≡◌, ℕ, List, [], Bool, true, false, Option, Some, None, refl, sym, ap, ◌∙◌, subst}
+use Rattle.std.specs.Prelude.{not, is_some, MatchBool, count_ones}
+use Rattle.std.proofs.lemmas.Bool.{false≢true}
 use Rattle.jxlm_bits.specs.ErrorKind.{BadEnum}
 use Rattle.jxlm_bits.specs.Grammar.{Grammar, number, flag, u32, give, ◌>>=◌}
 use Rattle.jxlm_bits.specs.declared.bits.U32Spec.TheVariants.{Const, Offset}
 use Rattle.jxlm_bit_writer.specs.Writes.{Spells}
 use Rattle.jxlm_bit_writer.proofs.WriteLaws.{after, becomes, chose_first, absent}
 use Rattle.jxl_image_header.specs.Fields.{long, when, optional, bundle_follows, enum_number, value_or, variant, number_where, extensions, name}
-use Rattle.jxl_image_header.specs.Sizes.{side, size}
-use Rattle.jxl_image_header.specs.declared.size.Size.{Size}
 
 -- a field that is present
 pub present : {X : Type 0} (t : Bool) (f : Grammar X) (usual x : X) (a b : List ℕ) → t ≡ true → Spells a b f x → Spells a b (when t f usual) x
@@ -40,6 +39,19 @@ pub untold : {X : Type 0} (t : Bool) (field : Grammar X) (a b : List ℕ) → Sp
 untold true field a b u = becomes u (λ bytes p q s. (false, q, s, (refl, refl)))
 untold false field a b u = becomes u (λ bytes p q s. (refl, s.1))
 
+-- what may be told, where it is there and where it is not
+pub option_told : {X : Type 0} (t : Bool) (field : Grammar X) (o : Option X) (x : X) (v : Bool) (a b c : List ℕ) → o ≡ Some x → v ≡ is_some o → (t ≡ false → o ≡ None) →
+    Spells a b (when t flag false) v → Spells b c field x → Spells a c (when t (optional field) None) o
+option_told {X} true field o x v a b c e f usual u w =
+    let s : Spells a b flag true = subst (λ (r : Bool). Spells a b flag r) (f ∙ ap is_some e) u in
+    subst (λ (p : Option X). Spells a c (when true (optional field) None) p) (sym e) (becomes (after s w) (λ bytes p q k. (true, k.0, k.1, (x, q, k.2, (refl, refl)))))
+option_told false field o x v a b c e f usual u w = absurd (false≢true (ap is_some (sym (usual refl) ∙ e)))
+
+pub option_untold : {X : Type 0} (t : Bool) (field : Grammar X) (o : Option X) (v : Bool) (a b : List ℕ) → o ≡ None → v ≡ is_some o → Spells a b (when t flag false) v →
+    Spells a b (when t (optional field) None) o
+option_untold {X} t field o v a b e f u =
+    subst (λ (p : Option X). Spells a b (when t (optional field) None) p) (sym e) (untold t field a b (subst (λ (r : Bool). Spells a b (when t flag false) r) (f ∙ ap is_some e) u))
+
 -- no extensions
 pub extensions_none : (t : Bool) (a b c : List ℕ) → t ≡ true → Spells a b (number 2) 0 → Spells b c (number 0) 0 → Spells a c (when t extensions 0) 0
 unfolding extensions long lib.Count.ones
@@ -50,13 +62,6 @@ extensions_none t a b c e u v = present t extensions 0 0 a c e
 pub name_none : (a b c : List ℕ) → Spells a b (u32 (Const 0) (Offset 0 4) (Offset 16 5) (Offset 48 10)) 0 → Spells b c (number 0) 0 → Spells a c name 0
 unfolding name
 name_none a b c u v = becomes (after u v) (λ bytes p q s. (0, s.0, s.1, (tt, q, (0, q, s.2, (refl, refl)), (refl, refl))))
-
--- a size, each side by itself
-pub size_spelled : (s : Size) (a b c d e : List ℕ) → Spells a b flag false → Spells b c (u32 (Offset 1 9) (Offset 1 13) (Offset 1 18) (Offset 1 30)) s.height → Spells c d (number 3) 0 →
-    Spells d e (u32 (Offset 1 9) (Offset 1 13) (Offset 1 18) (Offset 1 30)) s.width → Spells a e (size false) s
-unfolding size side
-size_spelled s a b c d e u v w x =
-    becomes (after u (after v (after w x))) (λ bytes p q k. (false, k.0, k.1, (s.height, k.2.0, k.2.1, (0, k.2.2.0, k.2.2.1, (s.width, q, k.2.2.2, (refl, refl))))))
 
 -- a number of an enumeration that has a meaning, if it is present
 pub meant_if : (t : Bool) (text : List ℕ) (holds : ℕ → Bool) (v usual : ℕ) (a b : List ℕ) → holds v ≡ true → Spells a b (when t enum_number usual) v →

@@ -1,15 +1,12 @@
-//! Fields that may be absent, enumerations and sizes, written.
+//! Fields that may be absent and enumerations, written.
 
 ghost use Rattle.std.specs.Prelude.{◌≡◌, ◌≤◌, ◌<◌, ◌^◌, true, false, IfOk};
-ghost use Rattle.jxlm_bits.specs.Grammar.{flag as the_flag, number, u32};
+ghost use Rattle.jxlm_bits.specs.Grammar.{flag as the_flag, number};
 ghost use Rattle.jxlm_bits.specs.declared.bits.U32Spec.TheVariants.{Const, Offset};
 ghost use Rattle.jxlm_bit_writer.specs.Fields.{is_spelled};
 ghost use Rattle.jxlm_bit_writer.specs.Writes.{Spells};
 ghost use Rattle.jxl_image_header.specs.Fields.{when, bundle_follows, enum_number, extensions, name};
-ghost use Rattle.jxl_image_header.specs.Sizes.{size as the_size};
-ghost use Rattle.jxl_image_header_write.specs.Writable.{is_size};
 
-use jxl_image_header::size::Size;
 use jxlm_bit_writer::spelled::{write_flag, write_number, write_u32};
 use jxlm_bit_writer::writer::BitWriter;
 use jxlm_bits::bits::U32Spec;
@@ -115,31 +112,4 @@ pub fn write_no_name(bits: &mut BitWriter) -> Result<(), AllocError>
     )?;
     write_number(bits, 0, 0)?;
     Ok(())
-}
-
-/// Adds the size of a picture, each side by itself.
-pub fn write_size(bits: &mut BitWriter, size: Size) -> Result<(), AllocError>
-    requires { is_size size ≡ true }
-    ensures { IfOk result (λ _. Spells bits.old bits.new (the_size false) size) }
-{
-    write_flag(bits, false)?;
-    write_side(bits, size.height)?;
-    write_number(bits, 0, 3)?;
-    write_side(bits, size.width)?;
-    Ok(())
-}
-
-fn write_side(bits: &mut BitWriter, side: u32) -> Result<(), AllocError>
-    requires { is_spelled (Offset 1 9) (Offset 1 13) (Offset 1 18) (Offset 1 30) side ≡ true }
-    ensures { IfOk result (λ _. Spells bits.old bits.new
-        (u32 (Offset 1 9) (Offset 1 13) (Offset 1 18) (Offset 1 30)) side) }
-{
-    write_u32(
-        bits,
-        side,
-        U32Spec::Offset(1, 9),
-        U32Spec::Offset(1, 13),
-        U32Spec::Offset(1, 18),
-        U32Spec::Offset(1, 30),
-    )
 }

@@ -1,40 +1,25 @@
 //! Which headers the writer spells.
 
-ghost use Rattle.std.specs.Prelude.{◌≡◌, if◌then◌else◌};
+ghost use Rattle.std.specs.Prelude.{◌≡◌, true, if◌then◌else◌};
 ghost use Rattle.std.specs.List.{list_all};
+ghost use Rattle.std.specs.Option.{option_map_or};
 ghost use Rattle.jxlm_bits.specs.declared.bits.U32Spec.TheVariants.{Const, Offset};
 ghost use Rattle.jxlm_bit_writer.specs.Fields.{is_spelled as is_spelled_by};
 ghost use Rattle.jxl_image_header.specs.Channels.{fits_float as the_fits_float};
 ghost use Rattle.jxl_image_header.specs.Images.{image_of};
-ghost use Rattle.jxl_image_header_write.specs.Writable.{is_side as the_is_side, is_size as the_is_size, is_depth as the_is_depth, is_channel as the_is_channel, is_named_white as named_white, is_usual_white as usual_white, is_named_primaries as named_primaries, is_usual_primaries as usual_primaries, is_curve as the_is_curve, is_usual_function as usual_function, is_usual_intent as usual_intent, is_unknown_space as unknown_space, is_colour as the_is_colour, is_tone as the_is_tone, is_writable as the_is_writable};
+ghost use Rattle.jxl_image_header_write.specs.Writable.{is_size as the_is_size, is_animation as the_is_animation, is_coordinate as the_is_coordinate, is_chromaticity as the_is_chromaticity, is_depth as the_is_depth, is_channel as the_is_channel, is_white as known_white, is_usual_white as usual_white, are_primaries as known_primaries, is_usual_primaries as usual_primaries, is_function as known_function, is_usual_function as usual_function, is_usual_intent as usual_intent, is_unknown_space as unknown_space, is_colour as the_is_colour, is_tone as the_is_tone, is_writable as the_is_writable};
 
+use crate::animation::is_animation;
+use crate::size::is_size;
 use jxl_image_header::channel::{BitDepth, ExtraChannel, ExtraChannelKind};
 use jxl_image_header::colour::{
-    ColourEncoding, ColourSpace, Primaries, RenderingIntent, ToneMapping, TransferFunction,
-    WhitePoint,
+    Chromaticity, ColourEncoding, ColourSpace, Primaries, RenderingIntent, ToneMapping,
+    TransferFunction, WhitePoint,
 };
-use jxl_image_header::image::ImageHeader;
+use jxl_image_header::image::{Animation, ImageHeader};
 use jxl_image_header::size::Size;
 use jxlm_bit_writer::spelled::is_spelled;
 use jxlm_bits::bits::U32Spec;
-
-fn is_side(side: u32) -> bool
-    ensures { result ≡ the_is_side side }
-{
-    is_spelled(
-        U32Spec::Offset(1, 9),
-        U32Spec::Offset(1, 13),
-        U32Spec::Offset(1, 18),
-        U32Spec::Offset(1, 30),
-        side,
-    )
-}
-
-fn is_size(size: Size) -> bool
-    ensures { result ≡ the_is_size size }
-{
-    is_side(size.height) && is_side(size.width)
-}
 
 fn fits_float(bits: u32, exponent: u32) -> bool
     ensures { result ≡ the_fits_float bits exponent }
@@ -102,10 +87,33 @@ fn are_channels(channels: &[ExtraChannel]) -> bool
     true
 }
 
-fn is_named_white(white: WhitePoint) -> bool
-    ensures { result ≡ named_white white }
+fn is_coordinate(value: u32) -> bool
+    ensures { result ≡ the_is_coordinate value }
 {
-    !matches!(white, WhitePoint::Custom(_))
+    is_spelled(
+        U32Spec::Offset(0, 19),
+        U32Spec::Offset(524288, 19),
+        U32Spec::Offset(1048576, 20),
+        U32Spec::Offset(2097152, 21),
+        value,
+    )
+}
+
+fn is_chromaticity(point: Chromaticity) -> bool
+    ensures { result ≡ the_is_chromaticity point }
+{
+    is_coordinate(point.x) && is_coordinate(point.y)
+}
+
+fn is_known_white(white: WhitePoint) -> bool
+    ensures { result ≡ known_white white }
+{
+    match white {
+        WhitePoint::D65 => true,
+        WhitePoint::Custom(point) => is_chromaticity(point),
+        WhitePoint::E => true,
+        WhitePoint::Dci => true,
+    }
 }
 
 fn is_usual_white(white: WhitePoint) -> bool
@@ -114,10 +122,19 @@ fn is_usual_white(white: WhitePoint) -> bool
     matches!(white, WhitePoint::D65)
 }
 
-fn is_named_primaries(primaries: Primaries) -> bool
-    ensures { result ≡ named_primaries primaries }
+fn are_known_primaries(primaries: Primaries) -> bool
+    ensures { result ≡ known_primaries primaries }
 {
-    !matches!(primaries, Primaries::Custom(_))
+    match primaries {
+        Primaries::Srgb => true,
+        Primaries::Custom(mixed) => {
+            is_chromaticity(mixed.red)
+                && is_chromaticity(mixed.green)
+                && is_chromaticity(mixed.blue)
+        }
+        Primaries::Bt2100 => true,
+        Primaries::P3 => true,
+    }
 }
 
 fn is_usual_primaries(primaries: Primaries) -> bool
@@ -126,10 +143,20 @@ fn is_usual_primaries(primaries: Primaries) -> bool
     matches!(primaries, Primaries::Srgb)
 }
 
-fn is_curve(function: TransferFunction) -> bool
-    ensures { result ≡ the_is_curve function }
+fn is_known_function(function: TransferFunction) -> bool
+    ensures { result ≡ known_function function }
 {
-    !matches!(function, TransferFunction::Gamma(_))
+    match function {
+        TransferFunction::Gamma(exponent) => {
+            exponent <= 10_000_000 && 10_000_000 <= 8192 * u64::from(exponent)
+        }
+        TransferFunction::Bt709 => true,
+        TransferFunction::Linear => true,
+        TransferFunction::Srgb => true,
+        TransferFunction::Pq => true,
+        TransferFunction::Dci => true,
+        TransferFunction::Hlg => true,
+    }
 }
 
 fn is_usual_function(function: TransferFunction) -> bool
@@ -151,32 +178,32 @@ fn is_unknown_space(space: ColourSpace) -> bool
 }
 
 fn is_white(implicit: bool, white: WhitePoint) -> bool
-    ensures { result ≡ (if implicit then usual_white white else named_white white) }
+    ensures { result ≡ (if implicit then usual_white white else known_white white) }
 {
     if implicit {
         is_usual_white(white)
     } else {
-        is_named_white(white)
+        is_known_white(white)
     }
 }
 
 fn are_primaries(implicit: bool, primaries: Primaries) -> bool
-    ensures { result ≡ (if implicit then usual_primaries primaries else named_primaries primaries) }
+    ensures { result ≡ (if implicit then usual_primaries primaries else known_primaries primaries) }
 {
     if implicit {
         is_usual_primaries(primaries)
     } else {
-        is_named_primaries(primaries)
+        are_known_primaries(primaries)
     }
 }
 
 fn is_function(implicit: bool, function: TransferFunction) -> bool
-    ensures { result ≡ (if implicit then usual_function function else the_is_curve function) }
+    ensures { result ≡ (if implicit then usual_function function else known_function function) }
 {
     if implicit {
         is_usual_function(function)
     } else {
-        is_curve(function)
+        is_known_function(function)
     }
 }
 
@@ -193,6 +220,24 @@ fn is_colour(colour: ColourEncoding) -> bool
         && (!profile || is_usual_intent(colour.rendering_intent))
 }
 
+fn is_size_if(preview: bool, size: Option<Size>) -> bool
+    ensures { result ≡ option_map_or (the_is_size preview) size true }
+{
+    match size {
+        Some(size) => is_size(preview, size),
+        None => true,
+    }
+}
+
+fn is_animation_if(animation: Option<Animation>) -> bool
+    ensures { result ≡ option_map_or the_is_animation animation true }
+{
+    match animation {
+        Some(animation) => is_animation(animation),
+        None => true,
+    }
+}
+
 fn is_tone(tone: ToneMapping) -> bool
     ensures { result ≡ the_is_tone tone }
 {
@@ -203,12 +248,12 @@ fn is_tone(tone: ToneMapping) -> bool
 pub fn is_writable(header: &ImageHeader) -> bool
     ensures { result ≡ the_is_writable (image_of header.now) }
 {
-    is_size(header.size)
+    is_size(false, header.size)
         && 1 <= header.orientation
         && header.orientation <= 8
-        && !header.intrinsic_size.is_some()
-        && !header.preview.is_some()
-        && !header.animation.is_some()
+        && is_size_if(false, header.intrinsic_size)
+        && is_size_if(true, header.preview)
+        && is_animation_if(header.animation)
         && is_depth(header.bit_depth)
         && header.ec_info.len() <= 4096
         && are_channels(&header.ec_info)

@@ -9,4 +9,5 @@ write_enum_if-requires-clause-usual c = λ e. c.primaries_number-number.ensures.
 
 pub returns : goal.returns
 returns c =
-    primaries_spelled c.args.present c.args.mixed c.primaries_number-number.result c.args.bits.now c.write_enum_if.new.bits c.primaries_number-number.ensures c.in_ok-write_enum_if.ensures
+    primaries_spelled c.args.present c.args.mixed c.primaries_number-number.result c.args.bits.now c.write_enum_if.new.bits c.write_custom_if.new.bits c.primaries_number-number.ensures c.in_ok-write_enum_if.ensures
+    (rw c.primaries_coordinates-custom.ensures at c.in_ok-write_custom_if.ensures)

@@ -20,7 +20,25 @@ pub write_number_if-requires-clause-fits : goal.write_number_if-requires-clause-
 write_number_if-requires-clause-fits c = let m = (header_parts (image_of c.args.header.now) c.requires).most in omega (arith, m)
 
 pub write_number_if-requires-clause-usual : goal.write_number_if-requires-clause-usual
-write_number_if-requires-clause-usual c = λ e. ap (λ n. n - 1) (no_more (image_of c.args.header.now) (sym c.has_more-more.ensures ∙ e)).0
+write_number_if-requires-clause-usual c = λ e. ap (λ n. n - 1) (no_more (image_of c.args.header.now) (sym c.has_more-more.ensures ∙ e)).turned
+
+pub write_size_if-requires-clause-spelled : goal.write_size_if-requires-clause-spelled
+write_size_if-requires-clause-spelled c = (header_parts (image_of c.args.header.now) c.requires).own
+
+pub write_size_if-requires-clause-usual : goal.write_size_if-requires-clause-usual
+write_size_if-requires-clause-usual c = λ e. (no_more (image_of c.args.header.now) (sym c.has_more-more.ensures ∙ e)).own
+
+pub write_size_if-requires-2-clause-spelled : goal.write_size_if-requires-2-clause-spelled
+write_size_if-requires-2-clause-spelled c = (header_parts (image_of c.args.header.now) c.requires).preview
+
+pub write_size_if-requires-2-clause-usual : goal.write_size_if-requires-2-clause-usual
+write_size_if-requires-2-clause-usual c = λ e. (no_more (image_of c.args.header.now) (sym c.has_more-more.ensures ∙ e)).preview
+
+pub write_animation_if-requires-clause-spelled : goal.write_animation_if-requires-clause-spelled
+write_animation_if-requires-clause-spelled c = (header_parts (image_of c.args.header.now) c.requires).animation
+
+pub write_animation_if-requires-clause-usual : goal.write_animation_if-requires-clause-usual
+write_animation_if-requires-clause-usual c = λ e. (no_more (image_of c.args.header.now) (sym c.has_more-more.ensures ∙ e)).animation
 
 pub write_depth_if-requires-clause-spelled : goal.write_depth_if-requires-clause-spelled
 write_depth_if-requires-clause-spelled c = (header_parts (image_of c.args.header.now) c.requires).depth
@@ -28,8 +46,8 @@ write_depth_if-requires-clause-spelled c = (header_parts (image_of c.args.header
 pub write_depth_if-requires-clause-usual : goal.write_depth_if-requires-clause-usual
 write_depth_if-requires-clause-usual c = λ e. (untold_parts (image_of c.args.header.now) (sym c.is_told-told.ensures ∙ e)).depth
 
-pub write_flag_if-requires-5 : goal.write_flag_if-requires-5
-write_flag_if-requires-5 c = record { usual = λ e. (untold_parts (image_of c.args.header.now) (sym c.is_told-told.ensures ∙ e)).narrow }
+pub write_flag_if-requires-2 : goal.write_flag_if-requires-2
+write_flag_if-requires-2 c = record { usual = λ e. (untold_parts (image_of c.args.header.now) (sym c.is_told-told.ensures ∙ e)).narrow }
 
 pub write_channels_if-requires-clause-few : goal.write_channels_if-requires-clause-few
 write_channels_if-requires-clause-few c = rw c.deref.ensures.value (header_parts (image_of c.args.header.now) c.requires).few
@@ -40,8 +58,8 @@ write_channels_if-requires-clause-spelled c = rw c.deref.ensures.value (header_p
 pub write_channels_if-requires-clause-usual : goal.write_channels_if-requires-clause-usual
 write_channels_if-requires-clause-usual c = λ e. c.deref.ensures.value ∙ (untold_parts (image_of c.args.header.now) (sym c.is_told-told.ensures ∙ e)).channels
 
-pub write_flag_if-requires-6 : goal.write_flag_if-requires-6
-write_flag_if-requires-6 c = record { usual = λ e. (untold_parts (image_of c.args.header.now) (sym c.is_told-told.ensures ∙ e)).xyb }
+pub write_flag_if-requires-3 : goal.write_flag_if-requires-3
+write_flag_if-requires-3 c = record { usual = λ e. (untold_parts (image_of c.args.header.now) (sym c.is_told-told.ensures ∙ e)).xyb }
 
 pub write_colour_if-requires-clause-spelled : goal.write_colour_if-requires-clause-spelled
 write_colour_if-requires-clause-spelled c = (header_parts (image_of c.args.header.now) c.requires).colour
@@ -53,15 +71,15 @@ pub write_tone_if-requires-clause-spelled : goal.write_tone_if-requires-clause-s
 write_tone_if-requires-clause-spelled c = (header_parts (image_of c.args.header.now) c.requires).tone
 
 pub write_tone_if-requires-clause-usual : goal.write_tone_if-requires-clause-usual
-write_tone_if-requires-clause-usual c = λ e. (no_more (image_of c.args.header.now) (sym c.has_more-more.ensures ∙ e)).1
+write_tone_if-requires-clause-usual c = λ e. (no_more (image_of c.args.header.now) (sym c.has_more-more.ensures ∙ e)).tone
 
 pub returns : goal.returns
 returns c =
     header_spelled (image_of c.args.header.now) c.is_told-told.result c.has_more-more.result
-    c.args.bits.now c.write_number.new.bits c.write_size.new.bits c.write_bundle_if.new.bits c.write_flag_if.new.bits c.write_number_if.new.bits c.write_flag_if-2.new.bits
-    c.write_flag_if-3.new.bits c.write_flag_if-4.new.bits c.write_depth_if.new.bits c.write_flag_if-5.new.bits c.write_channels_if.new.bits c.write_flag_if-6.new.bits
+    c.args.bits.now c.write_number.new.bits c.write_size.new.bits c.write_bundle_if.new.bits c.write_flag_if.new.bits c.write_number_if.new.bits c.write_size_if.new.bits
+    c.write_size_if-2.new.bits c.write_animation_if.new.bits c.write_depth_if.new.bits c.write_flag_if-2.new.bits c.write_channels_if.new.bits c.write_flag_if-3.new.bits
     c.write_colour_if.new.bits c.write_tone_if.new.bits c.write_no_extensions_if.new.bits c.write_flag.new.bits
     (header_parts (image_of c.args.header.now) c.requires)
-    c.in_ok-write_number.ensures c.in_ok-write_size.ensures c.in_ok-write_bundle_if.ensures c.in_ok-write_flag_if.ensures c.in_ok-write_number_if.ensures c.in_ok-write_flag_if-2.ensures
-    c.in_ok-write_flag_if-3.ensures c.in_ok-write_flag_if-4.ensures c.in_ok-write_depth_if.ensures c.in_ok-write_flag_if-5.ensures (rw c.deref.ensures.value at c.in_ok-write_channels_if.ensures)
-    c.in_ok-write_flag_if-6.ensures c.in_ok-write_colour_if.ensures c.in_ok-write_tone_if.ensures c.in_ok-write_no_extensions_if.ensures c.in_ok-write_flag.ensures
+    c.in_ok-write_number.ensures c.in_ok-write_size.ensures c.in_ok-write_bundle_if.ensures c.in_ok-write_flag_if.ensures c.in_ok-write_number_if.ensures c.in_ok-write_size_if.ensures
+    c.in_ok-write_size_if-2.ensures c.in_ok-write_animation_if.ensures c.in_ok-write_depth_if.ensures c.in_ok-write_flag_if-2.ensures (rw c.deref.ensures.value at c.in_ok-write_channels_if.ensures)
+    c.in_ok-write_flag_if-3.ensures c.in_ok-write_colour_if.ensures c.in_ok-write_tone_if.ensures c.in_ok-write_no_extensions_if.ensures c.in_ok-write_flag.ensures
