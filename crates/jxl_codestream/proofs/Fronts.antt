@@ -25,7 +25,7 @@ use Rattle.jxl_codestream.specs.Tocs.{IsFirstTruncated, IsToc, Table, is_within,
 use Rattle.jxl_codestream.specs.declared.toc.TocEntry.{TocEntry}
 use Rattle.jxl_picture.specs.Limits.{Allow, AllowFrame, cells_of}
 use Rattle.jxl_picture.specs.declared.limits.Limits.{Limits}
-use Rattle.jxl_codestream.specs.Fronts.{AreBefore, NoFrame, OneMore, ContentsStand, FailsAt, FrameAt, FrameGoesOn, FrameStands, FrontFails, ImageStands, Next, StandsAt, between, end_of, layout_in}
+use Rattle.jxl_codestream.specs.Fronts.{AreBefore, NoFrame, OneMore, ContentsStand, FailsAt, FrameAt, FrameGoesOn, FrameStands, FrontFails, HasProfile, ImageStands, Next, StandsAt, between, end_of, layout_in}
 use Rattle.jxl_codestream.specs.FrontParts.{HasLowShifts, IsNext}
 use Rattle.jxl_codestream.specs.declared.error.FrontError.TheVariants as errors
 
@@ -127,10 +127,14 @@ module _ {D : Type 0} (d : Meaning D) (limits : Limits) (bytes : List ℕ) where
   truncated image start used frame entries number next contents first = (next_of image start used next, frame, entries, contents, first)
 
   -- the first frame begins after the profile
-  pub begins : (image : Image) (here : List ℕ) (p padding q : ℕ) → here ≡ bytes → ImageStands d limits bytes image p →
-      (between d limits.profile image.colour_encoding.want_icc).read here p ≡ Ok (record { value = padding; position = q }) → AreBefore d limits bytes image [] (q / 8) 0
-  begins image here p padding q same stands passed =
-      NoFrame p padding q stands (subst (λ (b : List ℕ). StandsAt (between d limits.profile image.colour_encoding.want_icc) b p padding q) same passed)
+  pub begins : (image : Image) (p q : ℕ) (icc : Option (List ℕ)) → ImageStands d limits bytes image p →
+      StandsAt (between d limits.profile image.colour_encoding.want_icc) bytes p icc q → AreBefore d limits bytes image [] (q / 8) 0
+  begins image p q icc stands passed = NoFrame p icc q stands passed
+
+  -- and this is the profile
+  pub has_profile : (image : Image) (p q : ℕ) (icc : Option (List ℕ)) → ImageStands d limits bytes image p →
+      StandsAt (between d limits.profile image.colour_encoding.want_icc) bytes p icc q → HasProfile d limits bytes image icc
+  has_profile image p q icc stands passed = record { end = p; header = stands; next = q; stands = passed }
 
   -- one saved frame more
   pub before_more : (image : Image) (fs : List FrameAt) (q n : ℕ) (f : FrameAt) → AreBefore d limits bytes image fs q n → f.start ≡ q → is_saved f.header ≡ true → FrameStands d limits bytes image n f →
@@ -141,7 +145,7 @@ module _ {D : Type 0} (d : Meaning D) (limits : Limits) (bytes : List ℕ) where
 
   -- the bits code the image header
   pub image_before : {image : Image} {fs : List FrameAt} {q n : ℕ} → AreBefore d limits bytes image fs q n → (p : ℕ) × ImageStands d limits bytes image p
-  image_before (NoFrame end padding p stands passed) = (end, stands)
+  image_before (NoFrame end icc p stands passed) = (end, stands)
   image_before (OneMore fs n f before stands saved) = image_before before
 
 pub layout_is : (image : Image) (frame : Frame) (l : Layout) → Some l ≡ layout_if (layout_in image frame) → l ≡ layout_in image frame

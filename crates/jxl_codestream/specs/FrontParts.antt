@@ -1,6 +1,8 @@
 -- What is known of what a codestream tells before its sections.
-use Rattle.std.specs.Prelude.{◌≡◌, ℕ, ◌≤◌, ◌^◌, ◌&&◌, List, length, drop, map, All, Bool, true, false, MatchResult}
+use Rattle.std.specs.Prelude.{◌≡◌, ℕ, ◌≤◌, ◌^◌, ◌&&◌, List, length, drop, map, All, Bool, true, false, Option, None, MatchResult}
 use Rattle.std.specs.List.{list_all}
+use Rattle.std.specs.Global.{Vec}
+use Rattle.std.specs.Option.{option_map}
 use Rattle.jxlm_bits.specs.Decoding.{Meaning}
 use Rattle.jxlm_transform.specs.Params.{IsGroupDim}
 use Rattle.jxl_image_header.specs.Images.{Image, image_header, image_of}
@@ -12,7 +14,7 @@ use Rattle.jxl_codestream.specs.LayoutParts.{parts_of}
 use Rattle.jxl_codestream.specs.Tocs.{is_within}
 use Rattle.jxl_picture.specs.Limits.{channel_count}
 use Rattle.jxl_picture.specs.declared.limits.Limits.{Limits}
-use Rattle.jxl_codestream.specs.Fronts.{AreBefore, FrameAt, FrontFails, FrontStands, StandsAt, layout_in}
+use Rattle.jxl_codestream.specs.Fronts.{AreBefore, FrameAt, FrontFails, FrontStands, HasProfile, StandsAt, layout_in}
 use Rattle.jxl_codestream.specs.declared.error.FrontError.{FrontError}
 use Rattle.jxl_codestream.specs.declared.error.FrontError.TheVariants as errors
 use Rattle.jxl_codestream.specs.declared.frame.FrameFront.{FrameFront}
@@ -59,10 +61,16 @@ pub record AreFramesOf {D : Type 0} (d : Meaning D) (limits : Limits) (bytes : L
   pub stand : FrontStands d limits bytes (image_of header) (map frame_at frames.saved.items) (frame_at frames.shown)
   pub ready : IsReady bytes header frames
 
--- The bits code what was read: the image header, at the start, and the frames after it; or why these are not decoded.
+-- the bytes, if there are some
+abbrev pub bytes_if : Option (Vec ℕ) → Option (List ℕ)
+bytes_if bytes = option_map (λ v. v.items) bytes
+
+-- The bits code what was read: the image header, at the start, and the profile and the frames after it; or why these are not
+-- decoded.
 pub record IsFrontOf {D : Type 0} (d : Meaning D) (limits : Limits) (bytes : List ℕ) (front : Front) : Type 0 where
   pub end : ℕ
   pub header : StandsAt image_header bytes 0 (image_of front.image) end
+  pub profile : MatchResult front.frames (λ frames. HasProfile d limits bytes (image_of front.image) (bytes_if front.profile)) (λ error. front.profile ≡ None)
   pub frames : MatchResult front.frames (AreFramesOf d limits bytes front.image) (FrontFails d limits bytes)
 
 -- the error is that of the image header, or comes before it

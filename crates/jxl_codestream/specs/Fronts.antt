@@ -1,6 +1,6 @@
 -- What a codestream has before the sections of its frames (ISO/IEC 18181-1, codestream: image header, frame headers, tables
 -- of contents), stage by stage, and what fails at each.
-use Rattle.std.specs.Prelude.{◌≡◌, ℕ, ◌+◌, ◌/◌, ◌^◌, ◌<◌, ◌≤◌, max, List, [], ◌∷◌, ◌++◌, length, drop, Bool, true, false, None, Some, Ok}
+use Rattle.std.specs.Prelude.{◌≡◌, ℕ, ◌+◌, ◌/◌, ◌^◌, ◌<◌, ◌≤◌, max, List, [], ◌∷◌, ◌++◌, length, drop, Bool, true, false, Option, None, Some, Ok}
 use Rattle.std.specs.List.{list_all}
 use Rattle.jxlm_bits.specs.Decoding.{Meaning}
 use Rattle.jxlm_bits.specs.ErrorKind.{ErrorKind, UnlessMemory, kind_of}
@@ -25,9 +25,13 @@ StandsAt field bytes p x q = field.read bytes p ≡ Ok (record { value = x; posi
 abbrev pub FailsAt : {X : Type 0} → Grammar X → List ℕ → ℕ → ErrorKind → Type 0
 FailsAt field bytes p error = (q : ℕ) × IsErrorAt (field.read bytes p) error q
 
--- the profile, where there is one, and the bits up to the next byte
-abbrev pub between : {D : Type 0} → Meaning D → ℕ → Bool → Grammar ℕ
-between d limit there = either there (profile d limit) (give 0) >>= λ n. aligned
+-- the profile, if there is one
+abbrev pub profile_if : {D : Type 0} → Meaning D → ℕ → Bool → Grammar (Option (List ℕ))
+profile_if d limit there = either there (profile d limit >>= λ icc. give (Some icc)) (give None)
+
+-- the profile, if there is one, and the bits up to the next byte
+abbrev pub between : {D : Type 0} → Meaning D → ℕ → Bool → Grammar (Option (List ℕ))
+between d limit there = profile_if d limit there >>= λ icc. aligned >>= λ padding. give icc
 
 -- a frame, as its header describes it before its sections: the byte where it begins, its header, where its sections lie from
 -- there on, and the maximum depth of the tree that they share
@@ -70,10 +74,18 @@ module _ {D : Type 0} (d : Meaning D) (limits : Limits) (bytes : List ℕ) where
       × (list_all (is_within (length (drop frame.start bytes))) frame.entries ≡ true)
       × (frame.deepest ≡ deepest limits image used (frame_size image.size frame.header))
 
+  -- The profile of the codestream, if there is one: it comes after the image header, with the bits up to the next byte.
+  pub record HasProfile (image : Image) (icc : Option (List ℕ)) : Type 0 where
+    pub end : ℕ
+    pub header : ImageStands image end
+    pub next : ℕ
+    pub stands : StandsAt (between d limits.profile image.colour_encoding.want_icc) bytes end icc next
+
   -- These saved frames, with this number of cells together, stand one after another before the frame that begins at this byte.
   -- The first frame begins after the image header and what comes between them.
   pub data AreBefore (image : Image) : List FrameAt → ℕ → ℕ → Type 0 where
-    NoFrame : (end padding p : ℕ) → ImageStands image end → StandsAt (between d limits.profile image.colour_encoding.want_icc) bytes end padding p → AreBefore image [] (p / 8) 0
+    NoFrame : (end : ℕ) (icc : Option (List ℕ)) (p : ℕ) → ImageStands image end → StandsAt (between d limits.profile image.colour_encoding.want_icc) bytes end icc p →
+        AreBefore image [] (p / 8) 0
     OneMore : (saved : List FrameAt) (used : ℕ) (f : FrameAt) → AreBefore image saved f.start used → FrameStands image used f → is_saved f.header ≡ true →
         AreBefore image (saved ++ f ∷ []) (f.start + end_of f.entries) (used + cells_of (frame_size image.size f.header))
 

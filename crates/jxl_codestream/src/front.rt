@@ -5,11 +5,12 @@ ghost use Rattle.jxlm_bits.specs.Bits.{bytes_of, position_of};
 ghost use Rattle.jxl_image_header.specs.Images.{image_header, image_of};
 ghost use Rattle.jxl_codestream.specs.Reading.{Decodes};
 ghost use Rattle.jxl_picture.specs.Limits.{Allow};
-ghost use Rattle.jxl_codestream.specs.Fronts.{AreBefore, FrontFails, StandsAt, between};
+ghost use Rattle.jxl_codestream.specs.Fronts.{AreBefore, FrontFails, HasProfile, StandsAt, between, profile_if};
+ghost use Rattle.jxl_codestream.specs.FrontParts.{bytes_if};
 
 use crate::error::FrontError;
 use crate::frame::FrameFront;
-use crate::profile::skip_profile;
+use crate::profile::read_profile;
 use jxl_image_header::fields::align;
 use jxl_image_header::image::ImageHeader;
 use jxl_picture::limits::Limits;
@@ -33,41 +34,61 @@ pub struct Frames {
 pub struct Front {
     /// The image header.
     pub image: ImageHeader,
+    /// The profile that says what colours mean, if the image header asks for one; none if the frames are not decoded.
+    pub profile: Option<Vec<u8>>,
     /// The frames, or why they are not decoded.
     pub frames: Result<Frames, FrontError>,
 }
 
-// Passes the profile, if there is one, and the bits up to the next byte.
-fn pass_profile<D: Decoder>(
+// The profile, if there is one.
+fn read_profile_if<D: Decoder>(
     alloc: Global,
     bits: &mut Bitstream<'_>,
     there: bool,
     limit: u64,
-) -> Result<u32, Error>
+) -> Result<Option<Vec<u8>>, Error>
+    ensures gives { Decodes bytes_if result (position_of bits.new)
+        ((profile_if D.meaning limit there).read (bytes_of bits.old) (position_of bits.old)) }
+    ensures bytes { bytes_of bits.new ≡ bytes_of bits.old }
+{
+    if !there {
+        return Ok(None);
+    }
+    let icc = read_profile::<D>(alloc, bits, limit)?;
+    Ok(Some(icc))
+}
+
+// The profile, if there is one, after which the bits up to the next byte are passed.
+fn read_between<D: Decoder>(
+    alloc: Global,
+    bits: &mut Bitstream<'_>,
+    there: bool,
+    limit: u64,
+) -> Result<Option<Vec<u8>>, Error>
     requires short { 8 * length (bytes_of bits.old) < 2 ^ 64 }
-    ensures gives { Decodes (λ v. v) result (position_of bits.new)
+    ensures gives { Decodes bytes_if result (position_of bits.new)
         ((between D.meaning limit there).read (bytes_of bits.old) (position_of bits.old)) }
     ensures bytes { bytes_of bits.new ≡ bytes_of bits.old }
 {
-    if there {
-        skip_profile::<D>(alloc, bits, limit)?;
-    }
-    let padding = align(bits)?;
-    Ok(padding)
+    let profile = read_profile_if::<D>(alloc, bits, there, limit)?;
+    align(bits)?;
+    Ok(profile)
 }
 
-// Passes what comes between the image header and the first frame, of a picture that is supported and within the limits. The
-// reader is at the end of that header.
-fn pass_to_frames<D: Decoder>(
+// Reads what comes between the image header and the first frame, of a picture that is supported and within the limits: the
+// profile, if there is one. The reader is at the end of that header.
+fn read_to_frames<D: Decoder>(
     alloc: Global,
     bits: &mut Bitstream<'_>,
     limits: &Limits,
     image: &ImageHeader,
-) -> Result<(), FrontError>
+) -> Result<Option<Vec<u8>>, FrontError>
     requires header { StandsAt image_header (bytes_of bits.old) 0 (image_of image.now) (position_of bits.old) }
     requires short { 8 * length (bytes_of bits.old) < 2 ^ 64 }
     ensures ok { OnOk result (AreBefore D.meaning limits.now (bytes_of bits.old) (image_of image.now) []
         (position_of bits.new / 8) 0) }
+    ensures profile { IfOk result (λ icc. HasProfile D.meaning limits.now (bytes_of bits.old) (image_of image.now)
+        (bytes_if icc)) }
     ensures allowed { OnOk result (Allow limits.now (image_of image.now)) }
     ensures inside { position_of bits.new ≤ 8 * length (bytes_of bits.old) }
     ensures err { IfErr result (FrontFails D.meaning limits.now (bytes_of bits.old)) }
@@ -79,8 +100,8 @@ fn pass_to_frames<D: Decoder>(
     if !limits.allow(image) {
         return Err(FrontError::TooLarge);
     }
-    match pass_profile::<D>(alloc, bits, image.colour_encoding.want_icc, limits.profile) {
-        Ok(_) => Ok(()),
+    match read_between::<D>(alloc, bits, image.colour_encoding.want_icc, limits.profile) {
+        Ok(profile) => Ok(profile),
         Err(error) => Err(FrontError::Profile(error)),
     }
 }
@@ -132,23 +153,27 @@ impl Frames {
         Err(FrontError::FrameHeader(Error::from(OutOfMemory)))
     }
 
-    // The frames of a codestream whose image header was read: the reader is at the end of that header.
+    // The profile, if there is one, and the frames of a codestream whose image header was read: the reader is at the end of
+    // that header.
     fn after<D: Decoder>(
         alloc: Global,
         bytes: &[u8],
         mut bits: Bitstream<'_>,
         limits: &Limits,
         image: &ImageHeader,
-    ) -> Result<Frames, FrontError>
+    ) -> Result<(Option<Vec<u8>>, Frames), FrontError>
         requires lies { bytes_of bits ≡ bytes.now }
         requires header { StandsAt image_header (bytes_of bits) 0 (image_of image.now) (position_of bits) }
         requires short { 8 * length bytes.now < 2 ^ 64 }
-        ensures ok { IfOk result (AreFramesOf D.meaning limits.now bytes.now image.now) }
+        ensures ok { IfOk result (λ r. AreFramesOf D.meaning limits.now bytes.now image.now r.1) }
+        ensures profile { IfOk result (λ r. HasProfile D.meaning limits.now bytes.now (image_of image.now)
+            (bytes_if r.0)) }
         ensures err { IfErr result (FrontFails D.meaning limits.now bytes.now) }
     {
-        pass_to_frames::<D>(alloc, &mut bits, limits, image)?;
+        let profile = read_to_frames::<D>(alloc, &mut bits, limits, image)?;
         let begin = byte_of(&bits);
-        Frames::read::<D>(alloc, bytes, limits, image, begin)
+        let frames = Frames::read::<D>(alloc, bytes, limits, image, begin)?;
+        Ok((profile, frames))
     }
 }
 
@@ -156,12 +181,13 @@ impl Front {
     ghost use Rattle.jxl_codestream.specs.FrontParts.{IsFrontOf, is_of_header};
 
     /// What comes before the sections of the frames: the image header, at the start of the bytes; the profile, if there
-    /// is one, which is passed; and of each frame its header and table of contents. Frames that are saved for others
+    /// is one; and of each frame its header and table of contents. Frames that are saved for others
     /// stand one after another, each followed by its sections, and after them the one that is shown, which is the last.
     /// Picture and frames are supported and within the limits, and all sections lie in the codestream; else the image
     /// header comes with the reason why the frames are not decoded. What is coded is read by any decoder.
     ///
-    /// No memory is taken for samples: that of the lists of the headers, 16 bytes for each section, and the decoder's.
+    /// No memory is taken for samples: that of the lists of the headers, of the profile and its encoded bytes, 16 bytes for
+    /// each section, and the decoder's.
     ///
     /// # Errors
     ///
@@ -182,10 +208,18 @@ impl Front {
         }
         let mut bits = Bitstream::new(bytes);
         match ImageHeader::parse(alloc, &mut bits) {
-            Ok(image) => {
-                let frames = Frames::after::<D>(alloc, bytes, bits, limits, &image);
-                Ok(Front { image, frames })
-            }
+            Ok(image) => match Frames::after::<D>(alloc, bytes, bits, limits, &image) {
+                Ok((profile, frames)) => Ok(Front {
+                    image,
+                    profile,
+                    frames: Ok(frames),
+                }),
+                Err(error) => Ok(Front {
+                    image,
+                    profile: None,
+                    frames: Err(error),
+                }),
+            },
             Err(error) => Err(FrontError::ImageHeader(error)),
         }
     }

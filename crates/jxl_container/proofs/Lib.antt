@@ -1,3 +1,4 @@
 pub mod BoxCases
 pub mod Faults
 pub mod FileLaws
+pub mod Searches

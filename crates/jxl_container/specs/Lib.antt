@@ -1,3 +1,4 @@
 pub mod Boxes
 pub mod Files
+pub mod Metadata
 pub mod Inner

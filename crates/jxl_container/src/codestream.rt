@@ -43,7 +43,7 @@ pub struct Found<'a> {
 }
 
 /// The first box of each file in boxes.
-const SIGNATURE: [u8; 12] = [0, 0, 0, 12, 74, 88, 76, 32, 13, 10, 135, 10];
+pub(crate) const SIGNATURE: [u8; 12] = [0, 0, 0, 12, 74, 88, 76, 32, 13, 10, 135, 10];
 
 // Adds the bytes of a part, where the box is one.
 fn append(joined: &mut Vec<u8>, file: &[u8], found: FileBox) -> Result<(), FileError>
@@ -62,11 +62,12 @@ fn append(joined: &mut Vec<u8>, file: &[u8], found: FileBox) -> Result<(), FileE
 }
 
 // The box that stands next, and what there is with it; or why it may not stand there.
-fn next(file: &[u8], seen: Seen, place: usize) -> Result<(FileBox, Seen), FileError>
+pub(crate) fn next(file: &[u8], seen: Seen, place: usize) -> Result<(FileBox, Seen), FileError>
     requires within { place ≤ length file.now }
     requires whole { IfSome seen.whole (λ b. (b.body ≤ b.end) × (b.end ≤ length file.now)) }
     ensures stands { IfOk result (λ n. n.0 ≡ box_from file.now place) }
     ensures inside { IfOk result (λ n. (place + 8 ≤ n.0.end) × (n.0.end ≤ length file.now)) }
+    ensures contents { IfOk result (λ n. n.0.body ≤ n.0.end) }
     ensures room { IfOk result (λ n. n.0.kind ≡ 0x6A786C70 → n.0.body + 4 ≤ n.0.end) }
     ensures fits { IfOk result (λ n. (boxes : List FileBox) → seen ≡ seen_in file.now boxes
         → fault file.now boxes n.0 ≡ None) }

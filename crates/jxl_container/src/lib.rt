@@ -5,5 +5,6 @@ pub mod boxes;
 pub mod codestream;
 pub mod error;
 pub mod laws;
+pub mod metadata;
 mod rules;
 mod seen;

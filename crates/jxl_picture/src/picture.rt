@@ -25,6 +25,8 @@ pub struct Picture {
     /// rounded up. A sample is the whole number that was coded, which may lie outside the range of its depth; of a
     /// float it is the number of its bits.
     pub channels: Vec<AlignedGrid<i32>>,
+    /// The ICC profile that says what colours mean, if the header says that there is one.
+    pub profile: Option<Vec<u8>>,
 }
 
 /// Whether colours are grey, so that they have one channel.
@@ -121,17 +123,22 @@ impl Picture {
     }
 
     /// The picture as it is shown: the cells of each channel are mirrored or turned as the header says, its size is that
-    /// of what is shown, and its orientation 1. Memory is taken for one more channel, where the picture is not upright
-    /// as it is.
+    /// of what is shown, and its orientation 1; its profile is the same. Memory is taken for one more channel, where the
+    /// picture is not upright as it is.
     pub fn upright(self, alloc: Global) -> Result<Picture, OutOfMemory>
-        ensures { IfOk result (λ p. IsUpright (image_of self.header) self.channels.items (image_of p.header)
+        ensures shown { IfOk result (λ p. IsUpright (image_of self.header) self.channels.items (image_of p.header)
             p.channels.items) }
+        ensures profile { IfOk result (λ p. p.profile ≡ self.profile) }
     {
         let mut header = self.header;
         let orientation = header.orientation;
         header.size = shown_size(orientation, header.size);
         header.orientation = 1;
         let channels = shown_channels(alloc, self.channels, orientation)?;
-        Ok(Picture { header, channels })
+        Ok(Picture {
+            header,
+            channels,
+            profile: self.profile,
+        })
     }
 }

@@ -15,11 +15,6 @@ abbrev pub TokensRead : {S X Y : Type 0} → (X → Y) → Result X Error → S 
 TokensRead view (Ok v) s q reading = reading ≡ Ok (record { value = record { value = view v; state = s }; position = q })
 TokensRead view (Err e) s q reading = UnlessMemory (kind_of e) (IsErrorAt reading (kind_of e) q)
 
--- such a loop, which left the decoder in state s and the reader at q, read something with that state
-abbrev pub StateReads : {S X : Type 0} → Result (Unit {0}) Error → S → ℕ → Result (Found (After S X)) ErrorAt → Type 0
-StateReads {S} {X} (Ok u) s q reading = (x : X) × (reading ≡ Ok (record { value = record { value = x; state = s }; position = q }))
-StateReads (Err e) s q reading = UnlessMemory (kind_of e) (IsErrorAt reading (kind_of e) q)
-
 -- the decoder of this number of contexts, at the begin of its tokens
 abbrev pub decoder : {S : Type 0} → Meaning S → ℕ → Grammar S
 decoder d contexts = decoder_call (λ bytes p. d.parse bytes p contexts) >>= λ s. decoder_call (λ bytes p. d.begin s bytes p)

@@ -3,7 +3,7 @@ use Rattle.std.proofs.lemmas.Result.{err_from_is_err_and}
 use Rattle.jxl_codestream.specs.Fronts.{FrontFails}
 use Rattle.jxl_codestream.proofs.front.Frames.after.Goals as goal
 
-pub returns-in_err-pass_to_frames-clause-err : goal.returns-in_err-pass_to_frames-clause-err
-returns-in_err-pass_to_frames-clause-err g c =
+pub returns-in_err-profile-clause-err : goal.returns-in_err-profile-clause-err
+returns-in_err-profile-clause-err g c =
     let p = err_from_is_err_and c.from_residual.result c.from_residual.ensures.1 in
-    rw (p.1, p.2) (subst (λ (b : List ℕ). FrontFails g.D.Decoder.meaning c.args.limits.now b c.in_err-pass_to_frames.field-0.0) c.requires.lies c.in_err-pass_to_frames.ensures.err)
+    rw (p.1, p.2) (subst (λ (b : List ℕ). FrontFails g.D.Decoder.meaning c.args.limits.now b c.in_err-profile.field-0.0) c.requires.lies c.in_err-profile.ensures.err)
