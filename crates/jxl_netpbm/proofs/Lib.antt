@@ -3,3 +3,4 @@ pub mod Pieces
 pub mod LayerLaws
 pub mod Numbers
 pub mod Writing
+pub mod Lines

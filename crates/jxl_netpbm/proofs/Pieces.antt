@@ -60,11 +60,6 @@ pub three_joined : (before first second third a b c : List ℕ) → first ≡ be
 three_joined before first second third a b c e f g =
     g ∙ ap (λ (t : List ℕ). t ++ c) (f ∙ ap (λ (t : List ℕ). t ++ b) e) ∙ append_assoc (before ++ a) b c ∙ append_assoc before a (b ++ c)
 
-pub one_layer : (ls : List Held) (l : Held) → length ls ≡ 1 → l ≡ get_or ls 0 l → ls ≡ l ∷ []
-one_layer [] l n e = let bad : ⊥ = omega (arith, n) in absurd bad
-one_layer (k ∷ []) l n e = ap (λ (h : Held). h ∷ []) (sym e)
-one_layer (k ∷ m ∷ ls) l n e = let bad : ⊥ = omega (arith, n) in absurd bad
-
 pub three_layers : (ls : List Held) (r g b : Held) → length ls ≡ 3 → r ≡ get_or ls 0 r → g ≡ get_or ls 1 g → b ≡ get_or ls 2 b → ls ≡ r ∷ g ∷ b ∷ []
 three_layers [] r g b n e f h = let bad : ⊥ = omega (arith, n) in absurd bad
 three_layers (k ∷ []) r g b n e f h = let bad : ⊥ = omega (arith, n) in absurd bad

@@ -11,7 +11,7 @@ ghost use Rattle.jxl_patches.specs.SavedParts.{sizes_in};
 ghost use Rattle.jxl_patches.specs.Dictionaries.{AreWithin, area, patches_of};
 
 use crate::error::Result;
-use crate::place::places;
+use crate::place::{FrameShape, places};
 use crate::slots::SavedFrames;
 use crate::source::{place_count, rectangle_count, source};
 use crate::token::decoder;
@@ -65,8 +65,7 @@ pub struct Dictionary {
 fn one_rectangle<D: Decoder>(
     decoder: &mut D,
     bits: &mut Bitstream<'_>,
-    size: Size,
-    kinds: usize,
+    frame: FrameShape,
     slots: &SavedFrames,
     limit: u64,
     cells: u64,
@@ -75,20 +74,19 @@ fn one_rectangle<D: Decoder>(
     requires clusters { length (D.meaning.cluster_map decoder.old) ≡ 10 }
     requires counted { cells ≡ sum_by area growing.old.places.items }
     ensures gives { StepRead result decoder.new growing.new (position_of bits.new)
-        ((the_one_rectangle D.meaning size kinds (sizes_in slots.now) limit (patches_of growing.old) decoder.old).read
-        (bytes_of bits.old) (position_of bits.old)) }
+        ((the_one_rectangle D.meaning frame.size frame.kinds (sizes_in slots.now) limit (patches_of growing.old)
+        decoder.old).read (bytes_of bits.old) (position_of bits.old)) }
     ensures counted { IfOk result (λ n. n ≡ sum_by area growing.new.places.items) }
     ensures clusters { IfOk result (λ _. length (D.meaning.cluster_map decoder.new) ≡ 10) }
     ensures bytes { bytes_of bits.new ≡ bytes_of bits.old }
 {
     let rectangle = source(decoder, bits, slots)?;
     let done = growing.places.len();
-    let counted = place_count(decoder, bits, size, done, cells, rectangle, limit)?;
+    let counted = place_count(decoder, bits, frame.size, done, cells, rectangle, limit)?;
     places(
         decoder,
         bits,
-        size,
-        kinds,
+        frame,
         done,
         rectangle,
         counted.places,
@@ -101,8 +99,7 @@ fn one_rectangle<D: Decoder>(
 fn rectangles<D: Decoder>(
     decoder: &mut D,
     bits: &mut Bitstream<'_>,
-    size: Size,
-    kinds: usize,
+    frame: FrameShape,
     slots: &SavedFrames,
     limit: u64,
     count: u32,
@@ -111,13 +108,13 @@ fn rectangles<D: Decoder>(
     requires clusters { length (D.meaning.cluster_map decoder.old) ≡ 10 }
     requires none { sum_by area growing.old.places.items ≡ 0 }
     ensures gives { StepRead result decoder.new growing.new (position_of bits.new)
-        ((chain (the_one_rectangle D.meaning size kinds (sizes_in slots.now) limit) count (patches_of growing.old)
-        decoder.old).read (bytes_of bits.old) (position_of bits.old)) }
+        ((chain (the_one_rectangle D.meaning frame.size frame.kinds (sizes_in slots.now) limit) count
+        (patches_of growing.old) decoder.old).read (bytes_of bits.old) (position_of bits.old)) }
     ensures bytes { bytes_of bits.new ≡ bytes_of bits.old }
 {
     let mut cells = 0;
     for _ in 0..count {
-        cells = one_rectangle(decoder, bits, size, kinds, slots, limit, cells, growing)?;
+        cells = one_rectangle(decoder, bits, frame, slots, limit, cells, growing)?;
     }
     Ok(())
 }
@@ -144,11 +141,11 @@ fn read<D: Decoder>(
         modes: Vec::new(alloc),
     };
     let kinds = 1 + extra;
+    let frame = FrameShape { size, kinds };
     rectangles(
         &mut decoder,
         bits,
-        size,
-        kinds,
+        frame,
         slots,
         limit,
         count,

@@ -14,6 +14,13 @@ use jxl_image_header::size::Size;
 use jxlm_bits::bits::Bitstream;
 use jxlm_bits::decoder::Decoder;
 
+/// The size of a frame, and how many modes a place in it has: one for the colours, and one for each extra channel.
+#[derive(Clone, Copy)]
+pub struct FrameShape {
+    pub size: Size,
+    pub kinds: usize,
+}
+
 fn moved(later: bool, before: u32, value: u32) -> Option<u64>
     ensures value { result ≡ the_moved later before value }
     ensures small { IfSome result (λ c. c < 2 ^ 33) }
@@ -144,19 +151,19 @@ fn last(places: &[Place]) -> Place
 fn place<D: Decoder>(
     decoder: &mut D,
     bits: &mut Bitstream<'_>,
-    size: Size,
-    kinds: usize,
+    frame: FrameShape,
     first: usize,
     source: Rectangle,
     growing: &mut Dictionary,
 ) -> Result<()>
     requires { length (D.meaning.cluster_map decoder.old) ≡ 10 }
     ensures gives { StepRead result decoder.new growing.new (position_of bits.new)
-        ((one_place D.meaning size kinds first source (patches_of growing.old) decoder.old).read (bytes_of bits.old)
-        (position_of bits.old)) }
+        ((one_place D.meaning frame.size frame.kinds first source (patches_of growing.old) decoder.old).read
+        (bytes_of bits.old) (position_of bits.old)) }
     ensures clusters { IfOk result (λ _. length (D.meaning.cluster_map decoder.new) ≡ 10) }
     ensures bytes { bytes_of bits.new ≡ bytes_of bits.old }
 {
+    let FrameShape { size, kinds } = frame;
     let later = first < growing.places.len();
     let before = last(&growing.places);
     let x = coordinate(decoder, bits, later, before.x, source.width, size.width)?;
@@ -169,8 +176,7 @@ fn place<D: Decoder>(
 pub fn places<D: Decoder>(
     decoder: &mut D,
     bits: &mut Bitstream<'_>,
-    size: Size,
-    kinds: usize,
+    frame: FrameShape,
     first: usize,
     source: Rectangle,
     count: u64,
@@ -178,13 +184,13 @@ pub fn places<D: Decoder>(
 ) -> Result<()>
     requires { length (D.meaning.cluster_map decoder.old) ≡ 10 }
     ensures gives { StepRead result decoder.new growing.new (position_of bits.new)
-        ((chain (one_place D.meaning size kinds first source) count (patches_of growing.old) decoder.old).read
-        (bytes_of bits.old) (position_of bits.old)) }
+        ((chain (one_place D.meaning frame.size frame.kinds first source) count (patches_of growing.old)
+        decoder.old).read (bytes_of bits.old) (position_of bits.old)) }
     ensures clusters { IfOk result (λ _. length (D.meaning.cluster_map decoder.new) ≡ 10) }
     ensures bytes { bytes_of bits.new ≡ bytes_of bits.old }
 {
     for _ in 0..count {
-        place(decoder, bits, size, kinds, first, source, growing)?;
+        place(decoder, bits, frame, first, source, growing)?;
     }
     Ok(())
 }

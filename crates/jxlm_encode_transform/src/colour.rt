@@ -1,4 +1,4 @@
-//! Colours of three regions coded in place (ISO/IEC 18181-1, Modular: reversible colour transforms).
+//! ColourRegions of three regions coded in place (ISO/IEC 18181-1, Modular: reversible colour transforms).
 
 ghost use Rattle.std.specs.Prelude.{◌≡◌, ℕ, ◌*◌, ◌<◌, ◌≤◌, length, get_or};
 ghost use Rattle.std.specs.List.{All};
@@ -13,62 +13,60 @@ use crate::colour_rows::code_rows;
 use jxlm_base::grid::{AlignedGrid, Region};
 use jxlm_base::region::{region_row, region_set_row};
 use jxlm_base::sample::Sample;
+use jxlm_inverse::rct::ColourRegions;
 
 /// Codes row `y` of each of three regions. The rows lent are written over.
 fn code_row<S: Sample>(
     kind: u32,
     store: &mut [AlignedGrid<S>],
-    first: Region,
-    second: Region,
-    third: Region,
+    regions: ColourRegions,
     y: usize,
     a: &mut [S],
     b: &mut [S],
     c: &mut [S],
 )
-    requires three { AreThree first second third store.old }
-    requires in_rows { y < first.height }
-    requires first_length { length a.old ≡ first.width }
-    requires second_length { length b.old ≡ first.width }
-    requires third_length { length c.old ≡ first.width }
-    ensures first_length { length a.new ≡ first.width }
-    ensures second_length { length b.new ≡ first.width }
-    ensures third_length { length c.new ≡ first.width }
-    ensures coded { CodesRow first second third S.to_int S.width kind y store.old store.new }
+    requires three { AreThree regions.first regions.second regions.third store.old }
+    requires in_rows { y < regions.first.height }
+    requires first_length { length a.old ≡ regions.first.width }
+    requires second_length { length b.old ≡ regions.first.width }
+    requires third_length { length c.old ≡ regions.first.width }
+    ensures first_length { length a.new ≡ regions.first.width }
+    ensures second_length { length b.new ≡ regions.first.width }
+    ensures third_length { length c.new ≡ regions.first.width }
+    ensures coded { CodesRow regions.first regions.second regions.third S.to_int S.width kind y store.old store.new }
 {
     code_rows(
         kind,
-        region_row(store, first, y),
-        region_row(store, second, y),
-        region_row(store, third, y),
+        region_row(store, regions.first, y),
+        region_row(store, regions.second, y),
+        region_row(store, regions.third, y),
         a,
         b,
         c,
     );
-    region_set_row(store, first, y, a);
-    region_set_row(store, second, y, b);
-    region_set_row(store, third, y, c);
+    region_set_row(store, regions.first, y, a);
+    region_set_row(store, regions.second, y, b);
+    region_set_row(store, regions.third, y, c);
 }
 
 /// Codes three regions, row by row. The rows lent are written over.
 fn code_regions<S: Sample>(
     kind: u32,
     store: &mut [AlignedGrid<S>],
-    first: Region,
-    second: Region,
-    third: Region,
+    regions: ColourRegions,
     a: &mut [S],
     b: &mut [S],
     c: &mut [S],
 )
-    requires three { AreThree first second third store.old }
-    requires first_length { length a.old ≡ first.width }
-    requires second_length { length b.old ≡ first.width }
-    requires third_length { length c.old ≡ first.width }
-    ensures { CodedUntil first second third S.to_int S.width kind first.height store.old store.new }
+    requires three { AreThree regions.first regions.second regions.third store.old }
+    requires first_length { length a.old ≡ regions.first.width }
+    requires second_length { length b.old ≡ regions.first.width }
+    requires third_length { length c.old ≡ regions.first.width }
+    ensures { CodedUntil regions.first regions.second regions.third S.to_int S.width kind regions.first.height
+        store.old store.new }
 {
-    for y in 0..first.height {
-        code_row(kind, store, first, second, third, y, a, b, c);
+    for y in 0..regions.first.height {
+        code_row(kind, store, regions, y, a, b, c);
     }
 }
 
@@ -90,5 +88,10 @@ pub(crate) fn code<S: Sample>(
     let (a, rest) = scratch.split_at_mut(width);
     let (b, rest) = rest.split_at_mut(width);
     let c = &mut rest[..width];
-    code_regions(kind, store, first, second, third, a, b, c);
+    let regions = ColourRegions {
+        first,
+        second,
+        third,
+    };
+    code_regions(kind, store, regions, a, b, c);
 }

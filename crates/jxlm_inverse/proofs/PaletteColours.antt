@@ -11,7 +11,7 @@ use Rattle.std.proofs.lemmas.List.{get_or_past}
 use Rattle.std.proofs.lemmas.Int.{to_z-of_z, fits_signed_from_abs, fits_signed_mul, unsigned_abs-mul, ints}
 use Rattle.jxlm_base.specs.Grid.{Grid, at}
 use Rattle.jxlm_transform.specs.declared.transform.Palette.{Palette}
-use Rattle.jxlm_inverse.specs.Palette.{colour_of, deltas, listed_difference, difference, implicit_colour}
+use Rattle.jxlm_inverse.specs.Palette.{colour_index, colour_of, deltas, listed_difference, difference, implicit_colour}
 
 -- a number below a power has no digit there
 pub no_digit : (b c n j : ℕ) → 0 < b → n ≤ c → j < b ^ n → j / b ^ c % b ≡ 0
@@ -127,6 +127,29 @@ module _ (depth : ℕ) (t : Palette) (table : Grid ℤ) (c : ℕ) where
   unfolding colour_of
   colour_implicit (pos i) n h e l = let same : n ≡ i = omega arith in ap (λ j. pos (implicit_colour depth (j - t.nb_colours) c)) same ∙ grind (arith, nat_tests)
   colour_implicit (negsuc i) n h e l = absurd (true_is_not_false h)
+
+-- ---- the index whose colour is taken
+
+module _ (t : Palette) where
+  pub index_kept : (i : ℤ) → t.clamps_indices ≡ false → i ≡ colour_index t i
+  unfolding colour_index
+  index_kept (pos i) e = rw e refl
+  index_kept (negsuc k) e = rw e refl
+
+  pub index_first : (i : ℤ) → t.clamps_indices ≡ true → lt_z i (pos 0) ≡ true → pos 0 ≡ colour_index t i
+  unfolding colour_index
+  index_first (pos i) e h = let below : i < 0 = grind (arith, nat_tests) in absurd (omega arith)
+  index_first (negsuc k) e h = rw e refl
+
+  pub index_listed : (i : ℤ) (n : ℕ) → lt_z i (pos 0) ≡ false → n ≡ unsigned_abs i → n < t.nb_colours → i ≡ colour_index t i
+  unfolding colour_index
+  index_listed (pos i) n h e l = let same : n ≡ i = omega arith in grind (arith, nat_tests)
+  index_listed (negsuc k) n h e l = absurd (true_is_not_false h)
+
+  pub index_last : (i : ℤ) (n : ℕ) → t.clamps_indices ≡ true → lt_z i (pos 0) ≡ false → n ≡ unsigned_abs i → t.nb_colours ≤ n → pos t.nb_colours -ℤ pos 1 ≡ colour_index t i
+  unfolding colour_index
+  index_last (pos i) n f h e l = let same : n ≡ i = omega arith in rw f (grind (arith, nat_tests))
+  index_last (negsuc k) n f h e l = absurd (true_is_not_false h)
 
 -- ---- implicit colours
 

@@ -18,7 +18,7 @@ use Rattle.jxlm_transform.specs.declared.transform.Palette.{Palette}
 use Rattle.jxlm_inverse.specs.declared.palette.FinishedChannel.{FinishedChannel}
 use Rattle.jxlm_inverse.proofs.PaletteLaws.{is_finished}
 use Rattle.jxlm_predictor.specs.Predictions.{prediction}
-use Rattle.jxlm_inverse.specs.Palette.{finished_channel, finished_sample, finished_samples, is_delta, colour_of}
+use Rattle.jxlm_inverse.specs.Palette.{finished_channel, finished_sample, finished_samples, is_delta, colour_index, colour_of}
 use Rattle.jxlm_inverse.specs.Inner.PaletteSteps.{ChannelLies, SetsSample, StillToCome, Filled, FillsOn, FillsOnBy, IsSimpleIndex, StandsBefore, kept, looked_up, table_in, index_in}
 
 -- ---- indices of the table that are no deltas
@@ -30,7 +30,7 @@ simple_place t (negsuc k) h = absurd h
 -- the finished sample of such an index is the one in the table, whatever is before it
 pub simple_sample : (w : Width) (depth : ℕ) (t : Palette) (table : Grid ℤ) (i : ℤ) (c : ℕ) (before : List ℤ) (width : ℕ) → IsSimpleIndex t i →
     finished_sample w depth t table i c before width ≡ int_wrap w (looked_up table i c)
-unfolding finished_sample colour_of
+unfolding finished_sample colour_index colour_of
 simple_sample w depth t table (pos i) c before width h =
     let deltas = h.0 in
     let colours = h.1 in
@@ -235,7 +235,9 @@ is_ready t width height x y state store stands px py few =
 -- ---- values
 
 -- the finished sample of an index of this colour
-pub finished_is : (w : Width) (depth : ℕ) (t : Palette) (table : Grid ℤ) (i : ℤ) (c : ℕ) (before : List ℤ) (width : ℕ) (colour : ℤ) → colour ≡ colour_of depth t table i c →
-    int_wrap w (if is_delta t i then colour +ℤ prediction t.wp_header before width t.d_pred else colour) ≡ finished_sample w depth t table i c before width
+pub finished_is : (w : Width) (depth : ℕ) (t : Palette) (table : Grid ℤ) (i j : ℤ) (c : ℕ) (before : List ℤ) (width : ℕ) (colour : ℤ) → j ≡ colour_index t i → colour ≡ colour_of depth t table j c →
+    int_wrap w (if is_delta t j then colour +ℤ prediction t.wp_header before width t.d_pred else colour) ≡ finished_sample w depth t table i c before width
 unfolding finished_sample
-finished_is w depth t table i c before width colour e = ap (λ z. int_wrap w (if is_delta t i then z +ℤ prediction t.wp_header before width t.d_pred else z)) e
+finished_is w depth t table i j c before width colour f e =
+    ap (λ z. int_wrap w (if is_delta t j then z +ℤ prediction t.wp_header before width t.d_pred else z)) e
+    ∙ ap (λ k. int_wrap w (if is_delta t k then colour_of depth t table k c +ℤ prediction t.wp_header before width t.d_pred else colour_of depth t table k c)) f

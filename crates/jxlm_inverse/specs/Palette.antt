@@ -1,5 +1,5 @@
 -- Palettes (ISO/IEC 18181-1, Modular: inverse palette, its implicit colours and its table of deltas).
-use Rattle.std.specs.Prelude.{◌≡◌, ◌⊎◌, ℕ, zero, suc, ◌+◌, ◌-◌, ◌*◌, ◌/◌, ◌%◌, ◌^◌, ◌<◌, List, [], ◌∷◌, ◌++◌, length, take, map, get_or, Bool, nat_lt, min, ◌==◌, if◌then◌else◌, ℤ, pos, negsuc, ◌+ℤ◌, ◌*ℤ◌, neg_ℤ, int_lt}
+use Rattle.std.specs.Prelude.{◌≡◌, ◌⊎◌, ℕ, zero, suc, ◌+◌, ◌-◌, ◌*◌, ◌/◌, ◌%◌, ◌^◌, ◌<◌, List, [], ◌∷◌, ◌++◌, length, take, map, get_or, Bool, nat_lt, min, ◌==◌, ◌&&◌, not, if◌then◌else◌, ℤ, pos, negsuc, ◌+ℤ◌, ◌-ℤ◌, ◌*ℤ◌, neg_ℤ, int_lt}
 use Rattle.std.specs.List.{All}
 use Rattle.std.specs.Int.{Width, int_wrap}
 use Rattle.jxlm_base.specs.Grid.{Grid, grid, at, place, below}
@@ -65,13 +65,20 @@ colour_of depth t table (negsuc k) c = difference depth k c
 abbrev pub is_delta : Palette → ℤ → Bool
 is_delta t i = int_lt i (pos t.nb_deltas)
 
+-- The index whose colour is taken. If the palette clamps indices, it is the nearest one from 0 to nb_colours - 1, and 0
+-- for a negative one, also if there are no colours.
+unfoldable pub colour_index : Palette → ℤ → ℤ
+colour_index t (pos i) = if t.clamps_indices && not (nat_lt i t.nb_colours) then pos t.nb_colours -ℤ pos 1 else pos i
+colour_index t (negsuc k) = if t.clamps_indices then pos 0 else negsuc k
+
 -- w bits a sample in memory, depth bits in the picture
 module _ (w : Width) (depth : ℕ) (t : Palette) (table : Grid ℤ) where
   -- the finished sample of index i in channel c, after these samples of the channel, which is so wide
   unfoldable pub finished_sample : ℤ → ℕ → List ℤ → ℕ → ℤ
   finished_sample i c before width =
-      let colour : ℤ = colour_of depth t table i c in
-      int_wrap w (if is_delta t i then colour +ℤ prediction t.wp_header before width t.d_pred else colour)
+      let j : ℤ = colour_index t i in
+      let colour : ℤ = colour_of depth t table j c in
+      int_wrap w (if is_delta t j then colour +ℤ prediction t.wp_header before width t.d_pred else colour)
 
   -- the finished channels have the index channel's sides, and each cell the finished sample of its index, row by row
   pub record IsPaletteOf (index : Grid ℤ) (finished : List (Grid ℤ)) : Type 0 where

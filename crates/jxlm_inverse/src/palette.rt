@@ -11,7 +11,7 @@ ghost use Rattle.jxlm_base.specs.Regions.{Lies, grid_of, store_meanings};
 ghost use Rattle.jxlm_base.specs.Outside.{KeepsOutside, SetsRow};
 ghost use Rattle.jxlm_predictor.specs.Predictions.{prediction};
 ghost use Rattle.jxlm_predictor.specs.Standing.{Setting, StandsAt, IsReady, HasSameRoom, room_of, setting, weights_of};
-ghost use Rattle.jxlm_inverse.specs.Palette.{colour_of, deltas, difference, implicit_colour, is_delta, listed_difference, finished_channel, IsPaletteOf, PaletteHasOneImage, PaletteLies};
+ghost use Rattle.jxlm_inverse.specs.Palette.{colour_index as the_colour_index, colour_of, deltas, difference, implicit_colour, is_delta, listed_difference, finished_channel, IsPaletteOf, PaletteHasOneImage, PaletteLies};
 ghost use Rattle.jxlm_inverse.specs.Inner.PaletteSteps.{ChannelLies, ChannelsDone, channel_at, columns_of, FillsOn, FillsOnBy, AreSimple, IsSimple, IsSimpleIndex, IsSimpleRow, SetsNext, StandsBefore, StandsNext, index_in, kept, number_of, table_in};
 
 use jxlm_base::grid::{AlignedGrid, Region};
@@ -281,6 +281,23 @@ struct FinishedChannel {
     number: usize,
 }
 
+/// The index whose colour is taken: if the palette clamps indices, the nearest one of the table.
+fn colour_index(palette: &Palette, index: i32) -> i32
+    ensures { result ≡ the_colour_index palette.now index }
+{
+    if !palette.clamps_indices {
+        return index;
+    }
+    if index < 0 {
+        return 0;
+    }
+    if index.unsigned_abs() < palette.nb_colours {
+        index
+    } else {
+        palette.nb_colours as i32 - 1
+    }
+}
+
 /// The colour of an index in channel `c`, before any prediction: it is in the table, is implicit, or is a
 /// difference.
 fn colour<S: Sample>(
@@ -529,7 +546,7 @@ fn predict_cell<S: Sample>(
     ensures stands { StandsNext S.width bit_depth palette.now channel S.to_int x y store.old state.old state.new }
     ensures room { HasSameRoom state.old state.new }
 {
-    let index = number_at(store, channel.index, x, y);
+    let index = colour_index(palette, number_at(store, channel.index, x, y));
     let colour = colour(
         palette,
         store,

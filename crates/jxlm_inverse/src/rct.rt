@@ -36,109 +36,119 @@ impl<S: Sample> RctScratch<S> {
     }
 }
 
+/// The regions of three channels.
+#[derive(Clone, Copy)]
+pub struct ColourRegions {
+    /// That of the first channel.
+    pub first: Region,
+    /// That of the second one.
+    pub second: Region,
+    /// That of the third one.
+    pub third: Region,
+}
+
+/// How the colours of a transform are formed, and in which order they are.
+#[derive(Clone, Copy)]
+struct RctKind {
+    ty: u32,
+    permutation: u32,
+}
+
 /// Writes row `y` of each of three regions.
 fn write_rows<S: Sample>(
     store: &mut [AlignedGrid<S>],
-    first: Region,
-    second: Region,
-    third: Region,
+    regions: ColourRegions,
     y: usize,
     a: &[S],
     b: &[S],
     c: &[S],
 )
-    requires three { AreThree first second third store.old }
-    requires in_rows { y < first.height }
-    requires first_length { length a.now ≡ first.width }
-    requires second_length { length b.now ≡ first.width }
-    requires third_length { length c.now ≡ first.width }
-    ensures { PutsRow first second third S.to_int y (triple_at (map S.to_int a.now) (map S.to_int b.now)
-        (map S.to_int c.now)) store.old store.new }
+    requires three { AreThree regions.first regions.second regions.third store.old }
+    requires in_rows { y < regions.first.height }
+    requires first_length { length a.now ≡ regions.first.width }
+    requires second_length { length b.now ≡ regions.first.width }
+    requires third_length { length c.now ≡ regions.first.width }
+    ensures { PutsRow regions.first regions.second regions.third S.to_int y
+        (triple_at (map S.to_int a.now) (map S.to_int b.now) (map S.to_int c.now)) store.old store.new }
 {
-    region_set_row(store, first, y, a);
-    region_set_row(store, second, y, b);
-    region_set_row(store, third, y, c);
+    region_set_row(store, regions.first, y, a);
+    region_set_row(store, regions.second, y, b);
+    region_set_row(store, regions.third, y, c);
 }
 
 /// Writes row `y` of each of three regions, in the order that the permutation names.
 fn write_permuted<S: Sample>(
     permutation: u32,
     store: &mut [AlignedGrid<S>],
-    first: Region,
-    second: Region,
-    third: Region,
+    regions: ColourRegions,
     y: usize,
     a: &[S],
     b: &[S],
     c: &[S],
 )
-    requires three { AreThree first second third store.old }
-    requires in_rows { y < first.height }
-    requires first_length { length a.now ≡ first.width }
-    requires second_length { length b.now ≡ first.width }
-    requires third_length { length c.now ≡ first.width }
-    ensures { PutsRow first second third S.to_int y (λ x. permute permutation
+    requires three { AreThree regions.first regions.second regions.third store.old }
+    requires in_rows { y < regions.first.height }
+    requires first_length { length a.now ≡ regions.first.width }
+    requires second_length { length b.now ≡ regions.first.width }
+    requires third_length { length c.now ≡ regions.first.width }
+    ensures { PutsRow regions.first regions.second regions.third S.to_int y (λ x. permute permutation
         (triple_at (map S.to_int a.now) (map S.to_int b.now) (map S.to_int c.now) x)) store.old store.new }
 {
     match permutation {
-        1 => write_rows(store, first, second, third, y, c, a, b),
-        2 => write_rows(store, first, second, third, y, b, c, a),
-        3 => write_rows(store, first, second, third, y, a, c, b),
-        4 => write_rows(store, first, second, third, y, b, a, c),
-        5 => write_rows(store, first, second, third, y, c, b, a),
-        _ => write_rows(store, first, second, third, y, a, b, c),
+        1 => write_rows(store, regions, y, c, a, b),
+        2 => write_rows(store, regions, y, b, c, a),
+        3 => write_rows(store, regions, y, a, c, b),
+        4 => write_rows(store, regions, y, b, a, c),
+        5 => write_rows(store, regions, y, c, b, a),
+        _ => write_rows(store, regions, y, a, b, c),
     }
 }
 
 /// Finishes row `y` of each of three regions. The rows lent are written over.
 fn finish_row<S: Sample>(
-    ty: u32,
-    permutation: u32,
+    kind: RctKind,
     store: &mut [AlignedGrid<S>],
-    first: Region,
-    second: Region,
-    third: Region,
+    regions: ColourRegions,
     y: usize,
     a: &mut [S],
     b: &mut [S],
     c: &mut [S],
 )
-    requires kind { ty ≤ 6 }
-    requires three { AreThree first second third store.old }
-    requires in_rows { y < first.height }
-    requires first_length { length a.old ≡ first.width }
-    requires second_length { length b.old ≡ first.width }
-    requires third_length { length c.old ≡ first.width }
-    ensures { FinishesRow first second third S.to_int S.width ty permutation y store.old store.new }
+    requires kind { kind.ty ≤ 6 }
+    requires three { AreThree regions.first regions.second regions.third store.old }
+    requires in_rows { y < regions.first.height }
+    requires first_length { length a.old ≡ regions.first.width }
+    requires second_length { length b.old ≡ regions.first.width }
+    requires third_length { length c.old ≡ regions.first.width }
+    ensures { FinishesRow regions.first regions.second regions.third S.to_int S.width kind.ty kind.permutation y
+        store.old store.new }
 {
-    a.copy_from_slice(region_row(store, first, y));
-    b.copy_from_slice(region_row(store, second, y));
-    c.copy_from_slice(region_row(store, third, y));
-    S::rct_rows(ty, a, b, c);
-    write_permuted(permutation, store, first, second, third, y, a, b, c);
+    a.copy_from_slice(region_row(store, regions.first, y));
+    b.copy_from_slice(region_row(store, regions.second, y));
+    c.copy_from_slice(region_row(store, regions.third, y));
+    S::rct_rows(kind.ty, a, b, c);
+    write_permuted(kind.permutation, store, regions, y, a, b, c);
 }
 
 /// Finishes three regions, row by row. The rows lent are written over.
 fn finish_regions<S: Sample>(
-    ty: u32,
-    permutation: u32,
+    kind: RctKind,
     store: &mut [AlignedGrid<S>],
-    first: Region,
-    second: Region,
-    third: Region,
+    regions: ColourRegions,
     a: &mut [S],
     b: &mut [S],
     c: &mut [S],
 )
-    requires kind { ty ≤ 6 }
-    requires three { AreThree first second third store.old }
-    requires first_length { length a.old ≡ first.width }
-    requires second_length { length b.old ≡ first.width }
-    requires third_length { length c.old ≡ first.width }
-    ensures { FinishedUntil first second third S.to_int S.width ty permutation first.height store.old store.new }
+    requires kind { kind.ty ≤ 6 }
+    requires three { AreThree regions.first regions.second regions.third store.old }
+    requires first_length { length a.old ≡ regions.first.width }
+    requires second_length { length b.old ≡ regions.first.width }
+    requires third_length { length c.old ≡ regions.first.width }
+    ensures { FinishedUntil regions.first regions.second regions.third S.to_int S.width kind.ty kind.permutation
+        regions.first.height store.old store.new }
 {
-    for y in 0..first.height {
-        finish_row(ty, permutation, store, first, second, third, y, a, b, c);
+    for y in 0..regions.first.height {
+        finish_row(kind, store, regions, y, a, b, c);
     }
 }
 
@@ -169,7 +179,13 @@ pub fn inverse_rct_within<S: Sample>(
     let a = scratch.first.slice_mut(0..first.width);
     let b = scratch.second.slice_mut(0..first.width);
     let c = scratch.third.slice_mut(0..first.width);
-    finish_regions(ty, permutation, store, first, second, third, a, b, c);
+    let kind = RctKind { ty, permutation };
+    let regions = ColourRegions {
+        first,
+        second,
+        third,
+    };
+    finish_regions(kind, store, regions, a, b, c);
 }
 
 /// Undoes a colour transform of three regions (ISO/IEC 18181-1, Modular: reversible colour transforms).

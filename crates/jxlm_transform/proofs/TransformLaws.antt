@@ -6,7 +6,7 @@ use Rattle.jxlm_bits.specs.declared.bits.U32Spec.TheVariants.{Const, Offset}
 use Rattle.jxlm_bits.proofs.GrammarLaws.{exact-give, exact-fail, exact-number, exact-bind, exact-either, exact-repeated, exact-flag, exact-u32}
 use Rattle.jxlm_predictor.specs.Predictions.{predictors}
 use Rattle.jxlm_weighted.specs.declared.weights.WpHeader.{WpHeader}
-use Rattle.jxlm_transform.specs.Params.{columns}
+use Rattle.jxlm_transform.specs.Params.{clamps_indices, columns}
 use Rattle.jxlm_transform.specs.declared.param.PaletteTables.{PaletteTables}
 use Rattle.jxlm_transform.specs.Transforms.{OfRct, OfPalette, OfSqueeze, begin_channel, rct, predictor, weights_for, palette_by, squeeze_params, squeeze, transform_by}
 
@@ -33,7 +33,7 @@ exact-palette tables weights =
     bind (exact-u32 (Offset 0 8) (Offset 256 10) (Offset 1280 12) (Offset 5376 16)) λ colours.
     bind (exact-u32 (Const 0) (Offset 1 8) (Offset 257 10) (Offset 1281 16)) λ deltas.
     bind exact-predictor λ predictor.
-    exact-give (record { begin_c = begin; num_c = channels; nb_colours = columns tables colours deltas; nb_deltas = deltas; d_pred = predictor; wp_header = weights_for predictor weights })
+    exact-give (record { begin_c = begin; num_c = channels; nb_colours = columns tables colours deltas; nb_deltas = deltas; d_pred = predictor; clamps_indices = clamps_indices tables channels deltas predictor; wp_header = weights_for predictor weights })
 
 exact-squeeze_params : IsExact squeeze_params
 exact-squeeze_params =

@@ -1,9 +1,11 @@
 -- What an image is read by.
-use Rattle.std.specs.Prelude.{◌≡◌, ℕ, ◌+◌, ◌≤◌, ◌^◌, List, length, replicate, Bool, true, false, Option}
+use Rattle.std.specs.Prelude.{◌≡◌, ℕ, ◌+◌, ◌≤◌, ◌^◌, ◌==◌, ◌&&◌, List, length, replicate, Bool, true, false, Option}
 use Rattle.std.specs.Borrow.{Bor}
 use Rattle.std.specs.Global.{Vec}
 use Rattle.std.specs.Int.{IsPowerOfTwo}
 use Rattle.std.specs.List.{All}
+use Rattle.jxlm_predictor.specs.declared.predictor.Predictor.{Predictor}
+use Rattle.jxlm_predictor.specs.declared.predictor.Predictor.TheVariants.{Zero}
 use Rattle.jxlm_tree.specs.declared.ma.MaConfig.{MaConfig}
 use Rattle.jxlm_transform.specs.declared.param.ChannelShift.{ChannelShift}
 use Rattle.jxlm_transform.specs.declared.param.ChannelShift.TheVariants.{Shifts}
@@ -47,6 +49,16 @@ has_deltas OfDeltasToo = true
 abbrev pub columns : PaletteTables → ℕ → ℕ → ℕ
 columns OfColours colours deltas = colours
 columns OfDeltasToo colours deltas = colours + deltas
+
+-- predictor 0, whose prediction is 0
+abbrev pub is_zero : Predictor → Bool
+is_zero Zero = true
+is_zero other = false
+
+-- Whether a palette of this number of channels, of deltas and of this predictor clamps an index outside its table to it:
+-- by tables of deltas too, if it has one channel, no deltas and predictor 0.
+abbrev pub clamps_indices : PaletteTables → ℕ → ℕ → Predictor → Bool
+clamps_indices tables channels deltas predictor = has_deltas tables && (channels == 1) && (deltas == 0) && is_zero predictor
 
 -- whether property 9 is clamped where a channel's tree asks for it alone
 abbrev pub are_clamped : GradientSums → Bool

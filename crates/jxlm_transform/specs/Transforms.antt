@@ -10,7 +10,7 @@ use Rattle.jxlm_predictor.specs.Predictions.{predictors}
 use Rattle.jxlm_predictor.specs.declared.predictor.Predictor.{Predictor}
 use Rattle.jxlm_predictor.specs.declared.predictor.Predictor.TheVariants.{SelfCorrecting}
 use Rattle.jxlm_weighted.specs.declared.weights.WpHeader.{WpHeader}
-use Rattle.jxlm_transform.specs.Params.{columns}
+use Rattle.jxlm_transform.specs.Params.{clamps_indices, columns}
 use Rattle.jxlm_transform.specs.declared.param.PaletteTables.{PaletteTables}
 use Rattle.jxlm_transform.specs.declared.param.PaletteTables.TheVariants.{OfColours}
 use Rattle.jxlm_transform.specs.declared.transform.Rct.{Rct}
@@ -53,7 +53,7 @@ abbrev pub weights_for : Predictor → WpHeader → Option WpHeader
 weights_for SelfCorrecting weights = Some weights
 weights_for other weights = None
 
--- a palette: its range, how wide its table is by its colours and deltas, and the predictor of deltas
+-- a palette: its range, how wide its table is by its colours and deltas, the predictor of deltas, and whether it clamps indices
 abbrev pub palette_by : PaletteTables → WpHeader → Grammar Palette
 palette_by tables weights = do
   begin ← begin_channel
@@ -61,7 +61,7 @@ palette_by tables weights = do
   colours ← u32 (Offset 0 8) (Offset 256 10) (Offset 1280 12) (Offset 5376 16)
   deltas ← u32 (Const 0) (Offset 1 8) (Offset 257 10) (Offset 1281 16)
   predictor ← predictor
-  give (record { begin_c = begin; num_c = channels; nb_colours = columns tables colours deltas; nb_deltas = deltas; d_pred = predictor; wp_header = weights_for predictor weights })
+  give (record { begin_c = begin; num_c = channels; nb_colours = columns tables colours deltas; nb_deltas = deltas; d_pred = predictor; clamps_indices = clamps_indices tables channels deltas predictor; wp_header = weights_for predictor weights })
 
 -- by tables of colours alone
 abbrev pub palette : WpHeader → Grammar Palette

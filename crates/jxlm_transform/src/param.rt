@@ -4,11 +4,12 @@ ghost use Rattle.std.specs.Prelude.{◌≡◌, ◌+◌, ◌<◌, ◌≤◌, ◌�
 ghost use Rattle.std.specs.Int.{div_ceil};
 ghost use Rattle.std.specs.List.{All, list_any};
 ghost use Rattle.jxlm_transform.specs.Shifts.{IsValidShift, shift_size, jpeg_shift, hshift, vshift, IsShift, upsampled_side as the_upsampled_side};
-ghost use Rattle.jxlm_transform.specs.Params.{IsSide, IsValidChannel, IsGroupDim, IsValidParams, OneSizeIsValid, OneSizeOfImageIsValid, PowersAreGroupDims, are_clamped, columns, has_deltas, params_of, channel_params, with_sums, with_tables};
+ghost use Rattle.jxlm_transform.specs.Params.{IsSide, IsValidChannel, IsGroupDim, IsValidParams, OneSizeIsValid, OneSizeOfImageIsValid, PowersAreGroupDims, are_clamped, clamps_indices, columns, has_deltas, params_of, channel_params, with_sums, with_tables};
 ghost use Rattle.jxlm_bits.specs.ErrorKind.{NoMemory, kind_of};
 
 use jxlm_bits::decoder::Decoder;
 use jxlm_bits::error::Result;
+use jxlm_predictor::predictor::Predictor;
 use jxlm_tree::ma::MaConfig;
 use std::alloc::Global;
 
@@ -189,7 +190,8 @@ fn is_shift(shift: i32) -> bool
 pub enum PaletteTables {
     /// One for each colour, the first of which may be deltas. So the Rust crate `jxl-modular` reads them.
     OfColours,
-    /// One for each delta, and after them one for each colour. So files of JPEG XL hold them.
+    /// One for each delta, and after them one for each colour. A palette of one channel, without deltas and with
+    /// predictor 0, clamps an index outside its table to it. So libjxl reads files.
     OfDeltasToo,
 }
 
@@ -213,6 +215,13 @@ impl PaletteTables {
             PaletteTables::OfColours => nb_colours,
             PaletteTables::OfDeltasToo => nb_colours + nb_deltas,
         }
+    }
+
+    /// Whether a palette of a header clamps an index outside its table to it.
+    pub(crate) fn clamp_indices(&self, num_c: u32, nb_deltas: u32, d_pred: Predictor) -> bool
+        ensures { result ≡ clamps_indices self.now num_c nb_deltas d_pred }
+    {
+        self.has_deltas() && num_c == 1 && nb_deltas == 0 && matches!(d_pred, Predictor::Zero)
     }
 }
 

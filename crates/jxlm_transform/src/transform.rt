@@ -44,6 +44,8 @@ pub struct Palette {
     pub nb_deltas: u32,
     /// The predictor of these.
     pub d_pred: Predictor,
+    /// Whether an index outside the table is clamped to it.
+    pub clamps_indices: bool,
     /// The header's weights, where the predictor is the weighted (self-correcting) one.
     pub wp_header: Option<WpHeader>,
 }
@@ -216,6 +218,7 @@ impl Palette {
             nb_colours: tables.columns(nb_colours, nb_deltas),
             nb_deltas,
             d_pred,
+            clamps_indices: tables.clamp_indices(num_c, nb_deltas, d_pred),
             wp_header: kept_weights(d_pred, wp_header),
         })
     }

@@ -1,4 +1,4 @@
-use Rattle.std.proofs.Common.{◌≡◌, ◌+◌, ℕ, take, ap, subst, sym, ◌∙◌, arith}
+use Rattle.std.proofs.Common.{◌≤◌, ◌+◌, ℕ, take, ap, subst, sym, arith}
 use Rattle.std.specs.Io.KnownBytes.{Appends}
 use Rattle.jxl_netpbm.specs.Output.{AppendsBeginning}
 use Rattle.jxl_netpbm.specs.Inner.Rows.{row_text, rows_text}
@@ -29,7 +29,7 @@ loop-k-preserved g c =
     let text = rows_text raster (c.loop-k.k + 1) in
     let pending : IsPending held now made text =
     pending_more held now (take c.loop-k.end c.loop-k.piece) (rows_text raster c.loop-k.k) c.loop-k.invariant.pending made (row_text raster c.loop-k.k) text c.put_row-end.ensures.text (below_more (row_text raster) c.loop-k.k) in
-    let placed : c.put_row-end.result ≡ c.loop-k.end + c.args.len = c.put_row-end.ensures.end ∙ ap (λ (n : ℕ). c.loop-k.end + n) (sym c.requires.len) in
+    let placed : c.put_row-end.result ≤ c.loop-k.end + c.args.room = subst (λ (n : ℕ). c.put_row-end.result ≤ c.loop-k.end + n) (sym c.requires.row) c.put_row-end.ensures.end in
     elim c.if-piece-end.branch [
       | then-piece-end+in_ok-write_whole w ↦
           let after = g.W.Write.contents w.write_whole.new.output in

@@ -5,6 +5,6 @@ use Rattle.jxl_netpbm.proofs.raster.write_rows.Given as goal
 
 abbrev pub invariant-loop-k : goal.invariant-loop-k
 invariant-loop-k g l = record {
-  room : l.end + l.len ≤ length l.piece;
+  room : l.end + l.room ≤ length l.piece;
   pending : IsPending (g.W.Write.contents l.initial.output) (g.W.Write.contents l.output) (take l.end l.piece) (rows_text l.raster l.k);
 }

@@ -13,8 +13,8 @@ use Rattle.jxl_patches.proofs.dictionary.one_rectangle.Goals as goal
 pub returns-clause-counted : goal.returns-clause-counted
 returns-clause-counted g c =
     let d = g.D.Decoder.meaning in
-    let size = c.args.size in
-    let kinds = c.args.kinds in
+    let size = c.args.frame.size in
+    let kinds = c.args.frame.kinds in
     let a = patches_of c.args.growing.now in
     let r = c.in_ok-rectangle.rectangle in
     let first = c.len-done.result in

@@ -20,8 +20,8 @@ returns-in_err-cells-clause-gives g c =
     let s = c.loop.decoder in
     let at = position_of c.loop.bits in
     let q = position_of c.one_rectangle.new.bits in
-    let one : UnlessMemory error (IsErrorAt ((one_rectangle d c.args.size c.args.kinds (sizes_in c.args.slots.now) c.args.limit x s).read bytes at) error q) = rw c.loop.invariant.same at c.in_err-cells.ensures.gives in
-    let this = chain_fails (one_rectangle d c.args.size c.args.kinds (sizes_in c.args.slots.now) c.args.limit) bytes c.args.count c.loop.counter at q x s error c.loop-test.true one in
+    let one : UnlessMemory error (IsErrorAt ((one_rectangle d c.args.frame.size c.args.frame.kinds (sizes_in c.args.slots.now) c.args.limit x s).read bytes at) error q) = rw c.loop.invariant.same at c.in_err-cells.ensures.gives in
+    let this = chain_fails (one_rectangle d c.args.frame.size c.args.frame.kinds (sizes_in c.args.slots.now) c.args.limit) bytes c.args.count c.loop.counter at q x s error c.loop-test.true one in
     rw (p.1, p.2) (rw c.loop.invariant.read at this)
 
 pub loop-preserved : goal.loop-preserved
@@ -39,7 +39,7 @@ loop-preserved g c =
       same = c.one_rectangle.ensures.bytes ∙ c.loop.invariant.same;
       clusters = c.in_ok-cells.ensures.clusters;
       counted = c.in_ok-cells.ensures.counted;
-      read = sym (chain_step (one_rectangle d c.args.size c.args.kinds (sizes_in c.args.slots.now) c.args.limit) bytes c.args.count c.loop.counter at q x y s t c.loop-test.true one) ∙ c.loop.invariant.read;
+      read = sym (chain_step (one_rectangle d c.args.frame.size c.args.frame.kinds (sizes_in c.args.slots.now) c.args.limit) bytes c.args.count c.loop.counter at q x y s t c.loop-test.true one) ∙ c.loop.invariant.read;
     }
 
 pub returns-clause-gives : goal.returns-clause-gives
@@ -47,5 +47,5 @@ returns-clause-gives g c =
     let d = g.D.Decoder.meaning in
     let x = patches_of c.loop.growing in
     let s = c.loop.decoder in
-    let end = chain_ends (one_rectangle d c.args.size c.args.kinds (sizes_in c.args.slots.now) c.args.limit) (bytes_of c.args.bits.now) c.args.count c.loop.counter (position_of c.loop.bits) x s c.loop-test.false in
+    let end = chain_ends (one_rectangle d c.args.frame.size c.args.frame.kinds (sizes_in c.args.slots.now) c.args.limit) (bytes_of c.args.bits.now) c.args.count c.loop.counter (position_of c.loop.bits) x s c.loop-test.false in
     sym c.loop.invariant.read ∙ end

@@ -12,6 +12,6 @@ invariant-loop g l = record {
   same : bytes_of l.bits ≡ bytes_of l.fn.bits;
   clusters : length (g.D.Decoder.meaning.cluster_map l.decoder) ≡ 10;
   counted : l.cells ≡ sum_by area l.growing.places.items;
-  read : (chain (one_rectangle g.D.Decoder.meaning l.size l.kinds (sizes_in l.slots) l.limit) (l.count - l.counter) (patches_of l.growing) l.decoder).read (bytes_of l.fn.bits) (position_of l.bits)
-      ≡ (chain (one_rectangle g.D.Decoder.meaning l.size l.kinds (sizes_in l.slots) l.limit) l.count (patches_of l.fn.growing) l.fn.decoder).read (bytes_of l.fn.bits) (position_of l.fn.bits);
+  read : (chain (one_rectangle g.D.Decoder.meaning l.frame.size l.frame.kinds (sizes_in l.slots) l.limit) (l.count - l.counter) (patches_of l.growing) l.decoder).read (bytes_of l.fn.bits) (position_of l.bits)
+      ≡ (chain (one_rectangle g.D.Decoder.meaning l.frame.size l.frame.kinds (sizes_in l.slots) l.limit) l.count (patches_of l.fn.growing) l.fn.decoder).read (bytes_of l.fn.bits) (position_of l.fn.bits);
 }

@@ -19,8 +19,8 @@ returns-in_err-place-clause-gives g c =
     let s = c.loop.decoder in
     let at = position_of c.loop.bits in
     let q = position_of c.place.new.bits in
-    let one : UnlessMemory error (IsErrorAt ((one_place d c.args.size c.args.kinds c.args.first c.args.source x s).read bytes at) error q) = rw c.loop.invariant.same at c.in_err-place.ensures.gives in
-    let this = chain_fails (one_place d c.args.size c.args.kinds c.args.first c.args.source) bytes c.args.count c.loop.counter at q x s error c.loop-test.true one in
+    let one : UnlessMemory error (IsErrorAt ((one_place d c.args.frame.size c.args.frame.kinds c.args.first c.args.source x s).read bytes at) error q) = rw c.loop.invariant.same at c.in_err-place.ensures.gives in
+    let this = chain_fails (one_place d c.args.frame.size c.args.frame.kinds c.args.first c.args.source) bytes c.args.count c.loop.counter at q x s error c.loop-test.true one in
     rw (p.1, p.2) (rw c.loop.invariant.read at this)
 
 pub loop-preserved : goal.loop-preserved
@@ -37,7 +37,7 @@ loop-preserved g c =
     record {
       same = c.place.ensures.bytes ∙ c.loop.invariant.same;
       clusters = c.in_ok-place.ensures.clusters;
-      read = sym (chain_step (one_place d c.args.size c.args.kinds c.args.first c.args.source) bytes c.args.count c.loop.counter at q x y s t c.loop-test.true one) ∙ c.loop.invariant.read;
+      read = sym (chain_step (one_place d c.args.frame.size c.args.frame.kinds c.args.first c.args.source) bytes c.args.count c.loop.counter at q x y s t c.loop-test.true one) ∙ c.loop.invariant.read;
     }
 
 pub returns-clause-gives : goal.returns-clause-gives
@@ -45,5 +45,5 @@ returns-clause-gives g c =
     let d = g.D.Decoder.meaning in
     let x = patches_of c.loop.growing in
     let s = c.loop.decoder in
-    let end = chain_ends (one_place d c.args.size c.args.kinds c.args.first c.args.source) (bytes_of c.args.bits.now) c.args.count c.loop.counter (position_of c.loop.bits) x s c.loop-test.false in
+    let end = chain_ends (one_place d c.args.frame.size c.args.frame.kinds c.args.first c.args.source) (bytes_of c.args.bits.now) c.args.count c.loop.counter (position_of c.loop.bits) x s c.loop-test.false in
     sym c.loop.invariant.read ∙ end

@@ -5,7 +5,7 @@ use Rattle.std.proofs.lemmas.Int.{to_z-of_z, fits_signed_from_abs}
 use Rattle.jxlm_base.specs.Regions.{store_meanings}
 use Rattle.jxlm_predictor.specs.Standing.{StandsAt, setting}
 use Rattle.jxlm_predictor.specs.Predictions.{prediction}
-use Rattle.jxlm_inverse.specs.Palette.{colour_of, finished_sample, is_delta}
+use Rattle.jxlm_inverse.specs.Palette.{colour_index, colour_of, finished_sample, is_delta}
 use Rattle.jxlm_inverse.specs.Inner.PaletteSteps.{table_in}
 use Rattle.jxlm_inverse.proofs.PaletteSteps.{finished_is, is_ready}
 use Rattle.jxlm_inverse.proofs.palette.predict_cell.Goals as goal
@@ -20,17 +20,20 @@ returns-clause-sets g c = λ before stands.
     let w = g.S.Sealed.width in
     let to_int = g.S.Sealed.to_int in
     let ints = store_meanings to_int c.args.store.now in
-    let i = c.number_at-index.result in
+    let n = c.number_at.result in
+    let i = c.colour_index-index.result in
     let bound = c.colour-colour.ensures.bound in
     let narrow : FitsSigned w32 i = search rules in
+    let small : FitsSigned w32 n = search rules in
+    let same : i ≡ colour_index t n = cc (c.colour_index-index.ensures, to_z-of_z w32 n small) in
     let wide : FitsSigned w64 c.colour-colour.result = fits_signed_from_abs w64 c.colour-colour.result (omega arith) in
     let value : to_int c.next_sample-sample.result ≡ int_wrap w (if is_delta t i then c.colour-colour.result +ℤ prediction t.wp_header before p.index.width t.d_pred else c.colour-colour.result) =
     cc (c.next_sample-sample.ensures.value (setting p.index.width t.wp_header []) before stands, to_z-of_z w32 i narrow, to_z-of_z w64 c.colour-colour.result wide) in
     let colour : c.colour-colour.result ≡ colour_of c.args.bit_depth t (table_in p ints) i p.number = cc (c.colour-colour.ensures.value, to_z-of_z w32 i narrow) in
     record {
       sample = c.next_sample-sample.result;
-      sample_is = value ∙ finished_is w c.args.bit_depth t (table_in p ints) i p.number before p.index.width c.colour-colour.result colour
-          ∙ ap (λ z. finished_sample w c.args.bit_depth t (table_in p ints) z p.number before p.index.width) c.number_at-index.ensures;
+      sample_is = value ∙ finished_is w c.args.bit_depth t (table_in p ints) n i p.number before p.index.width c.colour-colour.result same colour
+          ∙ ap (λ z. finished_sample w c.args.bit_depth t (table_in p ints) z p.number before p.index.width) c.number_at.ensures;
       written = c.region_set.ensures;
     }
 

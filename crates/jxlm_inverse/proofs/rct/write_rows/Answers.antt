@@ -9,23 +9,23 @@ region_set_row-requires-2 g c =
     let three = c.requires.three in
     let height = three.second_height in
     record {
-      lies = lies_still (row_of c.args.first c.args.y ∷ []) c.args.store.now c.region_set_row.new.store c.args.second c.region_set_row.ensures.keeps three.second;
+      lies = lies_still (row_of c.args.regions.first c.args.y ∷ []) c.args.store.now c.region_set_row.new.store c.args.regions.second c.region_set_row.ensures.keeps three.second;
       in_rows = omega (arith, height, c.requires.in_rows);
       fits = c.requires.second_length ∙ sym three.second_width;
     }
 
 pub region_set_row-requires-3 : goal.region_set_row-requires-3
 region_set_row-requires-3 g c =
-    let three = three_still c.args.first c.args.second c.args.third (row_of c.args.first c.args.y ∷ []) c.args.store.now c.region_set_row.new.store c.region_set_row.ensures.keeps c.requires.three in
+    let three = three_still c.args.regions.first c.args.regions.second c.args.regions.third (row_of c.args.regions.first c.args.y ∷ []) c.args.store.now c.region_set_row.new.store c.region_set_row.ensures.keeps c.requires.three in
     let height = three.third_height in
     record {
-      lies = lies_still (row_of c.args.second c.args.y ∷ []) c.region_set_row.new.store c.region_set_row-2.new.store c.args.third c.region_set_row-2.ensures.keeps three.third;
+      lies = lies_still (row_of c.args.regions.second c.args.y ∷ []) c.region_set_row.new.store c.region_set_row-2.new.store c.args.regions.third c.region_set_row-2.ensures.keeps three.third;
       in_rows = omega (arith, height, c.requires.in_rows);
       fits = c.requires.third_length ∙ sym three.third_width;
     }
 
 pub returns : goal.returns
 returns g c =
-    puts_row c.args.first c.args.second c.args.third g.S.Sealed.to_int c.args.y c.args.a.now c.args.b.now c.args.c.now
+    puts_row c.args.regions.first c.args.regions.second c.args.regions.third g.S.Sealed.to_int c.args.y c.args.a.now c.args.b.now c.args.c.now
     c.args.store.now c.region_set_row.new.store c.region_set_row-2.new.store c.region_set_row-3.new.store c.requires.three c.requires.in_rows
     c.region_set_row.ensures c.region_set_row-2.ensures c.region_set_row-3.ensures
