@@ -1,6 +1,7 @@
 -- A symbol that is written_state by its slot is read.
 use Rattle.std.proofs.Common.{◌≡◌, ℕ, ◌+◌, ◌*◌, ◌/◌, ◌%◌, ◌^◌, ◌<◌, ◌≤◌, List, Bool, true, false, cond, Ok, refl, sym, ap, ◌∙◌, subst, arith}
 use Rattle.std.specs.List.{sum}
+use Rattle.std.proofs.lemmas.Bool.{false≢true, le-leb, lt-leb}
 use Rattle.std.proofs.lemmas.Nat.{div_below}
 use Rattle.std.proofs.Math.Nat.{mul_comm}
 use Rattle.std.specs.Prelude.{nat_le, slice_index}
@@ -78,6 +79,26 @@ written_leads counts log symbol state total occurs least below n r place count v
     leads counts log symbol state total occurs least below (r % slice_index counts symbol) place count value is' number_is g' h' in
     subst (λ (x : ℕ). Leads (buckets_of counts log) (whole / 2 ^ log) symbol (r / x * 4096 + place) state count value) (sym e)
     (subst (λ (x : ℕ). Leads (buckets_of counts log) (whole / 2 ^ log) symbol (x / slice_index counts symbol * 4096 + place) state count value) (sym f') all)
+
+-- a state that is small enough for its symbol keeps its bits
+pub kept_leads : (counts : List ℕ) (log symbol state : ℕ) → sum counts ≡ 4096 → 0 < slice_index counts symbol → 2 ^ 16 ≤ state → state < 2 ^ 32 →
+    (n before place : ℕ) → n ≡ slice_index counts symbol → state / 1048576 < n → IsPlaceOf counts log symbol (state % n) place → before ≡ state / n * 4096 + place →
+    Leads (buckets_of counts log) (whole / 2 ^ log) symbol before state 0 0
+kept_leads counts log symbol state total occurs least below n before place e few is b =
+    let t : nat_le (n * 2 ^ 20) state ≡ false = lt-leb (n * 2 ^ 20) state (omega (arith, few)) in
+    subst (λ (x : ℕ). Leads (buckets_of counts log) (whole / 2 ^ log) symbol x state 0 0) (sym b)
+    (written_leads counts log symbol state total occurs least below n state place 0 0 e
+    (sym (ap (λ (x : Bool). cond x (state / 2 ^ 16) state) t)) (sym (ap word_count t)) (λ large. absurd (false≢true (sym t ∙ large))) is)
+
+-- the last 16 bits of a larger one are written
+pub reduced_leads : (counts : List ℕ) (log symbol state : ℕ) → sum counts ≡ 4096 → 0 < slice_index counts symbol → 2 ^ 16 ≤ state → state < 2 ^ 32 →
+    (n before place : ℕ) → n ≡ slice_index counts symbol → n ≤ state / 1048576 → IsPlaceOf counts log symbol (state / 65536 % n) place → before ≡ state / 65536 / n * 4096 + place →
+    Leads (buckets_of counts log) (whole / 2 ^ log) symbol before state 16 (state % 65536)
+reduced_leads counts log symbol state total occurs least below n before place e many is b =
+    let t : nat_le (n * 2 ^ 20) state ≡ true = le-leb (n * 2 ^ 20) state (omega (arith, many)) in
+    subst (λ (x : ℕ). Leads (buckets_of counts log) (whole / 2 ^ log) symbol x state 16 (state % 65536)) (sym b)
+    (written_leads counts log symbol state total occurs least below n (state / 65536) place 16 (state % 65536) e
+    (sym (ap (λ (x : Bool). cond x (state / 2 ^ 16) state) t)) (sym (ap word_count t)) (λ large. refl) is)
 
 -- the state that is written_state is a number of 32 bits
 pub written_fits : (r n place : ℕ) → 0 < n → r < n * 2 ^ 20 → place < 4096 → r / n * 4096 + place < 2 ^ 32

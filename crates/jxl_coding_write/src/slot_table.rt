@@ -92,28 +92,6 @@ fn places_of(
     Ok(places)
 }
 
-/// Splits the last 16 bits off a state that is too large for a symbol of this count.
-fn reduce(state: u32, count: u32) -> SymbolBits
-    ensures state { result.state ≡ (if nat_le (count * 2 ^ 20) state then state / 2 ^ 16 else state) }
-    ensures count { result.bits.count ≡ (if nat_le (count * 2 ^ 20) state then 16 else 0) }
-    ensures value { nat_le (count * 2 ^ 20) state ≡ true → result.bits.value ≡ state % 2 ^ 16 }
-    ensures small { 0 < count → result.state < count * 2 ^ 20 }
-{
-    if u64::from(count) * 1048576 <= u64::from(state) {
-        return SymbolBits {
-            state: state / 65536,
-            bits: BitPiece {
-                value: state % 65536,
-                count: 16,
-            },
-        };
-    }
-    SymbolBits {
-        state,
-        bits: BitPiece { value: 0, count: 0 },
-    }
-}
-
 impl SlotTable {
     /// The table of a distribution of at most 2^log symbols.
     pub fn new(alloc: Global, counts: Vec<u32>, log: u32) -> Result<SlotTable, AllocError>
@@ -151,6 +129,18 @@ impl SlotTable {
         self.places[(self.starts[symbol as usize] + number) as usize]
     }
 
+    /// The state before a symbol that occurs, if the state after it, without the bits that follow, is not too large.
+    fn before(&self, reduced: u32, symbol: u32, count: u32) -> u32
+        requires occurs { 0 < slice_index self.now.counts.items symbol }
+        requires count { count ≡ slice_index self.now.counts.items symbol }
+        requires small { reduced < count * 2 ^ 20 }
+        ensures { (place : ℕ) × IsPlaceOf self.now.counts.items self.now.log symbol (reduced % count) place
+            × (result ≡ reduced / count * 4096 + place) }
+    {
+        let place = self.place(symbol, reduced % count);
+        reduced / count * 4096 + place
+    }
+
     /// Writes a symbol that occurs: the decoder reads it from the state of the result, and goes on in `state`.
     pub fn write(&self, state: u32, symbol: u32) -> SymbolBits
         requires occurs { 0 < slice_index self.now.counts.items symbol }
@@ -159,11 +149,18 @@ impl SlotTable {
             state result.bits.count result.bits.value }
     {
         let count = self.counts[symbol as usize];
-        let reduced = reduce(state, count);
-        let place = self.place(symbol, reduced.state % count);
+        if state / 1048576 < count {
+            return SymbolBits {
+                state: self.before(state, symbol, count),
+                bits: BitPiece { value: 0, count: 0 },
+            };
+        }
         SymbolBits {
-            state: reduced.state / count * 4096 + place,
-            bits: reduced.bits,
+            state: self.before(state / 65536, symbol, count),
+            bits: BitPiece {
+                value: state % 65536,
+                count: 16,
+            },
         }
     }
 }

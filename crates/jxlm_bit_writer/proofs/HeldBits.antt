@@ -9,7 +9,7 @@ use Rattle.jxlm_bit_writer.specs.Written.{digits, bits_of, AreFilled}
 use Rattle.jxlm_bit_writer.proofs.BitLists.{digits_low}
 
 -- the digits of a number in two parts
-digits_split : (n m v : ℕ) → digits (n + m) v ≡ digits n v ++ digits m (v / 2 ^ n)
+pub digits_split : (n m v : ℕ) → digits (n + m) v ≡ digits n v ++ digits m (v / 2 ^ n)
 digits_split n zero v = ap (λ k. digits k v) (let e : n + 0 ≡ n = omega arith in e) ∙ sym (append-nil (digits n v))
 digits_split n (suc m) v =
     let longer : n + suc m ≡ suc (n + m) = omega arith in
@@ -19,7 +19,7 @@ digits_split n (suc m) v =
     ∙ append_assoc (digits n v) (digits m (v / 2 ^ n)) (v / 2 ^ n / 2 ^ m % 2 ∷ [])
 
 -- the digits of a remainder
-digits_mod : (n v : ℕ) → digits n (v % 2 ^ n) ≡ digits n v
+pub digits_mod : (n v : ℕ) → digits n (v % 2 ^ n) ≡ digits n v
 digits_mod n v = sym (digits_low n (v % 2 ^ n) (v / 2 ^ n)) ∙ ap (digits n) (mod-add-div' v (2 ^ n))
 
 power_of_bytes : (i : ℕ) → 256 ^ i ≡ 2 ^ (8 * i)

@@ -1,4 +1,4 @@
 pub mod BitLists
 pub mod FieldLaws
-mod HeldBits
+pub mod HeldBits
 pub mod WriteLaws

@@ -41,6 +41,7 @@ impl BitWriter {
     }
 
     /// Adds the `n` least significant bits of a number, at most 32, the least significant first: `u(n)`.
+    #[inline]
     pub fn put(&mut self, value: u32, n: u32) -> Result<(), AllocError>
         requires { n ≤ 32 }
         ensures { IfOk result (λ _. self.new ≡ self.old ++ digits n value) }
