@@ -1,5 +1,5 @@
 -- Tables of contents that were written (ISO/IEC 18181-1, frame: table of contents).
-use Rattle.std.specs.Prelude.{ℕ, ◌+◌, ◌*◌, List, [], ◌∷◌, ◌++◌, length, Bool}
+use Rattle.std.specs.Prelude.{ℕ, ◌*◌, List, [], ◌++◌, length, Bool}
 use Rattle.jxlm_bits.specs.Grammar.{Grammar}
 use Rattle.jxlm_bits.specs.declared.bits.U32Spec.TheVariants.{Offset}
 use Rattle.jxlm_bit_writer.specs.Fields.{is_spelled}

@@ -9,7 +9,8 @@ ghost use Rattle.jxl_frame_header_write.specs.Stills.{still_frame};
 ghost use Rattle.jxl_codestream.specs.Fronts.{layout_in};
 ghost use Rattle.jxl_codestream.specs.Layouts.{max_sections, section_count_of};
 ghost use Rattle.jxl_codestream_write.specs.Tables.{is_section_size};
-ghost use Rattle.jxl_codestream_write.specs.StillFronts.{IsFrameFront, IsImageFront, IsStillFront};
+ghost use Rattle.jxl_codestream_write.specs.StillFronts.{IsStillFront};
+ghost use Rattle.jxl_codestream_write.specs.Inner.Parts.{IsFrameFront, IsImageFront};
 
 use crate::toc::write_toc;
 use jxl_frame_header_write::still::write_still_header;
@@ -18,6 +19,12 @@ use jxl_image_header_write::image::write_image_header;
 use jxlm_bit_writer::writer::BitWriter;
 use jxlm_bits::decoder::Decoder;
 use std::alloc::{AllocError, Global};
+
+// Bytes that begin with an image header begin with its signature, as a codestream does.
+fn begins_bare(bytes: &[u8], image: &ImageHeader)
+    requires { IsImageFront (image_of image.now) bytes.now }
+    ensures { (rest : List ℕ) → is_bare (bytes.now ++ rest) ≡ true }
+{}
 
 // The image header, padded to a byte.
 fn write_image(alloc: Global, image: &ImageHeader) -> Result<Vec<u8>, AllocError>
@@ -28,6 +35,7 @@ fn write_image(alloc: Global, image: &ImageHeader) -> Result<Vec<u8>, AllocError
     let mut bits = BitWriter::new(alloc);
     write_image_header(&mut bits, image)?;
     let bytes = bits.into_bytes()?;
+    begins_bare(&bytes, image);
     Ok(bytes)
 }
 

@@ -61,7 +61,7 @@ pub fn write_toc<D: Decoder>(
     sizes: &[u32],
 ) -> Result<Vec<u8>, AllocError>
     requires { list_all the_is_section_size sizes.now ≡ true }
-    ensures { IfOk result (λ v. Completes bits.entry v.items (toc D.meaning (length sizes.now))
+    ensures { IfOk result (λ v. Completes bits v.items (toc D.meaning (length sizes.now))
         (table_of sizes.now (length v.items))) }
 {
     // In their own order.

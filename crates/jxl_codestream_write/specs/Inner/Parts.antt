@@ -1,0 +1,23 @@
+-- The parts of the front of a still picture, each of whole bytes.
+use Rattle.std.specs.Prelude.{ℕ, ◌*◌, List, ◌++◌, length}
+use Rattle.jxlm_bits.specs.Decoding.{Meaning}
+use Rattle.jxl_image_header.specs.Fields.{aligned}
+use Rattle.jxl_image_header.specs.Images.{Image, image_header}
+use Rattle.jxl_frame_header.specs.Frames.{frame_header}
+use Rattle.jxl_frame_header_write.specs.Stills.{still_frame}
+use Rattle.jxl_codestream.specs.Fronts.{StandsAt}
+use Rattle.jxl_codestream.specs.Tocs.{toc}
+use Rattle.jxl_codestream_write.specs.Tables.{table_of}
+
+-- The bytes are an image header, padded to a byte: whatever follows them, the reader finds both.
+pub record IsImageFront (image : Image) (bytes : List ℕ) : Type 0 where
+  pub end : ℕ
+  pub header : (rest : List ℕ) → StandsAt image_header (bytes ++ rest) 0 image end
+  pub padding : (rest : List ℕ) → StandsAt aligned (bytes ++ rest) end 0 (8 * length bytes)
+
+-- The bytes are the header of a still picture's frame and a table of sections of these sizes: whatever follows them, the reader
+-- finds both, and the first section begins where they end.
+pub record IsFrameFront {D : Type 0} (d : Meaning D) (image : Image) (shift : ℕ) (sizes bytes : List ℕ) : Type 0 where
+  pub end : ℕ
+  pub header : (rest : List ℕ) → StandsAt (frame_header image) (bytes ++ rest) 0 (still_frame image shift) end
+  pub contents : (rest : List ℕ) → StandsAt (toc d (length sizes)) (bytes ++ rest) end (table_of sizes (length bytes)) (8 * length bytes)
