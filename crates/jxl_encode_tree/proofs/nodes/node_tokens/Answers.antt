@@ -1,4 +1,4 @@
-use Rattle.std.proofs.Common.{◌≡◌, ◌∙◌, ℕ, List, sym, ap, length, map}
+use Rattle.std.proofs.Common.{◌∙◌, ℕ, List, sym, ap, length, map}
 use Rattle.std.proofs.lemmas.List.{length-map}
 use Rattle.jxl_encode_tree.specs.Inner.Contexts.{cluster_in}
 use Rattle.jxl_encode_tree.proofs.CodedNodes.{few_tokens, same_counts, tokens_below}
