@@ -1,10 +1,9 @@
 -- The tokens of nodes, written in the clusters of their contexts, are read.
 use Rattle.std.proofs.Common.{◌≡◌, ℕ, zero, suc, ◌+◌, ◌*◌, ◌<◌, ◌≤◌, List, [], ◌∷◌, ◌++◌, length, map, get_or, Bool, true, false, Ok, refl, sym, ap, ◌∙◌, subst, append_assoc, arith}
-use Rattle.std.specs.Prelude.{if◌then◌else◌}
 use Rattle.std.specs.List.{All}
 use Rattle.std.proofs.Math.ListN.{get_or-map}
 use Rattle.std.proofs.lemmas.List.{length-append, length-map}
-use Rattle.jxlm_bits.specs.Decoding.{Asked, Found}
+use Rattle.jxlm_bits.specs.Decoding.{Asked}
 use Rattle.jxlm_bit_writer.specs.ReadStreams.{IsRead}
 use Rattle.jxlm_bit_writer.specs.Writes.{Adds}
 use Rattle.jxlm_bit_writer.specs.declared.token.Token.{Token}

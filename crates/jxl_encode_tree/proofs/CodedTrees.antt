@@ -6,7 +6,7 @@ use Rattle.jxlm_bits.specs.declared.error.Error.{Error}
 use Rattle.jxlm_bit_writer.specs.Writes.{Adds}
 use Rattle.jxlm_bit_writer.specs.Written.{AreFilled, HasBits}
 use Rattle.jxlm_bit_writer.proofs.BitLists.{filled_stands, has_first, has_rest}
-use Rattle.jxlm_tree.specs.Tree.{Config, Shape, config_of, depth, levels, node_count}
+use Rattle.jxlm_tree.specs.Tree.{Config, Shape, config_of, depth, levels}
 use Rattle.jxlm_tree.specs.TreeReading.{IsTreeAt, TreeGives}
 use Rattle.jxlm_tree.specs.TreeStands.{OneTreeStands, TreeStands, TreesAreReadExactly}
 use Rattle.jxlm_tree.specs.declared.flat.Leaf.{Leaf}

@@ -5,7 +5,7 @@ ghost use Rattle.std.specs.List.{All};
 ghost use Rattle.jxlm_bit_writer.specs.Writes.{Adds};
 ghost use Rattle.jxlm_encode_write.specs.Nodes.{has_token, tree_tokens};
 ghost use Rattle.jxlm_encode_streams.specs.TreeStreams.{node_contexts, tree_contexts};
-ghost use Rattle.jxl_encode_tree.specs.Inner.Contexts.{AreNodesRead, cluster_count, cluster_in, clusters_in};
+ghost use Rattle.jxl_encode_tree.specs.Inner.Contexts.{AreNodesRead, cluster_count, cluster_in};
 
 use jxl_coding_build::streams::{write_all, writer_for};
 use jxlm_bit_writer::token::Token;
