@@ -1,10 +1,9 @@
 -- The tokens of nodes, written in the clusters of their contexts, are read.
-use Rattle.std.proofs.Common.{◌≡◌, ℕ, zero, suc, ◌+◌, ◌*◌, ◌<◌, ◌≤◌, List, [], ◌∷◌, ◌++◌, length, map, get_or, Bool, true, false, Ok, refl, sym, ap, ◌∙◌, subst, arith}
-use Rattle.std.specs.Prelude.{if◌then◌else◌}
+use Rattle.std.proofs.Common.{◌≡◌, ℕ, zero, suc, ◌+◌, ◌*◌, ◌<◌, ◌≤◌, List, [], ◌∷◌, ◌++◌, length, map, get_or, Bool, true, false, Ok, refl, sym, ap, ◌∙◌, subst, append_assoc, arith}
 use Rattle.std.specs.List.{All}
 use Rattle.std.proofs.Math.ListN.{get_or-map}
 use Rattle.std.proofs.lemmas.List.{length-append, length-map}
-use Rattle.jxlm_bits.specs.Decoding.{Asked, Found}
+use Rattle.jxlm_bits.specs.Decoding.{Asked}
 use Rattle.jxlm_bit_writer.specs.ReadStreams.{IsRead}
 use Rattle.jxlm_bit_writer.specs.Writes.{Adds}
 use Rattle.jxlm_bit_writer.specs.declared.token.Token.{Token}
@@ -98,7 +97,7 @@ module _ (separate : Bool) (nodes : List EncodeNode) (writer : StreamWriter) (to
       let stream : List ℕ = all.1 in
       record {
         word = head ++ stream;
-        added = all.2;
+        added = all.2 ∙ append_assoc old head stream;
         holds = λ bytes p has.
             let l = length-append head stream in
             let e : p + length head + length stream ≡ p + length (head ++ stream) = omega (arith, l) in

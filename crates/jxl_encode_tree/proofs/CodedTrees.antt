@@ -1,17 +1,18 @@
 -- A tree whose nodes and whose leaves' decoder were written is read.
-use Rattle.std.proofs.Common.{◌≡◌, ◌⊎◌, inl, inr, ℕ, ◌+◌, ◌^◌, ◌≤◌, List, [], ◌++◌, length, Err, sym, ap, ◌∙◌, subst, append_assoc, arith}
+use Rattle.std.proofs.Common.{◌≡◌, ◌⊎◌, inl, inr, ℕ, ◌+◌, ◌^◌, ◌≤◌, List, [], ◌∷◌, ◌++◌, length, Err, sym, ap, ◌∙◌, subst, append_assoc, arith}
 use Rattle.std.proofs.lemmas.List.{length-append}
 use Rattle.jxlm_bits.specs.ErrorKind.{kind_of}
 use Rattle.jxlm_bits.specs.declared.error.Error.{Error}
 use Rattle.jxlm_bit_writer.specs.Writes.{Adds}
 use Rattle.jxlm_bit_writer.specs.Written.{AreFilled, HasBits}
 use Rattle.jxlm_bit_writer.proofs.BitLists.{filled_stands, has_first, has_rest}
-use Rattle.jxlm_tree.specs.Tree.{Config, Shape, config_of, depth, levels, node_count}
+use Rattle.jxlm_tree.specs.Tree.{Config, Shape, config_of, depth, levels}
 use Rattle.jxlm_tree.specs.TreeReading.{IsTreeAt, TreeGives}
 use Rattle.jxlm_tree.specs.TreeStands.{OneTreeStands, TreeStands, TreesAreReadExactly}
 use Rattle.jxlm_tree.specs.declared.flat.Leaf.{Leaf}
 use Rattle.jxlm_encode_write.specs.Trees.{leaves_in}
 use Rattle.jxlm_encode_write.specs.declared.tree.EncodeNode.{EncodeNode}
+use Rattle.jxlm_encode_write.specs.declared.tree.EncodeNode.TheVariants as given
 use Rattle.jxlm_encode_streams.specs.TreeStreams.{ReadTreeStands, clustered_nodes}
 use Rattle.jxlm_encode.specs.Errors.{IsNotMemory}
 use Rattle.jxlm_encode.specs.Listing.{ListsOneTree}
@@ -27,6 +28,12 @@ use Rattle.jxl_coding_stream_write.specs.declared.stream.StreamWriter.{StreamWri
 use Rattle.jxl_encode_tree.specs.Inner.Contexts.{AreNodesRead}
 use Rattle.jxl_encode_tree.specs.Inner.Reading.{IsNotRead, IsRead}
 use Rattle.jxl_encode_tree.specs.Trees.{IsWrittenTree}
+
+-- no more leaves than nodes
+pub few_leaves : (nodes : List EncodeNode) → leaves_in nodes ≤ length nodes
+few_leaves [] = omega arith
+few_leaves (given.Decision property value ∷ nodes) = let rest = few_leaves nodes in omega (arith, rest)
+few_leaves (given.Leaf predictor offset ∷ nodes) = let rest = few_leaves nodes in omega (arith, rest)
 
 -- the nodes and the decoder of the leaves were added
 pub tree_written : ReadTreeStands (entropy decoder_at) → TreesAreReadExactly (entropy decoder_at) → (nodes : List EncodeNode) (leaves : StreamWriter) → length nodes ≤ 2 ^ 26 →

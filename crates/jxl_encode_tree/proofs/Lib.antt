@@ -1,3 +1,4 @@
 pub mod CodedSamples
 pub mod CodedNodes
 pub mod CodedTrees
+pub mod ClusteredTrees

@@ -5,7 +5,7 @@ ghost use Rattle.std.specs.List.{All};
 ghost use Rattle.jxlm_bit_writer.specs.Writes.{Adds};
 ghost use Rattle.jxlm_encode_write.specs.Nodes.{has_token, tree_tokens};
 ghost use Rattle.jxlm_encode_streams.specs.TreeStreams.{node_contexts, tree_contexts};
-ghost use Rattle.jxl_encode_tree.specs.Inner.Contexts.{AreNodesRead, cluster_count, cluster_in, clusters_in};
+ghost use Rattle.jxl_encode_tree.specs.Inner.Contexts.{AreNodesRead, cluster_count, cluster_in};
 
 use jxl_coding_build::streams::{write_all, writer_for};
 use jxlm_bit_writer::token::Token;
@@ -105,18 +105,17 @@ fn node_tokens(
     Ok(tokens)
 }
 
-/// Adds a decoder of six contexts and the stream of the nodes' tokens. Contexts have codes of their own unless nodes
-/// are few.
+/// Adds a decoder of six contexts, which have codes of their own or one code, and the stream of the nodes' tokens.
 pub(crate) fn write_nodes(
     alloc: Global,
     bits: &mut BitWriter,
     nodes: &[EncodeNode],
+    separate: bool,
 ) -> Result<(), AllocError>
     requires properties { All (λ n. has_token n ≡ true) nodes.now }
     requires few { length nodes.now ≤ 2 ^ 26 }
     ensures { IfOk result (λ _. Adds bits.old bits.new (AreNodesRead nodes.now)) }
 {
-    let separate = nodes.len() > 16;
     let tokens = node_tokens(alloc, nodes, separate)?;
     let clusters = clusters_of(alloc, &[0, 1, 2, 3, 4, 5], separate)?;
     let writer = writer_for(alloc, clusters, count_of(separate), &tokens)?;

@@ -1,6 +1,6 @@
 //! The samples of a part, written as a stream of tokens.
 
-ghost use Rattle.std.specs.Prelude.{◌≡◌, IfOk};
+ghost use Rattle.std.specs.Prelude.{IfOk};
 ghost use Rattle.std.specs.List.{All};
 ghost use Rattle.jxlm_bit_writer.specs.Writes.{Adds};
 ghost use Rattle.jxl_coding_stream_write.specs.Tokens.{HasSlot};

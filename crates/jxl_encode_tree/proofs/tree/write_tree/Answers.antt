@@ -1,5 +1,13 @@
-use Rattle.jxl_encode_tree.proofs.CodedTrees.{tree_written}
+use Rattle.std.proofs.Common.{arith}
+use Rattle.jxl_encode_tree.proofs.CodedTrees.{few_leaves, tree_written}
 use Rattle.jxl_encode_tree.proofs.tree.write_tree.Goals as goal
+
+pub write_any_head-requires-clause-contexts : goal.write_any_head-requires-clause-contexts
+write_any_head-requires-clause-contexts c =
+    let least = few_leaves c.args.nodes.now in
+    let contexts = c.requires.contexts in
+    let few = c.requires.few in
+    omega (arith, least, contexts, few)
 
 pub returns : goal.returns
 returns c =
