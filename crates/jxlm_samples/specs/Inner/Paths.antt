@@ -1,7 +1,8 @@
 -- How the rows of a channel are read, and the cells of a row.
-use Rattle.std.specs.Prelude.{◌≡◌, ℕ, zero, suc, ◌+◌, ◌≤◌, ℤ, pos, ◌+ℤ◌, ◌-ℤ◌, FitsSigned, List, [], length, map, Bool, true, false, Contains}
+use Rattle.std.specs.Prelude.{◌≡◌, ℕ, zero, suc, ◌+◌, ◌≤◌, ℤ, pos, neg_ℤ, ◌+ℤ◌, ◌-ℤ◌, FitsSigned, List, [], length, map, Bool, true, false, Contains}
 use Rattle.std.specs.Int.{Width, w32, int_wrap}
 use Rattle.jxlm_bits.specs.Decoding.{Meaning}
+use Rattle.jxlm_bits.specs.Numbers.{clamp}
 use Rattle.jxlm_base.specs.Grid.{Grid, row as grid_row}
 use Rattle.jxlm_tree.specs.ClusterTables.{IsTableOf, table_leaf}
 use Rattle.jxlm_tree.specs.FlatTree.{FlatTree}
@@ -11,7 +12,6 @@ use Rattle.jxlm_tree.specs.Tree.{Shape}
 use Rattle.jxlm_tree.specs.declared.flat.Leaf.{Leaf}
 use Rattle.jxlm_tree.specs.declared.paths.Path.{Path}
 use Rattle.jxlm_tree.specs.declared.paths.Path.TheVariants as path
-use Rattle.jxlm_predictor.specs.Sums.{clamp_sum}
 use Rattle.jxlm_predictor.specs.declared.predictor.Predictor.TheVariants as predictor
 use Rattle.jxlm_samples.specs.Coded.{sample_of}
 use Rattle.jxlm_samples.specs.RowNeighbours.{gradient_in, north_in, north_west_in, west_in}
@@ -78,7 +78,7 @@ AreLeavesOf t (Table c) = IsTableOf t c.now × IsOnGradient c.now
 
 -- a sum as property 9 has it, clamped or reduced to 32 bits
 abbrev pub sum_by : Bool → ℤ → ℤ
-sum_by true z = clamp_sum z
+sum_by true z = clamp (neg_ℤ (pos 512)) (pos 511) z
 sum_by false z = int_wrap w32 z
 
 -- property 9 in column x of a row, from the row above and the row: west less north west plus north, clamped or reduced
