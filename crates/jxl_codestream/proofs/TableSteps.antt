@@ -2,10 +2,9 @@
 use Rattle.std.proofs.Common.{◌≡◌, ℕ, ◌*◌, Bool, List, [], Ok, Err, Result, refl}
 use Rattle.jxlm_bits.specs.Decoding.{Found, Meaning}
 use Rattle.jxlm_bits.specs.ErrorKind.{ErrorKind, ErrorAt, UnlessMemory, kind_of}
-use Rattle.jxlm_bits.specs.Grammar.{IsErrorAt, flag}
+use Rattle.jxlm_bits.specs.Grammar.{IsErrorAt, flag, Parses}
 use Rattle.jxlm_bits.specs.declared.error.Error.{Error}
 use Rattle.jxl_image_header.specs.Fields.{when}
-use Rattle.jxl_image_header.specs.Reading.{Parses}
 use Rattle.jxlm_bits.proofs.ReadSteps.{unless_so, with_decoder}
 use Rattle.jxl_codestream.specs.Reading.{Decodes}
 use Rattle.jxl_codestream.specs.Orders.{lehmer_code}

@@ -8,7 +8,7 @@ use Rattle.jxlm_bits.specs.ErrorKind.{Eof, ErrorAt, ErrorKind, BadEnum, BadProfi
 use Rattle.jxlm_bits.specs.Grammar.{IsExact, from_result}
 use Rattle.jxlm_bits.specs.declared.bits.U32Spec.TheVariants.{Offset}
 use Rattle.jxlm_bits.proofs.GrammarLaws.{bind, found_same, none_found, exact-give, exact-fail, exact-either, exact-flag, exact-u32, exact-repeated}
-use Rattle.jxl_image_header.proofs.HeaderLaws.{exact-aligned, exact-here, exact-long, exact-meant}
+use Rattle.jxl_image_header.proofs.HeaderLaws.{exact-zero_pad_to_byte, exact-here, exact-long, exact-meant}
 use Rattle.jxlm_bits.proofs.TokenLaws.{exact-token, exact-coded, exact-chained}
 use Rattle.jxl_codestream.specs.Orders.{context_of, one_more, lehmer_code}
 use Rattle.jxl_codestream.specs.Tocs.{room, toc}
@@ -46,8 +46,8 @@ module _ {S : Type 0} (d : Meaning S) where
   pub exact-toc : (n : ℕ) → IsExact (toc d n)
   exact-toc n =
       bind (exact-room (12 * n)) λ u. bind exact-flag λ permuted. bind (exact-either permuted _ _ (exact-lehmer_code n) (exact-give [])) λ code.
-      bind exact-aligned λ v. bind (exact-repeated n entry_size (exact-u32 (Offset 0 10) (Offset 1024 14) (Offset 17408 22) (Offset 4211712 30))) λ sizes.
-      bind exact-aligned λ w. bind exact-here λ p. exact-give (record { code = code; sizes = sizes; start = p / 8 })
+      bind exact-zero_pad_to_byte λ v. bind (exact-repeated n entry_size (exact-u32 (Offset 0 10) (Offset 1024 14) (Offset 17408 22) (Offset 4211712 30))) λ sizes.
+      bind exact-zero_pad_to_byte λ w. bind exact-here λ p. exact-give (record { code = code; sizes = sizes; start = p / 8 })
 
   exact-one_byte : (all : List ℕ) (s : S) → IsExact (one_byte d all s)
   exact-one_byte all s = exact-token d _ _ (λ v. exact-give (v % 256 ∷ all)) s

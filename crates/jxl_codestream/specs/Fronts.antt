@@ -5,7 +5,7 @@ use Rattle.std.specs.List.{list_all}
 use Rattle.jxlm_bits.specs.Decoding.{Meaning}
 use Rattle.jxlm_bits.specs.ErrorKind.{ErrorKind, UnlessMemory, kind_of}
 use Rattle.jxlm_bits.specs.Grammar.{Grammar, IsErrorAt, give, either, ◌>>=◌}
-use Rattle.jxl_image_header.specs.Fields.{aligned}
+use Rattle.jxl_image_header.specs.Fields.{zero_pad_to_byte}
 use Rattle.jxl_image_header.specs.Images.{Image, image_header, image_refusal}
 use Rattle.jxl_frame_header.specs.Frames.{Frame, frame_header, frame_refusal, frame_size, is_saved}
 use Rattle.jxl_codestream.specs.Layouts.{Layout, layout_of, max_sections, section_count_of}
@@ -31,7 +31,7 @@ profile_if d limit there = either there (profile d limit >>= λ icc. give (Some 
 
 -- the profile, if there is one, and the bits up to the next byte
 abbrev pub between : {D : Type 0} → Meaning D → ℕ → Bool → Grammar (Option (List ℕ))
-between d limit there = profile_if d limit there >>= λ icc. aligned >>= λ padding. give icc
+between d limit there = profile_if d limit there >>= λ icc. zero_pad_to_byte >>= λ padding. give icc
 
 -- a frame, as its header describes it before its sections: the byte where it begins, its header, where its sections lie from
 -- there on, and the maximum depth of the tree that they share

@@ -6,7 +6,7 @@ use Rattle.jxlm_bits.specs.ErrorKind.{Eof, ErrorAt, UnlessMemory, kind_of}
 use Rattle.jxlm_bits.specs.Grammar.{Grammar, IsErrorAt, flag, u32, give, repeated, ◌>>=◌}
 use Rattle.jxlm_bits.specs.declared.bits.U32Spec.TheVariants.{Offset}
 use Rattle.jxlm_bits.specs.declared.error.Error.{Error}
-use Rattle.jxl_image_header.specs.Fields.{here, aligned, when}
+use Rattle.jxl_image_header.specs.Fields.{here, zero_pad_to_byte, when}
 use Rattle.jxl_codestream.specs.Orders.{IsOrder, lehmer_code}
 use Rattle.jxl_codestream.specs.declared.toc.TocEntry.{TocEntry}
 use Rattle.jxl_codestream.specs.declared.toc.Toc.{Toc}
@@ -31,9 +31,9 @@ toc d n = do
   u ← room (12 * n)
   permuted ← flag
   code ← when permuted (lehmer_code d n) []
-  v ← aligned
+  v ← zero_pad_to_byte
   sizes ← repeated n (u32 (Offset 0 10) (Offset 1024 14) (Offset 17408 22) (Offset 4211712 30))
-  w ← aligned
+  w ← zero_pad_to_byte
   p ← here
   give (record { code = code; sizes = sizes; start = p / 8 })
 

@@ -4,7 +4,7 @@ ghost use Rattle.std.specs.Prelude.{◌≡◌, ◌<◌, List, [], ◌∷◌, Ok,
 ghost use Rattle.jxl_icc.specs.Profiles.{icc_of};
 ghost use Rattle.jxlm_bits.specs.Bits.{bytes_of, position_of};
 ghost use Rattle.jxlm_bits.specs.ErrorKind.{UnlessMemory, kind_of as error_kind};
-ghost use Rattle.jxlm_bits.specs.Grammar.{Reads};
+ghost use Rattle.jxlm_bits.specs.Grammar.{Reads, HasRead};
 ghost use Rattle.jxl_codestream.specs.Reading.{Decodes};
 ghost use Rattle.jxlm_bits.specs.Turns.{chain};
 ghost use Rattle.jxl_codestream.specs.Profiles.{encoded_profile, icc_kind, icc_or_error, kind_of as the_kind_of, one_byte, profile};
@@ -72,9 +72,7 @@ fn context_of(i: u64, last: u32, before: u32) -> u32
 }
 
 fn length_within(bits: &mut Bitstream<'_>, limit: u64) -> fields::Result<u64>
-    ensures gives { Reads (λ v. v) result (position_of bits.new)
-        ((length_in limit).read (bytes_of bits.old) (position_of bits.old)) }
-    ensures bytes { bytes_of bits.new ≡ bytes_of bits.old }
+    ensures { HasRead Reads (λ v. v) result bits.old bits.new (length_in limit) }
 {
     let length = long(bits)?;
     if length <= limit {

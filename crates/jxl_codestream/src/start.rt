@@ -2,7 +2,7 @@
 
 ghost use Rattle.std.specs.Prelude.{◌≡◌};
 ghost use Rattle.jxlm_bits.specs.Bits.{bytes_of, position_of};
-ghost use Rattle.jxlm_bits.specs.Grammar.{Reads};
+ghost use Rattle.jxlm_bits.specs.Grammar.{Reads, HasRead};
 ghost use Rattle.jxl_codestream.specs.Starts.{section_start as the_section_start, tree_limit as the_tree_limit};
 
 use jxl_image_header::fields::{Result, bundle_follows, skip_if};
@@ -13,9 +13,7 @@ use jxlm_bits::bits::Bitstream;
 /// low frequencies, and returns whether a tree follows that sections may share. After that tree, or at once, comes the
 /// header of the Modular image.
 pub fn section_start(bits: &mut Bitstream<'_>) -> Result<bool>
-    ensures gives { Reads (λ v. v) result (position_of bits.new)
-        (the_section_start.read (bytes_of bits.old) (position_of bits.old)) }
-    ensures bytes { bytes_of bits.new ≡ bytes_of bits.old }
+    ensures { HasRead Reads (λ v. v) result bits.old bits.new the_section_start }
 {
     let follows = bundle_follows(bits, true)?;
     skip_if(bits, follows, 6)?;

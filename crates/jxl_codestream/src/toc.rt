@@ -4,8 +4,7 @@ ghost use Rattle.std.specs.Prelude.{◌≡◌, ℕ, ◌+◌, ◌*◌, ◌<◌, �
 ghost use Rattle.std.specs.List.{list_all};
 ghost use Rattle.jxlm_bits.specs.Bits.{bytes_of, position_of};
 ghost use Rattle.jxlm_bits.specs.ErrorKind.{NoMemory, kind_of};
-ghost use Rattle.jxlm_bits.specs.Grammar.{Reads, repeated};
-ghost use Rattle.jxl_image_header.specs.Reading.{Parses};
+ghost use Rattle.jxlm_bits.specs.Grammar.{Reads, repeated, Parses};
 ghost use Rattle.jxl_codestream.specs.Reading.{Decodes};
 ghost use Rattle.jxl_codestream.specs.Inner.Counts.{AreDigits};
 ghost use Rattle.jxl_codestream.specs.Tocs.{IsToc, TocReads, room as the_room, toc, is_within as the_is_within, IsFirstTruncated};

@@ -3,10 +3,9 @@
 ghost use Rattle.std.specs.Prelude.{◌≡◌, ◌==◌, ◌&&◌, ◌||◌, not, nat_lt, [], None, Some, true, false, is_some, if◌then◌else◌};
 ghost use Rattle.std.specs.List.{list_any};
 ghost use Rattle.std.specs.Option.{option_map_or};
-ghost use Rattle.jxlm_bits.specs.Grammar.{Reads, repeated, u32};
+ghost use Rattle.jxlm_bits.specs.Grammar.{Reads, repeated, u32, HasRead, Parses};
 ghost use Rattle.jxlm_bits.specs.declared.bits.U32Spec.TheVariants.{Const, Offset};
 ghost use Rattle.jxl_image_header.specs.Fields.{when};
-ghost use Rattle.jxl_image_header.specs.Reading.{HasRead, Parses};
 ghost use Rattle.jxl_frame_header.specs.Places.{is_reference as the_is_reference};
 ghost use Rattle.jxl_frame_header.specs.Blendings.{blending_info, is_replace as the_is_replace, frame_use};
 ghost use Rattle.jxl_frame_header.specs.Inner.Checked.{mode_number as the_mode_number, alpha as the_alpha};

@@ -1,9 +1,8 @@
 //! How a frame is coded.
 
 ghost use Rattle.std.specs.Prelude.{◌≡◌, ◌==◌, if◌then◌else◌, Some, None};
-ghost use Rattle.jxlm_bits.specs.Grammar.{Reads};
+ghost use Rattle.jxlm_bits.specs.Grammar.{Reads, HasRead};
 ghost use Rattle.jxl_image_header.specs.Fields.{when};
-ghost use Rattle.jxl_image_header.specs.Reading.{HasRead};
 ghost use Rattle.jxl_frame_header.specs.Codings.{factor, flags_of as the_flags_of, coding, is_modular as the_is_modular, type_refusal, coding_refusal};
 ghost use Rattle.jxl_frame_header.specs.Inner.Checked.{flags as the_flags};
 ghost use Rattle.jxl_frame_header.specs.declared.coding.Encoding.TheVariants as encodings;

@@ -1,8 +1,7 @@
 //! Fields of frame headers.
 
-ghost use Rattle.jxlm_bits.specs.Grammar.{FitsU32, Reads, repeated, u32 as the_u32};
+ghost use Rattle.jxlm_bits.specs.Grammar.{FitsU32, Reads, repeated, u32 as the_u32, HasRead, Parses};
 ghost use Rattle.jxl_image_header.specs.Fields.{when};
-ghost use Rattle.jxl_image_header.specs.Reading.{HasRead, Parses};
 
 use jxl_image_header::fields::Result;
 use jxlm_bits::bits::{Bitstream, U32Spec};

@@ -1,9 +1,8 @@
 //! Filters of what was decoded.
 
 ghost use Rattle.std.specs.Prelude.{◌≡◌, ◌||◌, ◌==◌, not, if◌then◌else◌, Some, None};
-ghost use Rattle.jxlm_bits.specs.Grammar.{Reads};
+ghost use Rattle.jxlm_bits.specs.Grammar.{Reads, HasRead};
 ghost use Rattle.jxl_image_header.specs.Fields.{when};
-ghost use Rattle.jxl_image_header.specs.Reading.{HasRead};
 ghost use Rattle.jxl_frame_header.specs.Filters.{own_floats as the_own_floats, filter};
 ghost use Rattle.jxl_frame_header.specs.declared.refusal.Refusal.TheVariants as refusals;
 

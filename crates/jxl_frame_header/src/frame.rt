@@ -2,10 +2,9 @@
 
 ghost use Rattle.std.specs.Prelude.{◌≡◌, ◌<◌, ◌*◌, ◌==◌, not, [], IfOk, if◌then◌else◌, Some, None};
 ghost use Rattle.std.specs.List.{list_any};
-ghost use Rattle.jxlm_bits.specs.Grammar.{repeated};
+ghost use Rattle.jxlm_bits.specs.Grammar.{repeated, HasRead, Parses};
 ghost use Rattle.jxl_image_header.specs.Fields.{when};
 ghost use Rattle.jxl_image_header.specs.Images.{image_of};
-ghost use Rattle.jxl_image_header.specs.Reading.{HasRead, Parses};
 ghost use Rattle.jxl_frame_header.specs.Passes.{IsPassCount};
 ghost use Rattle.jxl_frame_header.specs.Codings.{factor};
 ghost use Rattle.jxl_frame_header.specs.Frames.{frame_of, frame_header, has_shifts as the_has_shifts, frame_refusal, is_saved as the_is_saved, frame_size};

@@ -2,10 +2,9 @@
 
 ghost use Rattle.std.specs.Prelude.{◌≡◌, ◌<◌, ◌≤◌, nat_lt, suc, None, true, IfOk};
 ghost use Rattle.std.specs.Option.{option_map_or};
-ghost use Rattle.jxlm_bits.specs.Grammar.{Reads, repeated, u32};
+ghost use Rattle.jxlm_bits.specs.Grammar.{Reads, repeated, u32, HasRead, Parses};
 ghost use Rattle.jxlm_bits.specs.declared.bits.U32Spec.TheVariants.{Const, Offset};
 ghost use Rattle.jxl_image_header.specs.Fields.{when};
-ghost use Rattle.jxl_image_header.specs.Reading.{HasRead, Parses};
 ghost use Rattle.jxl_frame_header.specs.Codings.{factor};
 ghost use Rattle.jxl_frame_header.specs.Passes.{IsPassCount, passes_of, in_turn as the_list, passes, shift_of as the_shift_of, least_shift as the_least_shift, pass_shifts};
 ghost use Rattle.jxl_frame_header.specs.Inner.Checked.{finer as the_finer, later as the_later, next as the_next, resolutions as the_resolutions};

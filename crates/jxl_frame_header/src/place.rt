@@ -2,11 +2,10 @@
 
 ghost use Rattle.std.specs.Prelude.{◌≡◌, ◌≤◌, ◌<◌, ◌^◌, ◌==◌, ◌&&◌, ◌||◌, not, is_some, IfOk, if◌then◌else◌, Some, None, false};
 ghost use Rattle.std.specs.Option.{option_map_or};
-ghost use Rattle.jxlm_bits.specs.Grammar.{Reads, u32};
+ghost use Rattle.jxlm_bits.specs.Grammar.{Reads, u32, HasRead};
 ghost use Rattle.jxlm_bits.specs.Numbers.{unpack};
 ghost use Rattle.jxlm_bits.specs.declared.bits.U32Spec.TheVariants.{Const};
 ghost use Rattle.jxl_image_header.specs.Fields.{optional, when};
-ghost use Rattle.jxl_image_header.specs.Reading.{HasRead};
 ghost use Rattle.jxl_frame_header.specs.Places.{is_shown as the_is_shown, is_lf as the_is_lf, is_reference as the_is_reference, extent as the_extent, covers as the_covers, crop};
 ghost use Rattle.jxl_frame_header.specs.declared.refusal.Refusal.TheVariants as refusals;
 

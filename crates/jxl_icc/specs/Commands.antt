@@ -1,7 +1,7 @@
 -- The commands of the main content (ISO/IEC 18181-1, ICC profile: main content).
 use Rattle.std.specs.Prelude.{◌≡◌, ℕ, ◌+◌, ◌-◌, ◌*◌, ◌/◌, ◌%◌, ◌<◌, ◌≤◌, ◌^◌, List, [], ◌∷◌, ◌++◌, length, slice_index, slice_range, codes, nat_lt, nat_le, ◌==◌, ◌&&◌, ◌⊎◌, Bool, false, if◌then◌else◌, Option, Some, None, Result, Ok, Err}
-use Rattle.jxl_icc.specs.Errors.{followed}
-use Rattle.jxl_icc.specs.Growth.{grown}
+use Rattle.jxl_icc.specs.Errors.{and_then}
+use Rattle.jxl_icc.specs.Growth.{extend}
 use Rattle.jxl_icc.specs.Linear.{transposed_byte, predicted_byte}
 use Rattle.jxl_icc.specs.Numbers.{number_from, number_if}
 use Rattle.jxl_icc.specs.declared.error.ProfileError.{ProfileError}
@@ -22,9 +22,9 @@ prediction_at bytes end p =
     let width = flags % 4 + 1 in
     if nat_le end p then Err Truncated else if width == 3 then Err InvalidWidth else
     if flags / 4 % 4 == 3 then Err InvalidOrder else
-    followed (number_if bytes end (flags / 16 % 2 == 1) width (p + 1)) (λ stride.
+    and_then (number_if bytes end (flags / 16 % 2 == 1) width (p + 1)) (λ stride.
     if nat_lt stride.value width then Err InvalidStride else
-    followed (number_from bytes end stride.after) (λ count. Ok (record {
+    and_then (number_from bytes end stride.after) (λ count. Ok (record {
       command = Predicted (record { width = width; order = flags / 4 % 4; stride = stride.value }) count.value;
       after = count.after;
     })))
@@ -33,7 +33,7 @@ prediction_at bytes end p =
 unfoldable pub command_at : List ℕ → ℕ → ℕ → Result Parsed ProfileError
 command_at bytes end p =
     let code = slice_index bytes p in
-    if nat_le 1 code && nat_le code 3 then followed (number_from bytes end (p + 1)) (λ count.
+    if nat_le 1 code && nat_le code 3 then and_then (number_from bytes end (p + 1)) (λ count.
     Ok (record { command = by_count code count.value; after = count.after })) else
     if code == 4 then prediction_at bytes end (p + 1) else
     if code == 10 then Ok (record { command = Xyz; after = p + 1 }) else
@@ -81,9 +81,9 @@ abbrev pub typed : ℕ → List ℕ
 typed k = slice_range (codes "XYZ desctextmlucparacurvsf32gbd ") (4 * k) (4 * k + 4) ++ 0 ∷ 0 ∷ 0 ∷ 0 ∷ []
 
 -- the profile so far with what a command makes of the data from position d on
-abbrev pub made : List ℕ → ℕ → List ℕ → Command → List ℕ
-made bytes d out (Literal n) = out ++ slice_range bytes d (d + n)
-made bytes d out (Transposed width n) = grown (transposed_byte bytes d n width) out n
-made bytes d out (Predicted by n) = grown (predicted_byte bytes d n by (length out)) out n
-made bytes d out Xyz = out ++ typed 0 ++ slice_range bytes d (d + 12)
-made bytes d out (Kind k) = out ++ typed k
+abbrev pub output_after : List ℕ → ℕ → List ℕ → Command → List ℕ
+output_after bytes d out (Literal n) = out ++ slice_range bytes d (d + n)
+output_after bytes d out (Transposed width n) = extend (transposed_byte bytes d n width) out n
+output_after bytes d out (Predicted by n) = extend (predicted_byte bytes d n by (length out)) out n
+output_after bytes d out Xyz = out ++ typed 0 ++ slice_range bytes d (d + 12)
+output_after bytes d out (Kind k) = out ++ typed k

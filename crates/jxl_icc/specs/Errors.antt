@@ -4,9 +4,9 @@ use Rattle.jxl_icc.specs.declared.error.ProfileError.{ProfileError}
 use Rattle.jxl_icc.specs.declared.error.ProfileError.TheVariants.{OutOfMemory}
 
 -- what follows the first result, if that is no error
-abbrev pub followed : {A B : Type 0} → Result A ProfileError → (A → Result B ProfileError) → Result B ProfileError
-followed (Ok a) f = f a
-followed (Err e) f = Err e
+abbrev pub and_then : {A B : Type 0} → Result A ProfileError → (A → Result B ProfileError) → Result B ProfileError
+and_then (Ok a) f = f a
+and_then (Err e) f = Err e
 
 -- the result, unless there is an error
 abbrev pub unless : {A : Type 0} → Option ProfileError → Result A ProfileError → Result A ProfileError

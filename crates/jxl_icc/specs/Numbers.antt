@@ -1,6 +1,6 @@
 -- Numbers of the stream and of the profile (ISO/IEC 18181-1, ICC profile: Varint, and the big-endian numbers of ISO 15076-1).
 use Rattle.std.specs.Prelude.{ℕ, zero, suc, ◌+◌, ◌-◌, ◌*◌, ◌/◌, ◌%◌, List, [], ◌∷◌, slice_index, nat_lt, nat_le, Bool, if◌then◌else◌, Result, Ok, Err}
-use Rattle.jxl_icc.specs.Errors.{followed}
+use Rattle.jxl_icc.specs.Errors.{and_then}
 use Rattle.jxl_icc.specs.declared.error.ProfileError.{ProfileError}
 use Rattle.jxl_icc.specs.declared.error.ProfileError.TheVariants.{NumberTooLong, Truncated}
 use Rattle.jxl_icc.specs.declared.numbers.Number.{Number}
@@ -11,7 +11,7 @@ unfoldable pub number_within : List ℕ → ℕ → ℕ → ℕ → Result Numbe
 number_within bytes end zero p = Err NumberTooLong
 number_within bytes end (suc most) p = if nat_le end p then Err Truncated else
     if nat_lt (slice_index bytes p) 128 then Ok (record { value = slice_index bytes p; after = p + 1 }) else
-    followed (number_within bytes end most (p + 1)) (λ high.
+    and_then (number_within bytes end most (p + 1)) (λ high.
     Ok (record { value = slice_index bytes p - 128 + 128 * high.value; after = high.after }))
 
 -- a number has at most nine bytes

@@ -1,8 +1,8 @@
 -- The profile of an encoded stream (ISO/IEC 18181-1, ICC profile).
 use Rattle.std.specs.Prelude.{ℕ, zero, suc, ◌+◌, ◌-◌, ◌*◌, ◌%◌, min, List, [], ◌++◌, length, slice_index, nat_lt, nat_le, ◌==◌, ◌||◌, not, if◌then◌else◌, Result, Ok, Err}
-use Rattle.jxl_icc.specs.Commands.{command_at, misfit, made, needs}
-use Rattle.jxl_icc.specs.Errors.{followed, unless}
-use Rattle.jxl_icc.specs.Growth.{grown}
+use Rattle.jxl_icc.specs.Commands.{command_at, misfit, output_after, needs}
+use Rattle.jxl_icc.specs.Errors.{and_then, unless}
+use Rattle.jxl_icc.specs.Growth.{extend}
 use Rattle.jxl_icc.specs.Header.{header_byte}
 use Rattle.jxl_icc.specs.Numbers.{number_from, word_bytes}
 use Rattle.jxl_icc.specs.Tags.{name, is_short, extent_at, entries, is_large}
@@ -25,18 +25,18 @@ pub record Listed : Type 0 where
 
 -- one command of the main content
 unfoldable pub step : List ℕ → ℕ → ℕ → SoFar → Result SoFar ProfileError
-step bytes end size s = followed (command_at bytes end s.place) (λ p.
+step bytes end size s = and_then (command_at bytes end s.place) (λ p.
     unless (misfit p.command (length bytes - s.at) (length s.out) size) (Ok (record {
       place = p.after;
       at = s.at + needs p.command;
-      out = made bytes s.at s.out p.command;
+      out = output_after bytes s.at s.out p.command;
     })))
 
 -- the commands of the main content up to their end, at most this many
 unfoldable pub contents : List ℕ → ℕ → ℕ → ℕ → SoFar → Result SoFar ProfileError
 contents bytes end size zero s = Ok s
 contents bytes end size (suc n) s =
-    if s.place == end then Ok s else followed (step bytes end size s) (contents bytes end size n)
+    if s.place == end then Ok s else and_then (step bytes end size s) (contents bytes end size n)
 
 -- one tag
 unfoldable pub tag : List ℕ → ℕ → ℕ → Listed → Result Listed ProfileError
@@ -46,7 +46,7 @@ tag bytes end size s =
     let taken = (if code == 1 then 4 else 0) in
     if nat_lt 20 code then Err UnknownTag else
     if nat_lt (length bytes - s.at) taken then Err DataTruncated else
-    followed (extent_at bytes end s.place (s.start + s.size) (if is_short named then 20 else s.size)) (λ e.
+    and_then (extent_at bytes end s.place (s.start + s.size) (if is_short named then 20 else s.size)) (λ e.
     if is_large code e then Err TagTooLarge else
     if nat_lt (size - length s.out) (if (code == 2) || (code == 3) then 36 else 12) then Err PastSize else
     Ok (record { place = e.after; at = s.at + taken; out = entries s.out code named e.start e.size; start = e.start; size = e.size }))
@@ -57,11 +57,11 @@ tags bytes end size zero s = Ok (record { place = s.place; at = s.at; out = s.ou
 tags bytes end size (suc n) s =
     if s.place == end then Ok (record { place = s.place; at = s.at; out = s.out }) else
     if slice_index bytes s.place % 64 == 0 then Ok (record { place = s.place + 1; at = s.at; out = s.out }) else
-    followed (tag bytes end size s) (tags bytes end size n)
+    and_then (tag bytes end size s) (tags bytes end size n)
 
 -- the tag list: the number of the tags and 1, or 0 if there is no list; then the tags, whose contents begin after the list
 unfoldable pub list : List ℕ → ℕ → ℕ → SoFar → Result SoFar ProfileError
-list bytes end size s = followed (number_from bytes end s.place) (λ count.
+list bytes end size s = and_then (number_from bytes end s.place) (λ count.
     if count.value == 0 then Ok (record { place = count.after; at = s.at; out = s.out }) else
     let n = count.value - 1 in
     if nat_le 4294967296 n then Err TagTooLarge else if nat_lt (size - length s.out) 4 then Err PastSize else
@@ -83,16 +83,16 @@ unfoldable pub body : List ℕ → ℕ → ℕ → ℕ → Result (List ℕ) Pro
 body bytes p end size =
     let n = min size 128 in
     if nat_lt (length bytes - end) n then Err DataTruncated else
-    let s : SoFar = record { place = p; at = end + n; out = grown (header_byte bytes end size) [] n } in
+    let s : SoFar = record { place = p; at = end + n; out = extend (header_byte bytes end size) [] n } in
     if nat_le size 128 then finished bytes end size s else
-    followed (list bytes end size s) (λ listed.
-    followed (contents bytes end size (end - listed.place) listed) (finished bytes end size))
+    and_then (list bytes end size s) (λ listed.
+    and_then (contents bytes end size (end - listed.place) listed) (finished bytes end size))
 
 -- The profile of an encoded stream, of at most this many bytes: its size, how many bytes the commands have, the commands, the
 -- data.
 unfoldable pub icc_of : ℕ → List ℕ → Result (List ℕ) ProfileError
-icc_of max bytes = followed (number_from bytes (length bytes) 0) (λ size.
+icc_of max bytes = and_then (number_from bytes (length bytes) 0) (λ size.
     if nat_lt max size.value || nat_le 4294967296 size.value then Err TooLong else
-    followed (number_from bytes (length bytes) size.after) (λ commands.
+    and_then (number_from bytes (length bytes) size.after) (λ commands.
     if nat_lt (length bytes - commands.after) commands.value then Err Truncated else
     body bytes commands.after (commands.after + commands.value) size.value))

@@ -1,7 +1,7 @@
 -- The tag list (ISO/IEC 18181-1, ICC profile: tag list).
 use Rattle.std.specs.Prelude.{ℕ, ◌+◌, ◌-◌, ◌*◌, ◌/◌, ◌%◌, List, [], ◌∷◌, ◌++◌, slice_index, slice_range, codes, nat_eq, nat_le, ◌==◌, Bool, true, if◌then◌else◌, Result, Ok}
 use Rattle.std.specs.List.{list_any, starts_with}
-use Rattle.jxl_icc.specs.Errors.{followed}
+use Rattle.jxl_icc.specs.Errors.{and_then}
 use Rattle.jxl_icc.specs.Numbers.{number_if, word_bytes}
 use Rattle.jxl_icc.specs.declared.error.ProfileError.{ProfileError}
 use Rattle.jxl_icc.specs.declared.tags.Extent.{Extent}
@@ -25,8 +25,8 @@ is_short tag = list_any (λ known. starts_with nat_eq tag known)
 unfoldable pub extent_at : List ℕ → ℕ → ℕ → ℕ → ℕ → Result Extent ProfileError
 extent_at bytes end p start size =
     let head = slice_index bytes p in
-    followed (number_if bytes end (head / 64 % 2 == 1) start (p + 1)) (λ first.
-    followed (number_if bytes end (nat_le 128 head) size first.after) (λ second.
+    and_then (number_if bytes end (head / 64 % 2 == 1) start (p + 1)) (λ first.
+    and_then (number_if bytes end (nat_le 128 head) size first.after) (λ second.
     Ok (record { start = first.value; size = second.value; after = second.after })))
 
 -- an entry of the list

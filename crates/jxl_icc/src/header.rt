@@ -2,7 +2,7 @@
 
 ghost use Rattle.std.specs.Prelude.{◌≡◌, ◌<◌, ◌≤◌, ◌+◌, ◌^◌, length, IfOk, MatchResult};
 ghost use Rattle.jxl_icc.specs.Header.{predicted as the_predicted, platform as the_platform, header_byte};
-ghost use Rattle.jxl_icc.specs.Growth.{grown};
+ghost use Rattle.jxl_icc.specs.Growth.{extend};
 
 use crate::error::ProfileError;
 
@@ -63,7 +63,7 @@ pub fn decode_header(
     requires empty { length out.old.items ≡ 0 }
     requires room { start + count ≤ length bytes.now }
     ensures gives { MatchResult result
-        (λ _. out.new.items ≡ grown (header_byte bytes.now start size) out.old.items count)
+        (λ _. out.new.items ≡ extend (header_byte bytes.now start size) out.old.items count)
         (λ e. e ≡ ProfileError.OutOfMemory) }
     ensures long { IfOk result (λ _. length out.new.items ≡ count) }
 {

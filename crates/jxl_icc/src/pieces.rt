@@ -1,8 +1,8 @@
 //! The bytes that commands make.
 
 ghost use Rattle.std.specs.Prelude.{◌≡◌, ◌<◌, ◌≤◌, ◌+◌, ◌++◌, ◌*◌, ◌^◌, ◌⊎◌, false, length, codes, slice_range, MatchResult, IfOk};
-ghost use Rattle.jxl_icc.specs.Commands.{IsPossible, is_early, made as the_made, makes as the_makes, needs as the_needs, typed};
-ghost use Rattle.jxl_icc.specs.Growth.{grown};
+ghost use Rattle.jxl_icc.specs.Commands.{IsPossible, is_early, output_after, makes as the_makes, needs as the_needs, typed};
+ghost use Rattle.jxl_icc.specs.Growth.{extend};
 ghost use Rattle.jxl_icc.specs.Linear.{transposed_byte, predicted_byte};
 
 use crate::commands::{Command, needs};
@@ -33,7 +33,7 @@ fn transposed(
     requires small { count < 2 ^ 32 }
     requires room { from + count ≤ length bytes.now }
     ensures { MatchResult result
-        (λ _. out.new.items ≡ grown (transposed_byte bytes.now from count width) out.old.items count)
+        (λ _. out.new.items ≡ extend (transposed_byte bytes.now from count width) out.old.items count)
         (λ e. e ≡ ProfileError.OutOfMemory) }
 {
     for i in 0..count {
@@ -60,7 +60,7 @@ fn predicted(
     requires small { count < 2 ^ 32 }
     requires room { from + count ≤ length bytes.now }
     ensures { MatchResult result
-        (λ _. out.new.items ≡ grown (predicted_byte bytes.now from count by (length out.old.items)) out.old.items count)
+        (λ _. out.new.items ≡ extend (predicted_byte bytes.now from count by (length out.old.items)) out.old.items count)
         (λ e. e ≡ ProfileError.OutOfMemory) }
 {
     let start = out.len();
@@ -106,7 +106,7 @@ pub fn make(
     requires early { is_early command (length out.old.items) ≡ false }
     requires small { the_needs command < 2 ^ 32 }
     requires room { from + the_needs command ≤ length bytes.now }
-    ensures gives { MatchResult result (λ _. out.new.items ≡ the_made bytes.now from out.old.items command)
+    ensures gives { MatchResult result (λ _. out.new.items ≡ output_after bytes.now from out.old.items command)
         (λ e. e ≡ ProfileError.OutOfMemory) }
     ensures long { IfOk result (λ _. length out.new.items ≡ length out.old.items + the_makes command) }
 {

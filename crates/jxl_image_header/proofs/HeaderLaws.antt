@@ -6,7 +6,7 @@ use Rattle.jxlm_bits.specs.ErrorKind.{ErrorAt, ErrorKind, BadEnum}
 use Rattle.jxlm_bits.specs.Grammar.{Grammar, IsExact, give, fail, ◌>>=◌}
 use Rattle.jxlm_bits.specs.declared.bits.U32Spec.TheVariants.{Const, Offset}
 use Rattle.jxlm_bits.proofs.GrammarLaws.{bind, found_same, none_found, exact-give, exact-fail, exact-number, exact-either, exact-repeated, exact-flag, exact-part, exact-u32}
-use Rattle.jxl_image_header.specs.Fields.{groups, long, when, optional, bundle_follows, enum_number, value_or, variant, number_meant, number_where, ignored_bytes, extensions, name, here, aligned}
+use Rattle.jxl_image_header.specs.Fields.{groups, long, when, optional, bundle_follows, enum_number, value_or, variant, number_meant, number_where, ignored_bytes, extensions, name, here, zero_pad_to_byte}
 use Rattle.jxl_image_header.specs.Sizes.{side, size, width_at}
 use Rattle.jxl_image_header.specs.Channels.{fits_float, bit_depth, kind_of, is_alpha, is_spot_colour, is_cfa, extra_channel}
 use Rattle.jxl_image_header.specs.Colours.{coordinate, chromaticity, custom_primaries, white_of, white_point, primaries_of, primaries, function_of, transfer_function, space_of, is_grey, is_xyb, intent_of, colour_encoding, tone_mapping}
@@ -39,9 +39,9 @@ exact-meant text means v = exact-either means (give v) (fail (BadEnum text v)) (
 pub exact-number_where : {field : Grammar ℕ} (text : List ℕ) (holds : ℕ → Bool) → IsExact field → IsExact (number_where text holds field)
 exact-number_where text holds exact = bind exact λ v. exact-meant text (holds v) v
 
-pub exact-aligned : IsExact aligned
-unfolding aligned
-exact-aligned = bind exact-here λ p. exact-number_where (codes "padding") (λ v. v == 0) (exact-number ((8 - p % 8) % 8))
+pub exact-zero_pad_to_byte : IsExact zero_pad_to_byte
+unfolding zero_pad_to_byte
+exact-zero_pad_to_byte = bind exact-here λ p. exact-number_where (codes "padding") (λ v. v == 0) (exact-number ((8 - p % 8) % 8))
 
 exact-groups : (n : ℕ) → IsExact (groups n)
 unfolding groups

@@ -69,5 +69,5 @@ abbrev pub here : Grammar ℕ
 here = record { read = λ bytes p. Ok (record { value = p; position = p }); Stands = λ bytes p v q. (v ≡ p) × (q ≡ p) }
 
 -- the bits up to the next byte, which are 0
-unfoldable pub aligned : Grammar ℕ
-aligned = here >>= λ p. number_where (codes "padding") (λ v. v == 0) (number ((8 - p % 8) % 8))
+unfoldable pub zero_pad_to_byte : Grammar ℕ
+zero_pad_to_byte = here >>= λ p. number_where (codes "padding") (λ v. v == 0) (number ((8 - p % 8) % 8))

@@ -3,5 +3,4 @@ pub mod Sizes
 pub mod Channels
 pub mod Colours
 pub mod Images
-pub mod Reading
 pub mod Inner

@@ -1,11 +1,10 @@
 //! Depths of samples, and extra channels.
 
 ghost use Rattle.std.specs.Prelude.{◌≡◌, ◌≤◌, nat_lt, false, codes};
-ghost use Rattle.jxlm_bits.specs.Grammar.{Reads, either, flag, part, u32};
+ghost use Rattle.jxlm_bits.specs.Grammar.{Reads, either, flag, part, u32, HasRead};
 ghost use Rattle.jxlm_bits.specs.declared.bits.U32Spec.TheVariants.{Const, Offset};
 ghost use Rattle.jxl_image_header.specs.Fields.{number_where, ignored_bytes, variant, when};
 ghost use Rattle.jxl_image_header.specs.Channels.{bit_depth, extra_channel, fits_float as the_fits_float, kind_of as the_kind_of, is_alpha as the_is_alpha, is_black as the_is_black, is_cfa as the_is_cfa, is_spot_colour as the_is_spot_colour};
-ghost use Rattle.jxl_image_header.specs.Reading.{HasRead};
 
 use crate::fields::{Result, enum_number, name, number, skip};
 use jxlm_bits::bits::{Bitstream, BitstreamError, U32Spec};

@@ -1,12 +1,11 @@
 //! Colour encodings, and what the header says of brightness.
 
 ghost use Rattle.std.specs.Prelude.{◌≡◌, ◌==◌, ◌||◌, ◌&&◌, not, nat_le, ◌*◌, true, codes};
-ghost use Rattle.jxlm_bits.specs.Grammar.{Reads, number as the_number};
+ghost use Rattle.jxlm_bits.specs.Grammar.{Reads, number as the_number, HasRead};
 ghost use Rattle.jxl_image_header.specs.Fields.{number_where, enum_number as the_enum_number, variant, when};
 ghost use Rattle.jxl_image_header.specs.Colours.{coordinate as the_coordinate, chromaticity, custom_primaries, white_of as the_white_of, white_point, primaries_of as the_primaries_of, primaries, function_of as the_function_of, transfer_function, space_of as the_space_of, is_grey as the_is_grey, is_xyb as the_is_xyb, intent_of as the_intent_of, colour_encoding, tone_mapping};
 ghost use Rattle.jxl_image_header.specs.declared.colour.ColourSpace.TheVariants.{Rgb};
 ghost use Rattle.jxl_image_header.specs.declared.colour.RenderingIntent.TheVariants.{Relative};
-ghost use Rattle.jxl_image_header.specs.Reading.{HasRead};
 
 use crate::fields::{Result, bundle_follows, enum_number, flag_if, number, number_if};
 use jxlm_bits::bits::{Bitstream, BitstreamError, U32Spec};

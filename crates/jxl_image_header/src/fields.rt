@@ -2,11 +2,10 @@
 
 ghost use Rattle.std.specs.Prelude.{ℕ, ◌+◌, ◌-◌, ◌*◌, ◌%◌, ◌^◌, ◌<◌, ◌≤◌, IfOk, length};
 ghost use Rattle.jxlm_bits.specs.Bits.{bytes_of};
-ghost use Rattle.jxlm_bits.specs.Grammar.{FitsU32, Reads, flag, number as the_number, u32 as the_u32};
-ghost use Rattle.jxl_image_header.specs.Fields.{groups as the_groups, long as the_long, enum_number as the_enum_number, ignored_bytes, extensions as the_extensions, name as the_name, aligned, bundle_follows as the_bundle_follows, when};
+ghost use Rattle.jxlm_bits.specs.Grammar.{FitsU32, Reads, flag, number as the_number, u32 as the_u32, HasRead};
+ghost use Rattle.jxl_image_header.specs.Fields.{groups as the_groups, long as the_long, enum_number as the_enum_number, ignored_bytes, extensions as the_extensions, name as the_name, zero_pad_to_byte, bundle_follows as the_bundle_follows, when};
 ghost use Rattle.jxlm_bits.specs.FieldRanges.{max_of};
 ghost use Rattle.jxl_image_header.specs.Inner.Groups.{group_bound, grouped as the_grouped, extension_bits as the_extension_bits, ignored_bits};
-ghost use Rattle.jxl_image_header.specs.Reading.{HasRead};
 
 use jxlm_bits::bits::{Bitstream, BitstreamError, U32Spec};
 
@@ -214,10 +213,10 @@ pub fn name_if(bits: &mut Bitstream<'_>, there: bool) -> Result<u32>
 }
 
 /// Passes the bits up to the next byte. `InvalidEnum` if one of them is not 0.
-#[tactic(auto, unfolding(crate::specs::Fields::aligned))]
+#[tactic(auto, unfolding(crate::specs::Fields::zero_pad_to_byte))]
 pub fn align(bits: &mut Bitstream<'_>) -> Result<u32>
     requires { 8 * length (bytes_of bits.old) < 2 ^ 64 }
-    ensures { HasRead Reads (λ v. v) result bits.old bits.new aligned }
+    ensures { HasRead Reads (λ v. v) result bits.old bits.new zero_pad_to_byte }
 {
     let within = (bits.position() % 8) as u32;
     let value = bits.read_bits((8 - within) % 8)?;

@@ -1,14 +1,13 @@
 //! The image header.
 
 ghost use Rattle.std.specs.Prelude.{◌≡◌, ◌==◌, ◌&&◌, not, if◌then◌else◌, Some, None, [], codes};
-ghost use Rattle.jxlm_bits.specs.Grammar.{Reads, number as the_number, repeated};
+ghost use Rattle.jxlm_bits.specs.Grammar.{Reads, number as the_number, repeated, HasRead, Parses};
 ghost use Rattle.jxl_image_header.specs.Channels.{extra_channel};
 ghost use Rattle.jxl_image_header.specs.Fields.{number_where, optional, when};
 ghost use Rattle.jxl_image_header.specs.Inner.Groups.{extra_channels as the_extra_channels, weights as the_weights};
 ghost use Rattle.jxl_image_header.specs.Sizes.{size as the_size};
 ghost use Rattle.jxl_image_header.specs.Images.{image_of, animation as the_animation, matrices as the_matrices, image_header, channels_refusal as the_channels_refusal, image_refusal};
 ghost use Rattle.jxl_image_header.specs.declared.refusal.Refusal.TheVariants.{Xyb};
-ghost use Rattle.jxl_image_header.specs.Reading.{HasRead, Parses};
 
 use crate::channel::{BitDepth, ExtraChannel};
 use crate::colour::{ColourEncoding, ToneMapping};

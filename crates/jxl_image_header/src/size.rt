@@ -1,10 +1,9 @@
 //! Sizes of pictures.
 
 ghost use Rattle.std.specs.Prelude.{◌≡◌, ◌*◌, ◌^◌, ◌≤◌, ◌==◌, IfOk};
-ghost use Rattle.jxlm_bits.specs.Grammar.{Reads, either, give};
+ghost use Rattle.jxlm_bits.specs.Grammar.{Reads, either, give, HasRead};
 ghost use Rattle.jxl_image_header.specs.Inner.Sides.{image_side as the_image_side, preview_side as the_preview_side};
 ghost use Rattle.jxl_image_header.specs.Sizes.{side as the_side, width_at, size as the_size};
-ghost use Rattle.jxl_image_header.specs.Reading.{HasRead};
 
 use crate::fields::{Result, field, number};
 use jxlm_bits::bits::{Bitstream, U32Spec};

@@ -13,22 +13,22 @@ use Rattle.jxl_lossless.specs.Stills.{CanDecode, HasSections, HeaderStands, IsSt
 use Rattle.jxl_lossless.specs.declared.still.error.FrameError.{FrameError}
 use Rattle.jxl_lossless.specs.declared.still.error.FrameError.TheVariants as errors
 
-module _ {S D : Type 0} (d : Meaning D) (w : Width) (to_int : S → ℤ) (zero : S) (global : Option (Config D)) (given : ChannelList) (group_dim bit_depth : ℕ) (bytes : List ℕ) (p : ℕ)
+module _ {D : Type 0} (d : Meaning D) (w : Width) (global : Option (Config D)) (given : ChannelList) (group_dim bit_depth : ℕ) (bytes : List ℕ) (p : ℕ)
     (passes : List Pass) (one other : SectionPart → Option (List ℕ × ℕ)) (alike : (part : SectionPart) → one part ≡ other part) where
   abbrev Stands : (SectionPart → Option (List ℕ × ℕ)) → Type 0
-  Stands f = HeaderStands {S = S} d w to_int zero global given group_dim bit_depth bytes p passes f
+  Stands f = HeaderStands d w global given group_dim bit_depth bytes p passes f
 
   abbrev Has : (SectionPart → Option (List ℕ × ℕ)) → Type 0
-  Has f = HasSections {S = S} d w to_int zero global given group_dim bit_depth bytes p passes f
+  Has f = HasSections d w global given group_dim bit_depth bytes p passes f
 
   abbrev Can : (SectionPart → Option (List ℕ × ℕ)) → Type 0
-  Can f = CanDecode {S = S} d w to_int zero global given group_dim bit_depth bytes p passes f
+  Can f = CanDecode d w global given group_dim bit_depth bytes p passes f
 
   abbrev Fails : (SectionPart → Option (List ℕ × ℕ)) → FrameError → Type 0
-  Fails f = StillFails {S = S} d w to_int zero global given group_dim bit_depth bytes p passes f
+  Fails f = StillFails d w global given group_dim bit_depth bytes p passes f
 
   abbrev stands_too : Stands one → Stands other
-  stands_too s = record { head = s.head; image = s.image; end = s.end; plain = s.plain; start = s.start; is = s.is }
+  stands_too s = record { plain = s.plain; start = s.start }
 
   abbrev has_too : Has one → Has other
   has_too s = record {
@@ -44,8 +44,8 @@ module _ {S D : Type 0} (d : Meaning D) (w : Width) (to_int : S → ℤ) (zero :
   can_too s = record { has = has_too s.has; plain = s.plain; first = s.first; bytes_are = s.bytes_are; goes_on = s.goes_on; is = s.is }
 
   -- the channels of a frame
-  pub still_too : (grids : List (Grid ℤ)) (before after : ℕ) → IsStill {S = S} d w to_int zero global given group_dim bit_depth bytes p passes one grids before after →
-      IsStill {S = S} d w to_int zero global given group_dim bit_depth bytes p passes other grids before after
+  pub still_too : (grids : List (Grid ℤ)) (before after : ℕ) → IsStill d w global given group_dim bit_depth bytes p passes one grids before after →
+      IsStill d w global given group_dim bit_depth bytes p passes other grids before after
   still_too grids before after s = record { can = can_too s.can; decoded = s.decoded }
 
   -- why it has none
@@ -55,5 +55,5 @@ module _ {S D : Type 0} (d : Meaning D) (w : Width) (to_int : S → ℤ) (zero :
   fails_too errors.NoGroups h = (stands_too h.0, h.1)
   fails_too errors.NoSection h = let (s, cut, part, is, none) = h in (stands_too s, cut, part, is, sym (alike part) ∙ none)
   fails_too errors.GroupWeightedPalette h = (has_too h.0, h.1)
-  fails_too (errors.Samples e) h = unless_so (kind_of e) (λ f. let (s, left, before, after, stops) = f in (can_too s, left, before, after, stops)) h
+  fails_too (errors.Samples e) h = unless_so (kind_of e) (λ f. let (s, coded, failing, others, is, all, fails) = f in (can_too s, coded, failing, others, is, all, fails)) h
   fails_too errors.OutOfMemory h = tt

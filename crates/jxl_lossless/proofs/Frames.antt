@@ -35,7 +35,7 @@ use Rattle.jxl_lossless.specs.declared.error.FileError.TheVariants as errors
 module _ {D : Type 0} (d : Meaning D) (image : Image) (slots : Slots) (frame : Frame) (deepest : ℕ) (first : List ℕ) (places : Places) where
   -- patches were read, and what comes after them has this error
   pub made_fails : (patches : Option Patches) (begin : ℕ) → BeginsWith d image slots frame first patches begin → (e : FileError) →
-      CodedFails {S = ℤ} d w32 (λ (v : ℤ). v) (pos 0) image deepest (frame_size image.size frame) frame.group_dim first begin places e → MadeFails d image slots frame deepest first places e
+      CodedFails d w32 image deepest (frame_size image.size frame) frame.group_dim first begin places e → MadeFails d image slots frame deepest first places e
   made_fails patches begin stands errors.OutOfMemory h = tt
   made_fails patches begin stands (errors.Start e) h = record { patches = patches; begin = begin; dictionary = stands; fails = h }
   made_fails patches begin stands (errors.Tree e) h = record { patches = patches; begin = begin; dictionary = stands; fails = h }
@@ -82,20 +82,20 @@ module _ {D : Type 0} (d : Meaning D) (image : Image) (slots : Slots) (bytes : L
   its = section_of (layout_in image frame.header) (sections_in bytes frame)
 
   abbrev Still : Option (Config D) → ℕ → List Pass → (SectionPart → Option (List ℕ × ℕ)) → List (Grid ℤ) → ℕ → ℕ → Type 0
-  Still global begin ps f = IsStill {S = ℤ} d w32 (λ (v : ℤ). v) (pos 0) global (channels_given image size) frame.header.group_dim image.bit_depth.bits_per_sample first begin ps f
+  Still global begin ps f = IsStill d w32 global (channels_given image size) frame.header.group_dim image.bit_depth.bits_per_sample first begin ps f
 
   abbrev Fails : Option (Config D) → ℕ → List Pass → (SectionPart → Option (List ℕ × ℕ)) → FrameError → Type 0
-  Fails global begin ps f = StillFails {S = ℤ} d w32 (λ (v : ℤ). v) (pos 0) global (channels_given image size) frame.header.group_dim image.bit_depth.bits_per_sample first begin ps f
+  Fails global begin ps f = StillFails d w32 global (channels_given image size) frame.header.group_dim image.bit_depth.bits_per_sample first begin ps f
 
   -- the places are those of the frame
   still_of : (global : Option (Config D)) (begin : ℕ) (grids : List (Grid ℤ)) (before after : ℕ) → Still global begin (own_passes places) (section_at places) grids before after → Still global begin told its grids before after
   still_of global begin grids before after s =
-      still_too d w32 (λ (v : ℤ). v) (pos 0) global (channels_given image size) frame.header.group_dim image.bit_depth.bits_per_sample first begin told (section_at places) its alike grids before after
+      still_too d w32 global (channels_given image size) frame.header.group_dim image.bit_depth.bits_per_sample first begin told (section_at places) its alike grids before after
       (subst (λ (ps : List Pass). Still global begin ps (section_at places) grids before after) (ap passes_of passes) s)
 
   fails_of : (global : Option (Config D)) (begin : ℕ) (e : FrameError) → Fails global begin (own_passes places) (section_at places) e → Fails global begin told its e
   fails_of global begin e s =
-      fails_too d w32 (λ (v : ℤ). v) (pos 0) global (channels_given image size) frame.header.group_dim image.bit_depth.bits_per_sample first begin told (section_at places) its alike e
+      fails_too d w32 global (channels_given image size) frame.header.group_dim image.bit_depth.bits_per_sample first begin told (section_at places) its alike e
       (subst (λ (ps : List Pass). Fails global begin ps (section_at places) e) (ap passes_of passes) s)
 
   abbrev has_patches : (patches : Option Patches) (begin : ℕ) → BeginsWith d image slots frame.header first patches begin → HasPatches d image slots bytes frame

@@ -13,7 +13,8 @@ use Rattle.jxlm_transform.specs.declared.param.ModularParams.{ModularParams}
 use Rattle.jxl_modular.specs.Image.{Image}
 use Rattle.jxl_modular.specs.Parsing.{ParseGives, image_of}
 use Rattle.jxl_modular.specs.declared.root.Modular.{Modular}
-use Rattle.jxl_lossless.specs.Inner.Openings.{HeaderFails, Opens}
+use Rattle.jxl_lossless.specs.Inner.Openings.{Opens}
+use Rattle.jxl_lossless.specs.Stills.{HeaderFails}
 use Rattle.jxl_lossless.specs.Inner.Weighted.{weighted_at}
 
 pub list_any-map : {X Y : Type 0} (p : Y → Bool) (f : X → Y) (xs : List X) → list_any p (map f xs) ≡ list_any (λ x. p (f x)) xs

@@ -1,3 +1,4 @@
+pub mod Failing
 pub mod Adding
 pub mod Listings
 pub mod Headers

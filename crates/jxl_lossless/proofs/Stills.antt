@@ -1,15 +1,15 @@
 -- A frame from the sections that were listed, or why there is none.
-use Rattle.std.proofs.Common.{◌≡◌, IsTrue, ℕ, Bool, true, false, ℤ, List, [], ◌∷◌, get_or, Option, Some, is_some, Result, Ok, sym, ap, ◌∙◌, subst}
+use Rattle.std.proofs.Common.{◌≡◌, IsTrue, ℕ, pos, Bool, true, false, ℤ, List, [], ◌∷◌, get_or, Option, Some, is_some, Result, Ok, sym, ap, ◌∙◌, subst}
 use Rattle.std.specs.Int.{Width}
 use Rattle.std.specs.Prelude.{◌&&◌, ◌||◌, ◌↔◌, ◌<◌, Any, IsFalse}
 use Rattle.std.specs.List.{All, list_any}
 use Rattle.jxlm_bits.specs.Bits.{bytes_of, position_of}
 use Rattle.jxlm_bits.specs.Decoding.{Meaning}
-use Rattle.jxlm_bits.specs.ErrorKind.{kind_of}
+use Rattle.jxlm_bits.specs.ErrorKind.{UnlessMemory, kind_of}
 use Rattle.jxlm_base.specs.Grid.{Grid}
 use Rattle.jxlm_bits.specs.declared.bits.Bitstream.{Bitstream}
 use Rattle.jxlm_bits.specs.declared.error.Error.{Error}
-use Rattle.jxlm_tree.proofs.Memory.{always_so, unless_so}
+use Rattle.jxlm_tree.proofs.Memory.{unless_so}
 use Rattle.jxlm_tree.specs.Tree.{Config}
 use Rattle.jxlm_chain.specs.Chain.{Chain}
 use Rattle.jxlm_transform.specs.ChannelSteps.{Step}
@@ -22,6 +22,7 @@ use Rattle.jxlm_groups.specs.declared.part.SectionPart.{SectionPart}
 use Rattle.jxlm_groups.specs.declared.part.SectionPart.TheVariants as parts
 use Rattle.jxlm_samples.specs.Part.{cell_count}
 use Rattle.jxlm_groups.specs.Passes.{can_group, one_picture}
+use Rattle.jxl_modular.specs.Fresh.{fresh}
 use Rattle.jxl_modular.specs.Groups.{channels_in}
 use Rattle.jxl_modular.specs.Image.{Image, coded_list}
 use Rattle.jxl_modular.specs.Sections.{AreDecoded, IsComplete, SectionsFit, SectionsLeave, SectionsStop}
@@ -29,6 +30,8 @@ use Rattle.jxl_modular.specs.declared.sections.Section.{Section}
 use Rattle.jxlm_section_split.proofs.Openings.{opened_steps}
 use Rattle.jxlm_section_split.proofs.Pictures.{still_picture}
 use Rattle.jxlm_section_split.proofs.Whole.{all_whole}
+use Rattle.jxlm_section_split.proofs.WithoutStore.{decoded_alone, storeless}
+use Rattle.jxl_lossless.proofs.Failing.{FirstFails, first_fails}
 use Rattle.jxlm_groups.specs.declared.pass.Pass.{Pass}
 use Rattle.jxl_lossless.specs.Places.{own_passes, section_at}
 use Rattle.jxl_lossless.proofs.Complete.{all_ones, complete, each_one, exist, sections_in_order, unlike}
@@ -66,19 +69,19 @@ module _ {S D : Type 0} (d : Meaning D) (w : Width) (to_int : S → ℤ) (zero :
   passes = own_passes places
 
   abbrev Fails : FrameError → Type 0
-  Fails = StillFails {S = S} d w to_int zero global given group_dim bit_depth bytes p (own_passes places) (section_at places)
+  Fails = StillFails d w global given group_dim bit_depth bytes p (own_passes places) (section_at places)
 
   abbrev Stands : Type 0
-  Stands = HeaderStands {S = S} d w to_int zero global given group_dim bit_depth bytes p (own_passes places) (section_at places)
+  Stands = HeaderStands d w global given group_dim bit_depth bytes p (own_passes places) (section_at places)
 
   abbrev Has : Type 0
-  Has = HasSections {S = S} d w to_int zero global given group_dim bit_depth bytes p (own_passes places) (section_at places)
+  Has = HasSections d w global given group_dim bit_depth bytes p (own_passes places) (section_at places)
 
   abbrev Can : Type 0
-  Can = CanDecode {S = S} d w to_int zero global given group_dim bit_depth bytes p (own_passes places) (section_at places)
+  Can = CanDecode d w global given group_dim bit_depth bytes p (own_passes places) (section_at places)
 
   abbrev Made : List (Grid ℤ) → ℕ → ℕ → Type 0
-  Made = IsStill {S = S} d w to_int zero global given group_dim bit_depth bytes p (own_passes places) (section_at places)
+  Made = IsStill d w global given group_dim bit_depth bytes p (own_passes places) (section_at places)
 
   -- what holds of each of these parts holds of the one that has no section
   of_lacking : (P : SectionPart → Type 0) (ps : List SectionPart) → All P ps → (lacks : Lacks places ps) → P lacks.part
@@ -92,7 +95,7 @@ module _ {S D : Type 0} (d : Meaning D) (w : Width) (to_int : S → ℤ) (zero :
 
   -- opening the image fails
   pub open_fails : (e : FrameError) → OpenFails d global given bytes p e → Fails e
-  open_fails (errors.Header e) h = unless_so (kind_of e) (λ f. (none_there bytes p f.0, f.1.0, f.1.1)) h
+  open_fails (errors.Header e) h = unless_so (kind_of e) (λ f. (none_there bytes p f.0, f.1)) h
   open_fails errors.WeightedPalette h = stands_there bytes p h
   open_fails errors.OutOfMemory h = tt
   open_fails errors.NoGroups h = absurd h
@@ -102,10 +105,11 @@ module _ {S D : Type 0} (d : Meaning D) (w : Width) (to_int : S → ℤ) (zero :
 
   module _ (image : Image S D) (q : ℕ) (o : Opens d global given bytes p zero group_dim bit_depth image q) where
     abbrev stands : Stands
-    stands = record { head = o.head; image = image; end = q; plain = none_there bytes p o.plain; start = o.start; is = o.is }
+    stands = record { plain = none_there bytes p o.plain; start = record { head = o.head; config = image.config; samples_at = q; start = o.start } }
 
-    dim_is : image.group_dim ≡ group_dim
-    dim_is = ap (λ (i : Image S D). i.group_dim) o.is
+    -- what holds of the image holds of that of its header, as it is before any sample
+    of_header : (P : Image S D → Type 0) → P image → P (fresh zero given o.head image.config group_dim bit_depth)
+    of_header P h = subst P o.is h
 
     -- the image can be cut by the passes
     pub groups_possible : IsTrue (can_group passes []) → IsTrue (one_picture given.channels) → IsTrue (can_group passes image.given)
@@ -113,12 +117,13 @@ module _ {S D : Type 0} (d : Meaning D) (w : Width) (to_int : S → ℤ) (zero :
 
     -- listing the sections fails
     pub list_fails : (e : FrameError) → ListingFails places image e → Fails e
-    list_fails errors.NoGroups h = (stands, subst (λ n. IsFalse (can_cut n (coded_list image))) dim_is h)
+    list_fails errors.NoGroups h = (stands, of_header (λ i. IsFalse (can_cut i.group_dim (coded_list i))) h)
     list_fails errors.NoSection (cut, lacks) = (
       stands,
-      subst (λ n. IsTrue (can_cut n (coded_list image))) dim_is cut,
+      of_header (λ i. IsTrue (can_cut i.group_dim (coded_list i))) cut,
       lacks.part,
-      of_lacking (λ part. (part ≡ parts.Global → ⊥) × (0 < cell_count (channels_in image passes part))) (groups_in_order image passes) (all_ones image passes) lacks,
+      of_header (λ i. (lacks.part ≡ parts.Global → ⊥) × (0 < cell_count (channels_in i passes lacks.part)))
+          (of_lacking (λ part. (part ≡ parts.Global → ⊥) × (0 < cell_count (channels_in image passes part))) (groups_in_order image passes) (all_ones image passes) lacks),
       lacks.none,
     )
     list_fails errors.OutOfMemory h = tt
@@ -143,8 +148,8 @@ module _ {S D : Type 0} (d : Meaning D) (w : Width) (to_int : S → ℤ) (zero :
       first_place : position_of first.bits ≡ q
       first_place = ap position_of listed.goes_on ∙ place
 
-      can_be_cut : IsTrue (can_cut group_dim (coded_list image))
-      can_be_cut = subst (λ n. IsTrue (can_cut n (coded_list image))) dim_is cut
+      can_be_cut : IsTrue (can_cut group_dim o.head.coded.list)
+      can_be_cut = of_header (λ i. IsTrue (can_cut i.group_dim (coded_list i))) cut
 
       first_part : first.part ≡ parts.Global
       first_part = ap (λ (s : Section). s.part) listed.of_global
@@ -188,7 +193,7 @@ module _ {S D : Type 0} (d : Meaning D) (w : Width) (to_int : S → ℤ) (zero :
           cut = can_be_cut;
           groups = more;
           are = λ k d lt. of_group (get_or more k d) (listed.added.groups k d lt);
-          each = each_group;
+          each = λ part. of_header (λ i. ((part ≡ parts.Global → ⊥) × (0 < cell_count (channels_in i passes part))) ↔ Any (λ s. s.part ≡ part) more) (each_group part);
           in_order = streams_rise places more listed.added.groups (sections_in_order image passes more listed.added.parts_are);
         }
 
@@ -211,7 +216,9 @@ module _ {S D : Type 0} (d : Meaning D) (w : Width) (to_int : S → ℤ) (zero :
         pub samples_fail : (e : FrameError) → list_any section_is_weighted sections ≡ false → SamplesStop d w to_int zero image passes global sections e → Fails e
         samples_fail (errors.Samples e) plain h =
             let (left, before, after, stop) = h in
-            always_so (kind_of e) (can plain, left, before, after, subst (λ ss. SectionsStop d w to_int zero image passes global false ss e image.store left before after) sections_are stop)
+            let here = subst (λ ss. SectionsStop d w to_int zero image passes global false ss e image.store left before after) sections_are stop in
+            let fails = first_fails d w to_int zero image passes global (first ∷ more) e image.store left before after here in
+            unless_so (kind_of e) (λ f. let (coded, failing, others, is, all, fails) = f in (can plain, coded, failing, others, is, all, fails)) (of_header (λ i. UnlessMemory (kind_of e) (FirstFails d w to_int zero i passes global (first ∷ more) (kind_of e))) fails)
         samples_fail (errors.Header e) plain h = absurd h
         samples_fail errors.WeightedPalette plain h = absurd h
         samples_fail errors.NoGroups plain h = absurd h
@@ -222,11 +229,13 @@ module _ {S D : Type 0} (d : Meaning D) (w : Width) (to_int : S → ℤ) (zero :
         -- or there is the frame
         pub made : list_any section_is_weighted sections ≡ false → (grids : List (Grid ℤ)) (before after : ℕ) → AreDecoded d w to_int zero image passes global sections grids before after → Made grids before after
         made plain grids before after done =
-            record { can = can plain; decoded = subst (λ ss. AreDecoded d w to_int zero image passes global ss grids before after) sections_are done }
+            let here = subst (λ ss. AreDecoded d w to_int zero image passes global ss grids before after) sections_are done in
+            record {
+              can = can plain;
+              decoded = of_header (λ i. AreDecoded {S = ℤ} d w (λ v. v) (pos 0) (storeless i) passes global (first ∷ more) grids before after) (decoded_alone d w to_int zero image passes global (first ∷ more) grids before after here);
+            }
 
   -- whose grids have the sides of the channels
   pub still_sides : (grids : List (Grid ℤ)) (before after : ℕ) → Made grids before after → AreGridsOf given.channels grids
   still_sides grids before after s =
-      let image = s.can.has.stands.image in
-      let sides = chain_sides w image.bit_depth image.steps (record { channels = image.given; nb_meta = 0 }) grids s.decoded.coded s.decoded.only.chain in
-      subst (λ (l : List Channel). AreGridsOf l grids) (ap (λ (i : Image S D). i.given) s.can.has.stands.is) sides
+      chain_sides w bit_depth s.can.has.stands.start.head.coded.steps (record { channels = given.channels; nb_meta = 0 }) grids s.decoded.coded s.decoded.only.chain

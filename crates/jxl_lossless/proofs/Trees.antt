@@ -45,19 +45,19 @@ a_deep_tree d size n deepest first p q there bytes same limit most tree r gives 
 )
 
 -- an error before the image is one of the frame
-pub start_fails : {S D : Type 0} (d : Meaning D) (w : Width) (to_int : S → ℤ) (zero : S) (image : Image) (size : Size) (group_dim n deepest : ℕ) (first : List ℕ) (p : ℕ) (places : Places) (count : n ≡ channel_count image) (e : FileError) →
-    StartFails d size n deepest first p e → CodedFails {S = S} d w to_int zero image deepest size group_dim first p places e
-start_fails d w to_int zero image size group_dim n deepest first p places count (errors.Start e) h = h
-start_fails d w to_int zero image size group_dim n deepest first p places count (errors.Tree e) h = subst (λ m. StartFails d size m deepest first p (errors.Tree e)) count h
-start_fails d w to_int zero image size group_dim n deepest first p places count errors.TooManyDecisions h = subst (λ m. StartFails d size m deepest first p errors.TooManyDecisions) count h
-start_fails d w to_int zero image size group_dim n deepest first p places count errors.OutOfMemory h = absurd h
-start_fails d w to_int zero image size group_dim n deepest first p places count (errors.Samples e) h = absurd h
-start_fails d w to_int zero image size group_dim n deepest first p places count (errors.Patches e) h = absurd h
-start_fails d w to_int zero image size group_dim n deepest first p places count (errors.File e) h = absurd h
-start_fails d w to_int zero image size group_dim n deepest first p places count (errors.Front e) h = absurd h
+pub start_fails : {D : Type 0} (d : Meaning D) (w : Width) (image : Image) (size : Size) (group_dim n deepest : ℕ) (first : List ℕ) (p : ℕ) (places : Places) (count : n ≡ channel_count image) (e : FileError) →
+    StartFails d size n deepest first p e → CodedFails d w image deepest size group_dim first p places e
+start_fails d w image size group_dim n deepest first p places count (errors.Start e) h = h
+start_fails d w image size group_dim n deepest first p places count (errors.Tree e) h = subst (λ m. StartFails d size m deepest first p (errors.Tree e)) count h
+start_fails d w image size group_dim n deepest first p places count errors.TooManyDecisions h = subst (λ m. StartFails d size m deepest first p errors.TooManyDecisions) count h
+start_fails d w image size group_dim n deepest first p places count errors.OutOfMemory h = absurd h
+start_fails d w image size group_dim n deepest first p places count (errors.Samples e) h = absurd h
+start_fails d w image size group_dim n deepest first p places count (errors.Patches e) h = absurd h
+start_fails d w image size group_dim n deepest first p places count (errors.File e) h = absurd h
+start_fails d w image size group_dim n deepest first p places count (errors.Front e) h = absurd h
 
 -- the image after it is read as the parameters say
-module _ {S D : Type 0} (d : Meaning D) (w : Width) (to_int : S → ℤ) (zero : S) (image : Image) (size : Size) (group_dim n deepest : ℕ) (first here : List ℕ) (p q : ℕ) (places : Places) (global : Option (Config D)) (params : ModularParams D)
+module _ {D : Type 0} (d : Meaning D) (w : Width) (image : Image) (size : Size) (group_dim n deepest : ℕ) (first here : List ℕ) (p q : ℕ) (places : Places) (global : Option (Config D)) (params : ModularParams D)
     (count : n ≡ channel_count image) (shared : SharedTree d size n deepest first p global q) (same : here ≡ first) (tree : option_copied params.ma_config ≡ global) (list : image_list params.channels.items ≡ channels_given image size)
     (dim : params.group_dim ≡ group_dim) (depth : params.bit_depth ≡ image.bit_depth.bits_per_sample) where
   -- what holds of it by the parameters holds of it by the image
@@ -71,21 +71,21 @@ module _ {S D : Type 0} (d : Meaning D) (w : Width) (to_int : S → ℤ) (zero :
       (subst (λ (b : List ℕ). P (option_copied params.ma_config) (image_list params.channels.items) params.group_dim params.bit_depth b) same h))))
 
   -- these are its channels
-  pub coded : (grids : List (Grid ℤ)) (before after : ℕ) → IsStill d w to_int zero (option_copied params.ma_config) (image_list params.channels.items) params.group_dim params.bit_depth here q (own_passes places) (section_at places) grids before after →
-      IsCoded d w to_int zero image deepest size group_dim first p places grids before after
+  pub coded : (grids : List (Grid ℤ)) (before after : ℕ) → IsStill d w (option_copied params.ma_config) (image_list params.channels.items) params.group_dim params.bit_depth here q (own_passes places) (section_at places) grids before after →
+      IsCoded d w image deepest size group_dim first p places grids before after
   coded grids before after is = record {
     global = global;
     begin = q;
     shared = subst (λ m. SharedTree d size m deepest first p global q) count shared;
-    still = by_image (λ g l m k b. IsStill d w to_int zero g l m k b q (own_passes places) (section_at places) grids before after) is;
+    still = by_image (λ g l m k b. IsStill d w g l m k b q (own_passes places) (section_at places) grids before after) is;
   }
 
   -- it, or its samples, have an error
-  pub samples_fail : (e : FrameError) → StillFails {S = S} d w to_int zero (option_copied params.ma_config) (image_list params.channels.items) params.group_dim params.bit_depth here q (own_passes places) (section_at places) e →
-      SamplesFail {S = S} d w to_int zero image deepest size group_dim first p places e
+  pub samples_fail : (e : FrameError) → StillFails d w (option_copied params.ma_config) (image_list params.channels.items) params.group_dim params.bit_depth here q (own_passes places) (section_at places) e →
+      SamplesFail d w image deepest size group_dim first p places e
   samples_fail e fails = record {
     global = global;
     begin = q;
     shared = subst (λ m. SharedTree d size m deepest first p global q) count shared;
-    fails = by_image (λ g l m k b. StillFails {S = S} d w to_int zero g l m k b q (own_passes places) (section_at places) e) fails;
+    fails = by_image (λ g l m k b. StillFails d w g l m k b q (own_passes places) (section_at places) e) fails;
   }

@@ -1,11 +1,11 @@
 -- The samples of a frame, from its sections (ISO/IEC 18181-1, frame: sections, LF global, groups), stage by stage, and what fails
 -- at each: that a palette of the weighted predictor is in the header of a group comes before what is wrong with samples.
-use Rattle.std.specs.Prelude.{◌≡◌, ◌≢◌, ◌↔◌, ℕ, ◌<◌, ◌⊎◌, ℤ, List, ◌∷◌, Any, false, true, IsFalse, IsTrue, Option, None, Some, Ok}
+use Rattle.std.specs.Prelude.{◌≡◌, ◌≢◌, ◌↔◌, ℕ, ◌<◌, ◌⊎◌, ℤ, pos, List, ◌∷◌, ◌++◌, Any, false, true, IsFalse, IsTrue, MatchBool, Option, None, Some, Ok}
 use Rattle.std.specs.Int.{Width}
 use Rattle.std.specs.List.{All, AllPairs}
 use Rattle.jxlm_bits.specs.Bits.{bytes_of, position_of}
 use Rattle.jxlm_bits.specs.Decoding.{Found, Meaning}
-use Rattle.jxlm_bits.specs.ErrorKind.{UnlessMemory, kind_of}
+use Rattle.jxlm_bits.specs.ErrorKind.{ErrorKind, OfDecoder, UnlessMemory, kind_of}
 use Rattle.jxlm_bits.specs.Grammar.{IsErrorAt}
 use Rattle.jxlm_base.specs.Grid.{Grid}
 use Rattle.jxlm_transform.specs.Channels.{ChannelList}
@@ -17,15 +17,16 @@ use Rattle.jxlm_groups.specs.declared.part.SectionPart.{SectionPart}
 use Rattle.jxlm_groups.specs.declared.part.SectionPart.TheVariants as parts
 use Rattle.jxlm_groups.specs.declared.pass.Pass.{Pass}
 use Rattle.jxlm_header.specs.Header.{Header, header}
-use Rattle.jxlm_header.specs.Opening.{Opening}
 use Rattle.jxlm_tree.specs.Tree.{Config}
-use Rattle.jxlm_samples.specs.Part.{cell_count}
-use Rattle.jxl_modular.specs.Fresh.{fresh}
-use Rattle.jxl_modular.specs.Groups.{channels_in}
-use Rattle.jxl_modular.specs.Image.{Image, coded_list}
-use Rattle.jxl_modular.specs.Parsing.{IsStartAt, IsTreeErrorAt, opening_at}
-use Rattle.jxl_modular.specs.Sections.{AreDecoded, SectionsStop}
+use Rattle.jxlm_bits.specs.declared.decoder.DecoderError.{DecoderError}
+use Rattle.jxlm_samples.specs.Coded.{DecodingFails}
+use Rattle.jxlm_samples.specs.Part.{Part, cell_count}
+use Rattle.jxl_modular.specs.Groups.{channels_in, part_in}
+use Rattle.jxl_modular.specs.Image.{Image}
+use Rattle.jxl_modular.specs.Parsing.{IsTreeErrorAt, Start, coded_part, opening_at}
+use Rattle.jxl_modular.specs.Sections.{AreDecoded, CodesPart, list_in}
 use Rattle.jxl_modular.specs.declared.sections.Section.{Section}
+use Rattle.jxlm_section_split.specs.CutPicture.{image_by}
 use Rattle.jxl_lossless.specs.declared.still.error.FrameError.{FrameError}
 use Rattle.jxl_lossless.specs.declared.still.error.FrameError.TheVariants as errors
 
@@ -34,21 +35,28 @@ abbrev pub IsWeightedAt : List ℕ → ℕ → Type 0
 IsWeightedAt bytes p = (found : Found Header) × (header.read bytes p ≡ Ok found)
     × (palette : Palette) × Any (λ t. t ≡ OfPalette palette) found.value.transform × (palette.d_pred ≡ SelfCorrecting)
 
-module _ {S D : Type 0} (d : Meaning D) (w : Width) (to_int : S → ℤ) (zero : S) (global : Option (Config D)) (given : ChannelList) (group_dim bit_depth : ℕ) (bytes : List ℕ) (p : ℕ)
+-- at bit p a Modular header, or the MA tree after it, has this error
+abbrev pub HeaderFails : {D : Type 0} → Meaning D → Option (Config D) → ChannelList → List ℕ → ℕ → ErrorKind → Type 0
+HeaderFails d global given bytes p error = (q : ℕ) × (IsErrorAt (opening_at global bytes given p) error q ⊎ IsTreeErrorAt d global bytes given p error q)
+
+-- decoding the samples of a part from bit p returns this error
+abbrev pub PartFails : {D : Type 0} → Meaning D → Width → Part → List ℕ → D → ℕ → ErrorKind → Type 0
+PartFails d w part bytes decoder p error = (e : DecoderError) × (q : ℕ) × (tried : ℕ) × DecodingFails d w part bytes decoder p e q tried × (error ≡ OfDecoder e)
+
+module _ {D : Type 0} (d : Meaning D) (w : Width) (global : Option (Config D)) (given : ChannelList) (group_dim bit_depth : ℕ) (bytes : List ℕ) (p : ℕ)
     (passes : List Pass) (section_of : SectionPart → Option (List ℕ × ℕ)) where
-  -- At bit p of the first section stand the image's header, without such palettes, and its tree, which may be the global one:
-  -- the image then, of which no sample is decoded.
+  -- At bit p of the first section stand the image's header, without such palettes, and its tree, which may be the global one.
   pub record HeaderStands : Type 0 where
-    pub head : Opening
-    pub image : Image S D
-    pub end : ℕ
     pub plain : ¬ (IsWeightedAt bytes p)
-    pub start : IsStartAt d global bytes given p head image.config end
-    pub is : image ≡ fresh zero given head image.config group_dim bit_depth
+    pub start : Start d global bytes given p
+
+  -- the image of that header
+  abbrev pub image_at : HeaderStands → Image ℤ D
+  image_at s = image_by given s.start.head s.start.config group_dim bit_depth
 
   -- the part is a group with samples
   abbrev pub IsGroup : HeaderStands → SectionPart → Type 0
-  IsGroup s part = (part ≢ parts.Global) × (0 < cell_count (channels_in s.image passes part))
+  IsGroup s part = (part ≢ parts.Global) × (0 < cell_count (channels_in (image_at s) passes part))
 
   -- the section is that of a group: it has the bytes and the stream that the frame has for its part, and a header of its own
   abbrev pub IsOfGroup : Section → Type 0
@@ -57,7 +65,7 @@ module _ {S D : Type 0} (d : Meaning D) (w : Width) (to_int : S → ℤ) (zero :
   -- It can be cut, and each group with samples, and no other, has a section: these come by rising index of their streams.
   pub record HasSections : Type 0 where
     pub stands : HeaderStands
-    pub cut : IsTrue (can_cut group_dim (coded_list stands.image))
+    pub cut : IsTrue (can_cut group_dim stands.start.head.coded.list)
     pub groups : List Section
     pub are : All IsOfGroup groups
     pub each : (part : SectionPart) → IsGroup stands part ↔ Any (λ s. s.part ≡ part) groups
@@ -69,23 +77,34 @@ module _ {S D : Type 0} (d : Meaning D) (w : Width) (to_int : S → ℤ) (zero :
     pub plain : All (λ s. ¬ (IsWeightedAt (bytes_of s.bits) 0)) has.groups
     pub first : Section
     pub bytes_are : bytes_of first.bits ≡ bytes
-    pub goes_on : position_of first.bits ≡ has.stands.end
+    pub goes_on : position_of first.bits ≡ has.stands.start.samples_at
     pub is : first ≡ record { part = parts.Global; bits = first.bits; stream_index = 0; nested = false }
 
   -- These are the channels of a frame: each section codes its part whole, with this number of nodes of trees looked at before and
   -- after, and together they code the image.
   pub record IsStill (grids : List (Grid ℤ)) (before after : ℕ) : Type 0 where
     pub can : CanDecode
-    pub decoded : AreDecoded d w to_int zero can.has.stands.image passes global (can.first ∷ can.has.groups) grids before after
+    pub decoded : AreDecoded d w (λ v. v) (pos 0) (image_at can.has.stands) passes global (can.first ∷ can.has.groups) grids before after
+
+  -- a section codes its part whole
+  abbrev pub CodesItsPart : HeaderStands → Section → Type 0
+  CodesItsPart h s = (grids : List (Grid ℤ)) × (nodes : ℕ) × CodesPart d w (λ v. v) (pos 0) (image_at h) passes global s grids nodes
+
+  -- decoding a section returns this error, of a header of its own or of its samples
+  abbrev pub SectionFails : HeaderStands → Section → ErrorKind → Type 0
+  SectionFails h s error = MatchBool s.nested
+      (HeaderFails d global (list_in (image_at h) passes s.part) (bytes_of s.bits) (position_of s.bits) error
+      ⊎ ((own : Start d global (bytes_of s.bits) (list_in (image_at h) passes s.part) (position_of s.bits))
+      × PartFails d w (coded_part s.stream_index own.head own.config) (bytes_of s.bits) own.config.decoder own.samples_at error))
+      (PartFails d w (part_in (image_at h) passes s.part s.stream_index) (bytes_of s.bits) h.start.config.decoder (position_of s.bits) error)
 
   -- what each error says: up to which stage all stands, and what fails there; no two hold of one input, memory aside
   abbrev pub StillFails : FrameError → Type 0
-  StillFails (errors.Header e) = UnlessMemory (kind_of e)
-      ((¬ (IsWeightedAt bytes p)) × (q : ℕ) × (IsErrorAt (opening_at global bytes given p) (kind_of e) q ⊎ IsTreeErrorAt d global bytes given p (kind_of e) q))
+  StillFails (errors.Header e) = UnlessMemory (kind_of e) ((¬ (IsWeightedAt bytes p)) × HeaderFails d global given bytes p (kind_of e))
   StillFails errors.WeightedPalette = IsWeightedAt bytes p
-  StillFails errors.NoGroups = (s : HeaderStands) × IsFalse (can_cut group_dim (coded_list s.image))
-  StillFails errors.NoSection = (s : HeaderStands) × IsTrue (can_cut group_dim (coded_list s.image)) × (part : SectionPart) × IsGroup s part × (section_of part ≡ None)
+  StillFails errors.NoGroups = (s : HeaderStands) × IsFalse (can_cut group_dim s.start.head.coded.list)
+  StillFails errors.NoSection = (s : HeaderStands) × IsTrue (can_cut group_dim s.start.head.coded.list) × (part : SectionPart) × IsGroup s part × (section_of part ≡ None)
   StillFails errors.GroupWeightedPalette = (s : HasSections) × Any (λ t. IsWeightedAt (bytes_of t.bits) 0) s.groups
-  StillFails (errors.Samples e) = UnlessMemory (kind_of e) ((s : CanDecode) × (left : List (Grid S)) × (before : ℕ) × (after : ℕ)
-      × SectionsStop d w to_int zero s.has.stands.image passes global false (s.first ∷ s.has.groups) e s.has.stands.image.store left before after)
+  StillFails (errors.Samples e) = UnlessMemory (kind_of e) ((s : CanDecode) × (coded : List Section) × (failing : Section) × (others : List Section)
+      × (s.first ∷ s.has.groups ≡ coded ++ failing ∷ others) × All (CodesItsPart s.has.stands) coded × SectionFails s.has.stands failing (kind_of e))
   StillFails errors.OutOfMemory = Unit {0}

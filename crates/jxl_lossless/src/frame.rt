@@ -186,10 +186,10 @@ impl<'a> SectionsInput<'a, '_> {
         progress: &mut P,
     ) -> Result<Vec<AlignedGrid<i32>>, FileError>
         requires ready { IsReadyCut self }
-        ensures ok { IfOk result (λ v. CodedOf D.meaning w32 (λ (v : ℤ). v) (pos 0) self.entry (bytes_of bits.entry)
+        ensures ok { IfOk result (λ v. CodedOf D.meaning w32 self.entry (bytes_of bits.entry)
             (position_of bits.entry) v.items steps.old steps.new) }
         ensures sides { IfOk result (λ v. AreGridsOf (given_of self.entry.input).channels v.items) }
-        ensures err { IfErr result (CodedOfFails D.meaning w32 (λ (v : ℤ). v) (pos 0) self.entry (bytes_of bits.entry)
+        ensures err { IfErr result (CodedOfFails D.meaning w32 self.entry (bytes_of bits.entry)
             (position_of bits.entry)) }
     {
         let decoded = self.decode_coded::<i32, D, P>(alloc, bits, steps, progress)?;
@@ -205,10 +205,10 @@ impl<'a> SectionsInput<'a, '_> {
         progress: &mut P,
     ) -> Result<ModularImageDestination<S, D>, FileError>
         requires ready { IsReadyCut self }
-        ensures ok { IfOk result (λ x. CodedOf D.meaning S.width S.to_int (S.from_int (pos 0)) self.entry
+        ensures ok { IfOk result (λ x. CodedOf D.meaning S.width self.entry
             (bytes_of bits.entry) (position_of bits.entry) (image_grids S.to_int x) steps.old steps.new) }
         ensures sides { IfOk result (λ x. AreGridsOf (given_of self.entry.input).channels (image_grids S.to_int x)) }
-        ensures err { IfErr result (CodedOfFails D.meaning S.width S.to_int (S.from_int (pos 0)) self.entry
+        ensures err { IfErr result (CodedOfFails D.meaning S.width self.entry
             (bytes_of bits.entry) (position_of bits.entry)) }
     {
         let image = self.input.image;

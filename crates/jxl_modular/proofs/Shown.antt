@@ -1,16 +1,16 @@
 -- What is shown of an image is the image of its clone.
-use Rattle.std.proofs.Common.{◌≡◌, ℕ, List, ℤ, ap, sym, subst}
+use Rattle.std.proofs.Common.{◌≡◌, ℕ, List, ℤ, length, take, ap, sym, subst}
 use Rattle.std.specs.Int.{Width}
 use Rattle.jxlm_base.specs.Grid.{Grid}
 use Rattle.jxlm_base.specs.Regions.{store_meanings}
 use Rattle.jxlm_chain.specs.Chain as chain
 use Rattle.jxlm_transform.specs.Channels.{AreGridsOf, Channel}
 use Rattle.jxlm_transform.specs.ChannelSteps.{Step}
-use Rattle.jxl_modular.specs.Image.{Image, IsOnlyImage, coded_grids, given_list, grids_given, image_grids}
+use Rattle.jxl_modular.specs.Image.{Image, IsOnlyImage, coded_grids, given_list, image_grids}
 use Rattle.jxl_modular.specs.SameButCells.{SameButCells}
 
 module _ {S D : Type 0} (to_int : S → ℤ) (w : Width) (x copy after : Image S D) (is : copy ≡ x) (same : SameButCells copy after) (channels : List (Grid S)) where
-  pub shown_only : channels ≡ grids_given after → IsOnlyImage w after (image_grids to_int after) (coded_grids to_int copy) →
+  pub shown_only : channels ≡ take (length after.given) after.store → IsOnlyImage w after (image_grids to_int after) (coded_grids to_int copy) →
       IsOnlyImage w x (store_meanings to_int channels) (coded_grids to_int x)
   shown_only taken only =
       let of_copy : IsOnlyImage w copy (image_grids to_int after) (coded_grids to_int copy) =

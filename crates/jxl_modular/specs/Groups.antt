@@ -1,5 +1,4 @@
--- The parts of an image that is cut into groups: which there are, what each holds, and what decoding one returns
--- (ISO/IEC 18181-1, frame: groups, LF groups and passes; Modular: global and group sub-bitstreams).
+-- The parts of an image that is cut into groups (ISO/IEC 18181-1, frame: groups, LF groups, passes; Modular: groups).
 use Rattle.std.specs.Prelude.{◌≡◌, ◌≢◌, ℕ, ℤ, List, Bool, IsTrue, Result}
 use Rattle.std.specs.Int.{Width}
 use Rattle.jxlm_bits.specs.Decoding.{Meaning}

@@ -48,13 +48,9 @@ module _ {S D : Type 0} where
   abbrev pub front_part : ℕ → Image S D → ℕ → Part
   front_part n x stream = record { channels = front_channels n x; weights = x.weights; tree = x.config.tree; stream = stream }
 
-  -- the image's own channels: the first of its buffers
-  abbrev pub grids_given : Image S D → List (Grid S)
-  grids_given x = take (length x.given) x.store
-
-  -- the image's own channels, of the numbers that the samples stand for
+  -- the image's own channels, the first of its buffers, of the numbers that the samples stand for
   abbrev pub image_grids : (S → ℤ) → Image S D → List (Grid ℤ)
-  image_grids to_int x = store_meanings to_int (grids_given x)
+  image_grids to_int x = store_meanings to_int (take (length x.given) x.store)
 
   -- the grids of the coded channels, of the numbers that the samples stand for
   abbrev pub coded_grids : (S → ℤ) → Image S D → List (Grid ℤ)

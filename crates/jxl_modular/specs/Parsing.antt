@@ -12,7 +12,7 @@ use Rattle.jxl_modular.specs.Fresh.{fresh}
 use Rattle.jxl_modular.specs.Image.{Image}
 use Rattle.jxlm_header.specs.Opening.{Opening}
 use Rattle.jxl_modular.specs.declared.root.Modular.{Modular}
-pub use Rattle.jxlm_nested.specs.Starts.{IsStartAt, IsTreeErrorAt, opening_at}
+pub use Rattle.jxlm_nested.specs.Starts.{IsStartAt, IsTreeErrorAt, Start, coded_part, opening_at}
 
 -- the image that there is; with no channels there is none
 abbrev pub image_of : {S D : Type 0} → Modular S D → Option (Image S D)

@@ -1,5 +1,4 @@
--- Whole runs: an image decoded from sections, each of which codes one part
--- (ISO/IEC 18181-1, frame: sections; Modular: image decoding, global and group sub-bitstreams).
+-- An image decoded from sections, each of which codes a part (ISO/IEC 18181-1, frame: sections; Modular: decoding).
 use Rattle.std.specs.Prelude.{◌≡◌, ◌≢◌, ◌↔◌, ◌⊎◌, ℕ, ◌+◌, ◌*◌, ◌<◌, ◌≤◌, ℤ, List, [], ◌∷◌, ◌++◌, map, replicate, sum, Bool, false, IsTrue, Any, MatchBool, Option, Result, Ok, Err}
 use Rattle.std.specs.List.{All, AllPairs, AllZip, FoldsTo}
 use Rattle.std.specs.Int.{Width}
@@ -58,8 +57,7 @@ module _ {S D : Type 0} (x : Image S D) (passes : List Pass) where
   abbrev pub list_in : SectionPart → ChannelList
   list_in part = record { channels = channels_in x passes part; nb_meta = 0 }
 
--- what a decoder means, how samples are kept, which of them is 0, the image as it is before all sections, its passes, and
--- the global tree, where there is one
+-- what a decoder means, how samples are kept, which is 0, the image before all sections, its passes, its global tree
 module _ {S D : Type 0} (d : Meaning D) (w : Width) (to_int : S → ℤ) (zero : S) (x : Image S D) (passes : List Pass)
     (global : Option (Config D)) where
   -- A section with a header of its own: header and tree stand in its bits; behind them it codes samples of the header's
@@ -89,8 +87,7 @@ module _ {S D : Type 0} (d : Meaning D) (w : Width) (to_int : S → ℤ) (zero :
     pub only : IsOnlyImage w x image coded
     pub counted : MovesWithin before after (sum costs)
 
-  -- a section's turn, whether it has a header of its own or not: what decoding it returns, and what it leaves; samples of
-  -- other parts stay
+  -- a section's turn, with a header of its own or not: what decoding it returns and leaves; samples of other parts stay
   abbrev pub SectionTurn : Bool → Section → Result (Unit {0}) Error → Turn → List (Grid S) → List (Grid S) → Type 0
   SectionTurn partly s result t old new = MatchBool s.nested
       (NestedTurn d w to_int zero x.bit_depth global (bytes_of s.bits) (position_of s.bits) (list_in x passes s.part)

@@ -1,6 +1,5 @@
 pub mod Errors
 pub mod Patches
-pub mod Reading
 pub mod Dictionaries
 pub mod Patched
 pub mod Slots

@@ -4,7 +4,8 @@ ghost use Rattle.std.specs.Prelude.{◌≡◌, ◌+◌, ◌<◌, ◌≤◌, ◌^
 ghost use Rattle.std.specs.List.{sum_by};
 ghost use Rattle.jxlm_bits.specs.Bits.{bytes_of, position_of};
 ghost use Rattle.jxlm_bits.specs.Turns.{chain};
-ghost use Rattle.jxl_patches.specs.Reading.{PatchesRead};
+ghost use Rattle.jxl_patches.specs.Errors.{patch_kind};
+ghost use Rattle.jxlm_bits.specs.Grammar.{ParsesBy};
 ghost use Rattle.jxl_patches.specs.Patches.{one_rectangle as the_one_rectangle, dictionary as the_dictionary};
 ghost use Rattle.jxl_patches.specs.Inner.Steps.{StepRead};
 ghost use Rattle.jxl_patches.specs.SavedParts.{sizes_in};
@@ -129,7 +130,7 @@ fn read<D: Decoder>(
     limit: u64,
 ) -> Result<Dictionary>
     requires { extra < 2 ^ 63 }
-    ensures gives { PatchesRead patches_of result (position_of bits.new)
+    ensures gives { ParsesBy patch_kind patches_of result (position_of bits.new)
         ((the_dictionary D.meaning size extra (sizes_in slots.now) limit).read (bytes_of bits.old)
         (position_of bits.old)) }
     ensures bytes { bytes_of bits.new ≡ bytes_of bits.old }
@@ -177,7 +178,7 @@ impl Dictionary {
         limit: u64,
     ) -> Result<Dictionary>
         requires { extra < 2 ^ 63 }
-        ensures gives { PatchesRead patches_of result (position_of bits.new)
+        ensures gives { ParsesBy patch_kind patches_of result (position_of bits.new)
             ((the_dictionary D.meaning size extra (sizes_in slots.now) limit).read (bytes_of bits.old)
             (position_of bits.old)) }
         ensures fits { IfOk result (λ d. AreWithin size extra (sizes_in slots.now) (patches_of d)) }

@@ -4,7 +4,8 @@ ghost use Rattle.std.specs.Prelude.{◌≡◌, ◌+◌, ◌*◌, ◌<◌, ◌≤
 ghost use Rattle.std.specs.Option.{IfSome, option_map};
 ghost use Rattle.jxlm_bits.specs.Bits.{bytes_of, position_of};
 ghost use Rattle.jxl_patches.specs.Dictionaries.{AreWithin, patches_of};
-ghost use Rattle.jxl_patches.specs.Reading.{PatchesRead};
+ghost use Rattle.jxl_patches.specs.Errors.{patch_kind};
+ghost use Rattle.jxlm_bits.specs.Grammar.{ParsesBy};
 ghost use Rattle.jxl_patches.specs.Slots.{ArePut, AreOfSize, HoldFrames, optional_patches};
 ghost use Rattle.jxl_patches.specs.SavedParts.{sizes_in, slots_of};
 
@@ -39,7 +40,7 @@ pub fn read_patches<D: Decoder>(
     requires wide { size.width ≤ 2 ^ 30 }
     requires high { size.height ≤ 2 ^ 30 }
     requires extra { extra < 2 ^ 63 }
-    ensures gives { PatchesRead (option_map patches_of) result (position_of bits.new)
+    ensures gives { ParsesBy patch_kind (option_map patches_of) result (position_of bits.new)
         ((optional_patches D.meaning there size extra (sizes_in slots.now)).read (bytes_of bits.old)
         (position_of bits.old)) }
     ensures fits { IfOk result (λ p. IfSome p (λ d. AreWithin size extra (sizes_in slots.now) (patches_of d))) }

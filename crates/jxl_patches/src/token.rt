@@ -3,7 +3,8 @@
 ghost use Rattle.std.specs.Prelude.{◌≡◌, ◌<◌, length, IfOk};
 ghost use Rattle.jxlm_bits.specs.Bits.{bytes_of, position_of};
 ghost use Rattle.jxlm_bits.specs.Tokens.{token_value};
-ghost use Rattle.jxl_patches.specs.Reading.{PatchesRead};
+ghost use Rattle.jxl_patches.specs.Errors.{patch_kind};
+ghost use Rattle.jxlm_bits.specs.Grammar.{ParsesBy};
 ghost use Rattle.jxl_patches.specs.Inner.Steps.{TokenRead, decoder as the_decoder};
 
 use crate::error::Result;
@@ -13,7 +14,7 @@ use std::alloc::Global;
 
 /// A decoder of this number of contexts, at the begin of its tokens.
 pub fn decoder<D: Decoder>(alloc: Global, bits: &mut Bitstream<'_>, contexts: u32) -> Result<D>
-    ensures gives { PatchesRead (λ v. v) result (position_of bits.new)
+    ensures gives { ParsesBy patch_kind (λ v. v) result (position_of bits.new)
         ((the_decoder D.meaning contexts).read (bytes_of bits.old) (position_of bits.old)) }
     ensures clusters { IfOk result (λ d. length (D.meaning.cluster_map d) ≡ contexts) }
     ensures bytes { bytes_of bits.new ≡ bytes_of bits.old }

@@ -7,8 +7,7 @@ use Rattle.jxlm_bits.specs.declared.decoder.DecoderError.TheVariants.{OutOfMemor
 use Rattle.jxlm_bits.specs.declared.error.Error.{Error}
 use Rattle.jxlm_bits.specs.declared.error.Error.TheVariants as errors
 
--- the input ends; a number without a meaning (its name and value); a profile's limit (its text); a tree, a global tree
--- or a transform that cannot be; the decoder's error; out of memory
+-- truncated; a number without a meaning (its name and value), a limit (its text); of tree, transform, decoder, memory
 pub data ErrorKind : Type 0 where
   Eof : ErrorKind
   BadEnum : List ℕ → ℕ → ErrorKind

@@ -1,12 +1,14 @@
 -- Fields in the input: how each is read, and where a value stands (ISO/IEC 18181-1, notation of bundles and fields).
 use Rattle.std.specs.Prelude.{◌≡◌, ℕ, zero, suc, ◌+◌, ◌*◌, ◌^◌, ◌≤◌, List, [], ◌∷◌, length, Bool, nat_lt, ◌==◌, if◌then◌else◌, MatchBool, Option, Some, IfSome, Result, Ok, Err}
-use Rattle.jxlm_bits.specs.Bits.{bits_at}
+use Rattle.jxlm_bits.specs.Bits.{bits_at, bytes_of, position_of}
 use Rattle.jxlm_bits.specs.Decoding.{Found}
 use Rattle.jxlm_bits.specs.ErrorKind as reading
-use Rattle.jxlm_bits.specs.ErrorKind.{ErrorKind, Eof, ErrorAt, bitstream_kind, kind_of, UnlessMemory}
+use Rattle.jxlm_bits.specs.ErrorKind.{ErrorKind, Eof, ErrorAt, bitstream_kind, kind_of, UnlessMemory, UnlessNoMemory}
+use Rattle.jxlm_bits.specs.declared.bits.Bitstream.{Bitstream}
 use Rattle.jxlm_bits.specs.declared.bits.BitstreamError.{BitstreamError}
 use Rattle.jxlm_bits.specs.declared.bits.U32Spec.{U32Spec}
 use Rattle.jxlm_bits.specs.declared.bits.U32Spec.TheVariants.{Const, Offset}
+use Rattle.jxlm_bits.specs.declared.error.Error.{Error}
 
 -- A kind of field, over bytes and bit positions.
 pub record Grammar (X : Type 0) : Type 1 where
@@ -92,13 +94,33 @@ abbrev pub FitsU32 : U32Spec → Type 0
 FitsU32 (Const n) = Unit {0}
 FitsU32 (Offset least n) = (n ≤ 32) × (least + 2 ^ n ≤ 2 ^ 32)
 
--- What a read returned, seen by view, and where it left the reader, are what reading gives.
-abbrev pub Reads : {X Y : Type 0} → (X → Y) → Result X BitstreamError → ℕ → Result (Found Y) ErrorAt → Type 0
-Reads view (Ok x) q reading = reading ≡ Ok (record { value = view x; position = q })
-Reads view (Err e) q reading = reading ≡ Err (record { error = bitstream_kind e; position = Some q })
-
 -- the reading returns this error, and the reader is at q, unless that is the decoder's own matter
 pub record IsErrorAt {Y : Type 0} (reading : Result Y ErrorAt) (error : ErrorKind) (q : ℕ) : Type 0 where
   pub place : Option ℕ
   pub refuses : reading ≡ Err (record { error = error; position = place })
   pub stands : IfSome place (λ p. q ≡ p)
+
+-- What a call returned, seen by view, and where it left the reader, are what reading gives: its value, or an error of which
+-- this holds.
+abbrev pub Returns : {X Y E : Type 0} → (E → Result (Found Y) ErrorAt → ℕ → Type 0) → (X → Y) → Result X E → ℕ → Result (Found Y) ErrorAt → Type 0
+Returns Fails view (Ok x) q reading = reading ≡ Ok (record { value = view x; position = q })
+Returns Fails view (Err e) q reading = Fails e reading q
+
+-- of a read: its error, with the reader where it is then
+abbrev pub Reads : {X Y : Type 0} → (X → Y) → Result X BitstreamError → ℕ → Result (Found Y) ErrorAt → Type 0
+Reads view result q reading = Returns (λ e reading q. reading ≡ Err (record { error = bitstream_kind e; position = Some q })) view result q reading
+
+-- of a call that takes memory: its error, unless it is out of memory
+abbrev pub Parses : {X Y : Type 0} → (X → Y) → Result X Error → ℕ → Result (Found Y) ErrorAt → Type 0
+Parses view result q reading = Returns (λ e reading q. UnlessNoMemory (kind_of e) (IsErrorAt reading (kind_of e) q)) view result q reading
+
+-- of a call with a decoder, whose errors are of these kinds: its error, unless it or the decoder is out of memory
+abbrev pub ParsesBy : {X Y E : Type 0} → (E → ErrorKind) → (X → Y) → Result X E → ℕ → Result (Found Y) ErrorAt → Type 0
+ParsesBy kind view result q reading = Returns (λ e reading q. UnlessMemory (kind e) (IsErrorAt reading (kind e) q)) view result q reading
+
+-- The call read this field: by one of these, its value or its first error, and where the reader is after it, over the same
+-- bytes.
+pub record HasRead {X Y E : Type 0} (Gives : (X → Y) → Result X E → ℕ → Result (Found Y) ErrorAt → Type 0) (view : X → Y) (result : Result X E)
+    (old new : Bitstream) (field : Grammar Y) : Type 0 where
+  pub gives : Gives view result (position_of new) (field.read (bytes_of old) (position_of old))
+  pub bytes : bytes_of new ≡ bytes_of old

@@ -98,7 +98,7 @@ pub struct Bitstream<'a> {
 
 impl<'a> Bitstream<'a> {
     ghost use Rattle.jxlm_bits.specs.Bits.{bytes_of, position_of, bits_at, ReadsNumbers, IsEither, EndsEither};
-    ghost use Rattle.jxlm_bits.specs.Grammar.{flag, part, selected, u32 as the_u32, FitsU32, Reads};
+    ghost use Rattle.jxlm_bits.specs.Grammar.{flag, part, selected, u32 as the_u32, FitsU32, Reads, HasRead};
 
     /// A reader at the start of these bytes, at bit 0.
     pub fn new(bytes: &'a [u8]) -> Self
@@ -355,18 +355,14 @@ impl<'a> Bitstream<'a> {
     ///
     /// `UnexpectedEof` at the end of the input: the reader is then unchanged.
     pub fn read_bool(&mut self) -> Result<bool, BitstreamError>
-        ensures gives { Reads (λ v. v) result (position_of self.new)
-            (flag.read (bytes_of self.old) (position_of self.old)) }
-        ensures bytes { bytes_of self.new ≡ bytes_of self.old }
+        ensures { HasRead Reads (λ v. v) result self.old self.new flag }
     {
         Ok(self.read_bits(1)? == 1)
     }
 
     fn read_part(&mut self, d: U32Spec) -> Result<u32, BitstreamError>
         requires fits { FitsU32 d }
-        ensures gives { Reads (λ v. v) result (position_of self.new)
-            ((part d).read (bytes_of self.old) (position_of self.old)) }
-        ensures bytes { bytes_of self.new ≡ bytes_of self.old }
+        ensures { HasRead Reads (λ v. v) result self.old self.new (part d) }
     {
         match d {
             U32Spec::Const(value) => Ok(value),
@@ -385,9 +381,7 @@ impl<'a> Bitstream<'a> {
         d3: U32Spec,
     ) -> Result<u32, BitstreamError>
         requires fits { FitsU32 d0 × FitsU32 d1 × FitsU32 d2 × FitsU32 d3 }
-        ensures gives { Reads (λ v. v) result (position_of self.new)
-            ((selected d0 d1 d2 d3).read (bytes_of self.old) (position_of self.old)) }
-        ensures bytes { bytes_of self.new ≡ bytes_of self.old }
+        ensures { HasRead Reads (λ v. v) result self.old self.new (selected d0 d1 d2 d3) }
     {
         let selector = self.read_bits(2)?;
         if selector == 0 {
@@ -414,9 +408,7 @@ impl<'a> Bitstream<'a> {
         d3: U32Spec,
     ) -> Result<u32, BitstreamError>
         requires fits { FitsU32 d0 × FitsU32 d1 × FitsU32 d2 × FitsU32 d3 }
-        ensures gives { Reads (λ v. v) result (position_of self.new)
-            ((the_u32 d0 d1 d2 d3).read (bytes_of self.old) (position_of self.old)) }
-        ensures bytes { bytes_of self.new ≡ bytes_of self.old }
+        ensures { HasRead Reads (λ v. v) result self.old self.new (the_u32 d0 d1 d2 d3) }
     {
         let mut after = *self;
         let value = after.read_selected(d0, d1, d2, d3)?;

@@ -1,5 +1,5 @@
 -- Each step of a chain can be undone where the channels before it lie as they must.
-use Rattle.std.proofs.Common.{◌≡◌, ℕ, suc, ◌+◌, ◌-◌, ◌<◌, ◌≤◌, inl, true, ◌==◌, List, [], ◌∷◌, length, drop, get_or, Ok, refl, sym, ap, ◌∙◌, subst, eqb-true, arith}
+use Rattle.std.proofs.Common.{◌≡◌, ℕ, suc, ◌+◌, ◌-◌, ◌<◌, ◌≤◌, inl, Bool, true, ◌==◌, ◌&&◌, List, [], ◌∷◌, length, drop, get_or, Ok, refl, sym, ap, ◌∙◌, subst, eqb-true, arith}
 use Rattle.std.specs.List.{All, AllZip}
 use Rattle.std.proofs.lemmas.List.{get_or_default, get_or-take, get_or-drop, length-take, length-drop}
 use Rattle.std.proofs.lemmas.List.Elements.{All-nil, All-cons, All-head, All-tail, All-append, All-map, All-weaker}
@@ -10,7 +10,7 @@ use Rattle.jxlm_base.specs.Regions.{region, Lies, AreApart}
 use Rattle.jxlm_base.specs.declared.subgrid.Region.{Region}
 use Rattle.jxlm_base.proofs.Regions.{apart_by_buffer}
 use Rattle.jxlm_transform.specs.Channels.{Channel, ChannelList, HasSides}
-use Rattle.jxlm_transform.specs.ChannelSteps.{Step, RctStep, PaletteStep, SqueezeStep, has_size_of, list_after, list_after_all, one_size, range}
+use Rattle.jxlm_transform.specs.ChannelSteps.{Step, RctStep, PaletteStep, SqueezeStep, list_after, list_after_all, one_size, range}
 use Rattle.jxlm_inverse.specs.Palette.{PaletteLies}
 use Rattle.jxlm_inverse.specs.Recoloured.{HaveOneSize}
 use Rattle.jxlm_transform.specs.declared.transform.Palette.{Palette}
@@ -40,6 +40,10 @@ range_first begin n xs d e some lt =
 
 abbrev SizedAs : Region → Region → Type 0
 SizedAs s r = (r.width ≡ s.width) × (r.height ≡ s.height)
+
+-- the second channel has the sides of the first
+abbrev has_size_of : Channel → Channel → Bool
+has_size_of c d = d.width == c.width && d.height == c.height
 
 same_size : (c d : Channel) → has_size_of c d ≡ true → (d.width ≡ c.width) × (d.height ≡ c.height)
 same_size c d e = let (a, b) = both_of (d.width == c.width) (d.height == c.height) e in (eqb-true d.width c.width a, eqb-true d.height c.height b)

@@ -1,6 +1,6 @@
 -- Three channels of one size are decided by their coded channels.
 use Rattle.std.proofs.Common.{◌≡◌, ℕ, ◌<◌, true, List, [], ◌∷◌, length, ℤ, sym, refl, ap, ◌∙◌, arith}
-use Rattle.std.specs.Prelude.{◌==◌}
+use Rattle.std.specs.Prelude.{Bool, ◌&&◌, ◌==◌}
 use Rattle.std.specs.List.{AllZip, list_all}
 use Rattle.std.specs.Int.{Width}
 use Rattle.std.proofs.lemmas.Bool.{eqb-true, and_parts}
@@ -8,11 +8,15 @@ use Rattle.jxlm_lanes.specs.Colour.{Triple, IsTripleOf, coded_triple}
 use Rattle.jxlm_base.specs.Grid.{Grid, grid_by, at}
 use Rattle.jxlm_lanes.proofs.ColourLaws.{colour_is_one_to_one, triple_same}
 use Rattle.jxlm_transform.specs.Channels.{Channel}
-use Rattle.jxlm_transform.specs.ChannelSteps.{one_size, has_size_of}
+use Rattle.jxlm_transform.specs.ChannelSteps.{one_size}
 use Rattle.jxlm_inverse.specs.Recoloured.{recolour, triple_in}
 use Rattle.jxlm_chain.proofs.ListLaws.{heads, tails}
 use Rattle.jxlm_chain.proofs.SampleGrids.{IsGridOf}
 use Rattle.jxlm_chain.proofs.SqueezedGrids.{fits_at, grids_same, made_at}
+
+-- the second channel has the sides of the first
+abbrev has_size_of : Channel → Channel → Bool
+has_size_of c d = d.width == c.width && d.height == c.height
 
 pub length-recoloured : (w : Width) (kind : ℕ) (gs : List (Grid ℤ)) → length (recolour w kind gs) ≡ length gs
 length-recoloured w kind [] = refl

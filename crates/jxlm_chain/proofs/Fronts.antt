@@ -7,7 +7,7 @@ use Rattle.jxlm_bits.specs.ErrorKind.{ErrorKind, BadSqueeze}
 use Rattle.jxlm_base.specs.declared.subgrid.Region.{Region}
 use Rattle.jxlm_transform.specs.Channels.{Channel, ChannelList, HasItsMeta}
 use Rattle.jxlm_transform.specs.Lists.{list_of, layout_of}
-use Rattle.jxlm_transform.specs.ChannelSteps.{Step, SqueezeStep, average_channel, residual_channel, can_be_squeezed, list_after, range, squeeze_range, squeeze_step, with_halves, with_each_halved}
+use Rattle.jxlm_transform.specs.ChannelSteps.{Step, SqueezeStep, average_channel, residual_channel, can_be_squeezed, list_after, range, squeeze_range, with_halves, with_each_halved}
 use Rattle.jxlm_transform.specs.SqueezedRegions.{average_region, residual_region}
 use Rattle.jxlm_transform.specs.Steps.{Sides, tables_of}
 use Rattle.jxlm_transform.specs.declared.transform.SqueezeParams.{SqueezeParams}
@@ -44,7 +44,7 @@ module _ {X : Type 0} where
 
 -- a step of a list is that of its front
 pub whole_step : (t : SqueezeParams) (f tl : List Channel) (m : ℕ) → t.begin_c + t.num_c ≤ length f → suits_meta m t ≡ true →
-    squeeze_step t (record { channels = f ++ tl; nb_meta = m }) ≡
+    list_after (SqueezeStep t) (record { channels = f ++ tl; nb_meta = m }) ≡
     (if list_all can_be_squeezed (range t.begin_c t.num_c f) then Ok (record { channels = with_each_halved t (average_channel t.horizontal) (residual_channel t.horizontal) (f ++ tl); nb_meta = meta_after m t }) else Err BadSqueeze)
 whole_step t f tl m le suits =
     let there = le-leb (t.begin_c + t.num_c) (length (f ++ tl)) (let l = length-append f tl in omega arith) in
@@ -135,7 +135,7 @@ fails_whole t f tl m k le suits e = tested (list_all can_be_squeezed (range t.be
   free : suits_meta 0 t ≡ true
   free = rw (le-ltb t.begin_c 0 (omega arith)) refl
 
-  here : squeeze_step t (record { channels = f ++ []; nb_meta = 0 }) ≡ Err k
+  here : list_after (SqueezeStep t) (record { channels = f ++ []; nb_meta = 0 }) ≡ Err k
   here = rw (append-nil f) e
 
   tested : (can : Bool) → list_all can_be_squeezed (range t.begin_c t.num_c f) ≡ can → list_after (SqueezeStep t) (record { channels = f ++ tl; nb_meta = m }) ≡ Err k

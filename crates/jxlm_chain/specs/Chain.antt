@@ -12,8 +12,7 @@ use Rattle.jxlm_inverse.specs.UndoneSqueeze.{average_grid, residual_grid}
 
 -- w bits a sample in memory, depth bits in the picture
 module _ (w : Width) (depth : ℕ) where
-  -- One step codes the grids before it as those after it. What it codes by colour or squeeze are w-bit samples; what
-  -- a palette stands for is made of them. Grids out of its range stay.
+  -- one step codes grids, by colour or squeeze of w-bit samples, as those after it; grids out of its range stay
   abbrev pub Codes : Step → List (Grid ℤ) → List (Grid ℤ) → Type 0
   Codes (RctStep t) before after =
       All (AreGridSamples w) (range t.begin_c 3 before) × (after ≡ with_range t.begin_c 3 (recolour w t.rct_type (range t.begin_c 3 before)) before)

@@ -11,7 +11,7 @@ use Rattle.std.proofs.Math.Pow.{pow-lt}
 use Rattle.jxlm_transform.specs.Channels.{Channel, image_channel}
 use Rattle.jxlm_transform.specs.ChannelSteps.{average_channel, residual_channel, shift_of_half}
 use Rattle.jxlm_transform.specs.Params.{IsValidChannel, IsGroupDim}
-use Rattle.jxlm_transform.specs.Shifts.{upsampled_side, shift_size, hshift, vshift, IsShift, IsValidShift}
+use Rattle.jxlm_transform.specs.Shifts.{upsampled_side, shift_size, shifts_of, IsShift, IsValidShift}
 use Rattle.jxlm_transform.proofs.ShiftBounds.{hshift-shifts}
 use Rattle.jxlm_transform.specs.declared.param.ChannelShift.{ChannelShift}
 use Rattle.jxlm_transform.specs.declared.param.ChannelShift.TheVariants.{JpegUpsampling, Shifts, Raw}
@@ -81,7 +81,7 @@ raw_side : (z : ℤ) (original : ℕ) → IsShift z → IsHalved original (div_c
 raw_side (pos s) original v = by_power original s
 raw_side (negsuc s) original v = absurd (let low = v.0 in omega (arith, ints, low))
 
-pub sides_of_shift : (s : ChannelShift) (w h : ℕ) → IsValidShift s → IsHalved w (shift_size s (w, h)).0 (hshift s) × IsHalved h (shift_size s (w, h)).1 (vshift s)
+pub sides_of_shift : (s : ChannelShift) (w h : ℕ) → IsValidShift s → IsHalved w (shift_size s (w, h)).0 (shifts_of s).0 × IsHalved h (shift_size s (w, h)).1 (shifts_of s).1
 sides_of_shift (JpegUpsampling has_h h has_v v) a b valid = (jpeg_side has_h h a valid.0, jpeg_side has_v v b valid.1)
 sides_of_shift (Shifts s) a b valid = (
   subst (IsHalved a (div_ceil a (2 ^ s))) (sym (hshift-shifts s valid)) (by_power a s),

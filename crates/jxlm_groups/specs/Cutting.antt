@@ -17,8 +17,7 @@ list_with channels nb_meta = record { channels = channels; nb_meta = nb_meta }
 abbrev pub fits_group : ℕ → Channel → Bool
 fits_group dim c = nat_le c.width dim && nat_le c.height dim
 
--- how many channels the global part has: the longest prefix of channels that are meta or fit a group
--- (Modular: global part)
+-- how many channels the global part has: the longest prefix that are meta or fit a group (Modular: global part)
 abbrev pub global_count : ℕ → ChannelList → ℕ
 global_count dim l = l.nb_meta + prefix_len (fits_group dim) (drop l.nb_meta l.channels)
 
@@ -40,8 +39,7 @@ abbrev pub kind_of : List Pass → ℕ → ℕ → Channel → Kind
 kind_of passes count n c =
     if nat_lt n count then kinds.Global else if is_low_frequency c then kinds.Lf else kinds.Pass (pass_of passes c)
 
--- how many samples of the picture a group is wide and high: an LF group has eight times a group's side
--- (frame: LF groups)
+-- the side of a group in samples of the picture: an LF group has eight times that of a group (frame: LF groups)
 abbrev pub span : ℕ → Channel → ℕ
 span dim c = if is_low_frequency c then 8 * dim else dim
 

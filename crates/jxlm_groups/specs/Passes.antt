@@ -1,5 +1,4 @@
--- The passes of a frame, and which images can be cut into groups
--- (ISO/IEC 18181-1, frame: passes, groups; Modular: global and group sub-bitstreams).
+-- The passes of a frame, and which images can be cut (ISO/IEC 18181-1, frame: passes, groups; Modular: groups).
 use Rattle.std.specs.Prelude.{ℕ, List, [], ◌∷◌, length, map, Bool, true, not, ◌&&◌, nat_le, ◌==◌, ℤ, pos, int_le, int_lt}
 use Rattle.std.specs.List.{list_any, list_all}
 use Rattle.jxlm_transform.specs.Channels.{Channel}

@@ -1,5 +1,4 @@
--- What each part holds of the coded channels: regions and channels
--- (ISO/IEC 18181-1, Modular: global and group sub-bitstreams).
+-- What each part holds of the coded channels (ISO/IEC 18181-1, Modular: global and group sub-bitstreams).
 use Rattle.std.specs.Prelude.{◌≡◌, ℕ, ◌+◌, ◌*◌, ◌/◌, ◌%◌, ◌-◌, ◌^◌, min, List, map, get_or, Bool, ◌&&◌, nat_lt, ◌==◌, if◌then◌else◌, unsigned_abs, filter_map, Option, Some, None}
 use Rattle.std.specs.List.{enumerate_from}
 use Rattle.jxlm_base.specs.Regions.{region}
@@ -49,8 +48,7 @@ within r p = region r.buffer (r.x + p.x) (r.y + p.y) p.width p.height
 abbrev pub in_store : List Region → List Region → List Region
 in_store coded pieces = map (λ p. within (get_or coded p.buffer no_region) p) pieces
 
--- The channel that a group has of a region of channel c: of the region's sides, and of a picture of these, shifted
--- back; its shifts stay (Modular: channels of a group).
+-- a group's channel in a region of channel c: of its sides, and of a picture of these, shifted back; its shifts stay
 abbrev pub piece_channel : Channel → Region → Channel
 piece_channel c r = record c {
   width = r.width;

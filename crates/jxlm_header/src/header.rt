@@ -4,8 +4,8 @@ ghost use Rattle.std.specs.Prelude.{◌≡◌, IfOk, map};
 ghost use Rattle.std.specs.List.{All, list_any};
 ghost use Rattle.jxlm_bits.specs.Bits.{bytes_of, position_of};
 ghost use Rattle.jxlm_transform.specs.Kinds.{is_palette, is_squeeze};
-ghost use Rattle.jxlm_bits.specs.Grammar.{repeated};
-ghost use Rattle.jxlm_transform.specs.Transforms.{IsTransform, KeepsWeights, Parses, transform_by, transform_of};
+ghost use Rattle.jxlm_bits.specs.Grammar.{repeated, Parses};
+ghost use Rattle.jxlm_transform.specs.Transforms.{IsTransform, KeepsWeights, transform_by, transform_of};
 
 use jxlm_base::grid::OutOfMemory;
 use jxlm_bits::bits::{Bitstream, U32Spec};

@@ -49,8 +49,7 @@ listed_difference k c =
 abbrev pub difference : ℕ → ℕ → ℕ → ℤ
 difference depth k c = listed_difference k c *ℤ pos (2 ^ (min depth 24 - 8))
 
--- The j-th colour after the table in channel c: 64 of a cube of 4 levels a side, raised by an eighth, then those of a
--- cube of 5 levels a side; a channel has the digit of its index in the number.
+-- implicit colour j in channel c, by a digit of j: 64 of 4 levels a channel, raised by an eighth, then others of 5
 unfoldable pub implicit_colour : ℕ → ℕ → ℕ → ℕ
 implicit_colour depth j c =
     let most : ℕ = 2 ^ depth - 1 in

@@ -1,5 +1,4 @@
--- A part with a header of its own, with transforms and a tree: what decoding it leaves
--- (ISO/IEC 18181-1, Modular: group sub-bitstreams).
+-- What decoding a part with a header of its own leaves (ISO/IEC 18181-1, Modular: group sub-bitstreams).
 use Rattle.std.specs.Prelude.{◌≡◌, ◌⊎◌, ℕ, ◌+◌, ◌*◌, ℤ, List, ◌++◌, length, take, Bool, nat_lt, Option, Result, Ok, Err}
 use Rattle.std.specs.Int.{Width}
 use Rattle.jxlm_bits.specs.Decoding.{Meaning}
@@ -23,8 +22,7 @@ use Rattle.jxlm_tree.specs.declared.flat.Leaf.{Leaf}
 use Rattle.jxlm_nested.specs.Zeros.{zeros}
 use Rattle.jxlm_nested.specs.Starts.{IsTreeErrorAt, Start, coded_part, opening_at}
 
--- what the decoding of a part shows beside samples: where its reader is afterwards, whether samples are missing, for how
--- many samples a read was tried, and by which tree
+-- what decoding a part shows beside samples: the reader's position, if some are missing, how many were tried, the tree
 pub record Turn : Type 0 where
   pub position : ℕ
   pub partial : Bool
@@ -49,8 +47,7 @@ pub record NotBegun {S : Type 0} (reason : Type 0) (t : Turn) (old new : List (G
   pub unchanged : new ≡ old
   pub tries : t.tried ≡ 0
 
--- What decoding the samples of a part from bit position p returns, where its channels lie in these regions, and what it
--- leaves: cells of other parts stay.
+-- what decoding a part's samples from bit p returns and leaves in its regions of a store; cells of other parts stay
 pub record PartTurn {S D : Type 0} (d : Meaning D) (w : Width) (to_int : S → ℤ) (part : Part) (bytes : List ℕ) (decoder : D)
     (p : ℕ) (regions : List Region) (partly : Bool) (result : Result (Unit {0}) Error) (t : Turn) (old new : List (Grid S)) : Type 0 where
   pub answers : DecodeGives d w part bytes decoder
@@ -84,8 +81,7 @@ module _ {S D : Type 0} (d : Meaning D) (w : Width) (to_int : S → ℤ) (zero :
     pub cause : (answer ≡ Err e) ⊎ ((answer ≡ Ok tt) × (kind_of e ≡ NoMemory))
     pub cut : new ≡ take (length old) now
 
-  -- What decoding the part returns, and what it leaves. Before its first sample header or tree returns an error, or it is
-  -- out of memory.
+  -- what decoding the part returns and leaves: before its first sample an error of header or tree, or of memory
   abbrev pub NestedTurn : Bool → Result (Unit {0}) Error → Turn → List (Grid S) → List (Grid S) → Type 0
   NestedTurn partly (Ok u) t old new = NestedDone partly t old new
   NestedTurn partly (Err e) t old new =

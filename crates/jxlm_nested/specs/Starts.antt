@@ -1,5 +1,4 @@
--- Header and tree of an image, or of a part with a header of its own, at a bit position
--- (ISO/IEC 18181-1, Modular: Modular header, MA tree).
+-- Header and tree of an image, or of a part with its own header (ISO/IEC 18181-1, Modular: Modular header, MA tree).
 use Rattle.std.specs.Prelude.{◌≡◌, ℕ, List, false, ◌⊎◌, MatchBool, Option, Some, is_some, Result, Ok}
 use Rattle.jxlm_bits.specs.Decoding.{Found, Meaning}
 use Rattle.jxlm_bits.specs.ErrorKind.{ErrorKind, ErrorAt}

@@ -3,12 +3,12 @@
 ghost use Rattle.std.specs.Prelude.{◌≡◌, true, is_some, IfOk};
 ghost use Rattle.std.specs.List.{All};
 ghost use Rattle.std.specs.Option.{option_copied};
+ghost use Rattle.jxlm_bits.specs.Grammar.{Parses};
 ghost use Rattle.jxlm_bits.specs.Bits.{bytes_of, position_of};
 ghost use Rattle.jxlm_chain.specs.Placed.{GoesOn, IsPlaced};
 ghost use Rattle.jxlm_header.specs.Opening.{opening};
 ghost use Rattle.jxlm_transform.specs.Channels.{IsNarrow, infos};
 ghost use Rattle.jxlm_transform.specs.Lists.{list_of};
-ghost use Rattle.jxlm_transform.specs.Transforms.{Parses};
 ghost use Rattle.jxlm_nested.specs.Opened.{IsOpened, TreeOfGives, opened_of, steps_of_header};
 
 use jxlm_bits::bits::Bitstream;

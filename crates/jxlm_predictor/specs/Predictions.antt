@@ -5,7 +5,7 @@ use Rattle.jxlm_bits.specs.ErrorKind.{BadEnum, bitstream_kind}
 use Rattle.jxlm_bits.specs.Numbers.{clamped_gradient}
 use Rattle.jxlm_bits.specs.declared.bits.BitstreamError.{BitstreamError}
 use Rattle.jxlm_weighted.specs.Neighbours.{Neighbours, neighbours}
-use Rattle.jxlm_weighted.specs.SelfCorrecting.{corrected}
+use Rattle.jxlm_weighted.specs.SelfCorrecting.{weighted_prediction}
 use Rattle.jxlm_predictor.specs.declared.predictor.Predictor.{Predictor}
 use Rattle.jxlm_predictor.specs.declared.predictor.Predictor.TheVariants.{Zero, West, North, AvgWestAndNorth, Select, Gradient, SelfCorrecting, NorthEast, NorthWest, WestWest, AvgWestAndNorthWest, AvgNorthAndNorthWest, AvgNorthAndNorthEast, AvgAll}
 use Rattle.jxlm_weighted.specs.declared.weights.WpHeader.{WpHeader}
@@ -60,4 +60,4 @@ prediction_from a p AvgAll = int_div (pos 6 *ℤ a.n -ℤ pos 2 *ℤ a.nn +ℤ p
 
 -- the prediction at the cell after the samples, reduced to 32 bits
 abbrev pub prediction : Option WpHeader → List ℤ → ℕ → Predictor → ℤ
-prediction weights samples width predictor = int_wrap w32 (prediction_from (neighbours samples width) (corrected weights samples width) predictor)
+prediction weights samples width predictor = int_wrap w32 (prediction_from (neighbours samples width) (weighted_prediction weights samples width) predictor)

@@ -1,14 +1,14 @@
 -- The properties of a cell (ISO/IEC 18181-1, Modular: properties).
-use Rattle.std.specs.Prelude.{ℕ, zero, suc, ◌-◌, ◌/◌, ◌%◌, ◌==◌, nat_lt, if◌then◌else◌, ℤ, pos, ◌+ℤ◌, ◌-ℤ◌, List, [], ◌∷◌, slice_get, slice_index_or, Option, Some, None}
+use Rattle.std.specs.Prelude.{ℕ, zero, suc, ◌-◌, ◌/◌, ◌%◌, ◌==◌, nat_lt, if◌then◌else◌, ℤ, pos, ◌+ℤ◌, ◌-ℤ◌, List, [], ◌∷◌, slice_get, slice_index_or, Option}
+use Rattle.std.specs.Option.{option_map_or}
 use Rattle.std.specs.Int.{w32, int_wrap}
 use Rattle.jxlm_base.specs.Grid.{Grid}
 use Rattle.jxlm_bits.specs.Numbers.{absolute, clamped_gradient}
-use Rattle.jxlm_weighted.specs.Neighbours.{neighbours, at, west, north, north_west, column, row}
+use Rattle.jxlm_weighted.specs.Neighbours.{neighbours, neighbours_at, at, west, north, north_west, column, row}
 use Rattle.jxlm_weighted.specs.SelfCorrecting.{error_property}
 use Rattle.jxlm_weighted.specs.declared.weights.WpHeader.{WpHeader}
 
--- What the properties of a cell look at: the weights, if there are any; the width; the samples before the cell, in row
--- order; the earlier channels of this size, whole, the nearest first.
+-- what the properties of a cell look at: the samples before it, and the earlier channels of its size, the nearest first
 pub record Surroundings : Type 0 where
   pub weights : Option WpHeader
   pub width : ℕ
@@ -35,26 +35,19 @@ own_properties s =
     ∷ (a.w -ℤ a.nw) ∷ (a.nw -ℤ a.n) ∷ (a.n -ℤ a.ne) ∷ (a.n -ℤ a.nn) ∷ (a.w -ℤ a.ww)
     ∷ error_property s.weights s.samples s.width ∷ []
 
--- what an earlier channel leads to expect: 0 at the start, above in column 0, left in row 0, else the clamped gradient
-abbrev pub expectation : List ℤ → ℕ → ℕ → ℕ → ℤ
-expectation cells width zero zero = pos 0
-expectation cells width zero (suc y) = at cells width 0 y
-expectation cells width (suc x) zero = at cells width x 0
-expectation cells width (suc x) (suc y) = clamped_gradient (at cells width (suc x) y) (at cells width x (suc y)) (at cells width x y)
-
--- the four properties of an earlier channel at (x, y), before they are reduced
+-- the properties of an earlier channel at (x, y), not reduced: its sample, and what that has beyond its clamped gradient
 abbrev pub earlier_properties : Grid ℤ → ℕ → ℕ → List ℤ
 earlier_properties g x y =
     let c = at g.cells g.width x y in
-    let d = c -ℤ expectation g.cells g.width x y in
+    let a = neighbours_at g.cells g.width x y in
+    let d = c -ℤ clamped_gradient a.n a.w a.nw in
     absolute c ∷ c ∷ absolute d ∷ d ∷ []
 
 -- property 16 + n before it is reduced; where there is no such earlier channel it is 0
 abbrev pub earlier_property : Surroundings → ℕ → ℤ
-earlier_property s n = of_channel (slice_get s.earlier (n / 4)) where
-  of_channel : Option (Grid ℤ) → ℤ
-  of_channel None = pos 0
-  of_channel (Some g) = slice_index_or (earlier_properties g (column s.samples s.width) (row s.samples s.width)) (n % 4) (pos 0)
+earlier_property s n =
+    let of_channel = λ (g : Grid ℤ). earlier_properties g (column s.samples s.width) (row s.samples s.width) in
+    slice_index_or (option_map_or of_channel (slice_get s.earlier (n / 4)) []) (n % 4) (pos 0)
 
 -- property k at the cell after the samples, reduced to 32 bits; properties 0 and 1 are not of the cell, and are 0 here
 abbrev pub place_property : Surroundings → ℕ → ℤ

@@ -1,10 +1,11 @@
 //! Property 9 where it is clamped in place of being reduced to 32 bits.
 
-ghost use Rattle.std.specs.Prelude.{◌≡◌, ◌+ℤ◌, ◌-ℤ◌, ℤ, List};
+ghost use Rattle.std.specs.Prelude.{◌≡◌, ◌+ℤ◌, ◌-ℤ◌, ℤ, List, neg_ℤ, pos};
 ghost use Rattle.jxlm_base.specs.Regions.{store_meanings};
+ghost use Rattle.jxlm_bits.specs.Numbers.{clamp};
 ghost use Rattle.jxlm_predictor.specs.Holding.{IsCurrent, state_of, store_of, surroundings};
 ghost use Rattle.jxlm_predictor.specs.Standing.{Setting, StandsAt};
-ghost use Rattle.jxlm_predictor.specs.Sums.{clamp_sum, gradient_sum as sum_clamped};
+ghost use Rattle.jxlm_predictor.specs.Sums.{gradient_sum as sum_clamped};
 
 use crate::predictor::Properties;
 use jxlm_base::sample::Sample;
@@ -20,7 +21,7 @@ fn sum(w: i32, nw: i32, n: i32) -> i64
 /// The number clamped to -512..=511.
 #[inline(always)]
 fn near_zero(number: i64) -> i32
-    ensures { result ≡ clamp_sum number }
+    ensures { result ≡ clamp (neg_ℤ (pos 512)) (pos 511) number }
 {
     if number < -512 {
         -512
@@ -34,7 +35,7 @@ fn near_zero(number: i64) -> i32
 /// West less north west plus north, clamped to -512..=511.
 #[inline(always)]
 pub fn clamped_sum(w: i32, nw: i32, n: i32) -> i32
-    ensures { result ≡ clamp_sum (w -ℤ nw +ℤ n) }
+    ensures { result ≡ clamp (neg_ℤ (pos 512)) (pos 511) (w -ℤ nw +ℤ n) }
 {
     near_zero(sum(w, nw, n))
 }

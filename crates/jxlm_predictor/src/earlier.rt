@@ -29,7 +29,8 @@ pub struct EarlierRows<'s, S> {
 
 impl<'s, S: Sample> EarlierRow<'s, S> {
     ghost use Rattle.jxlm_predictor.specs.EarlierRows.{IsRowOf};
-    ghost use Rattle.jxlm_predictor.specs.Properties.{earlier_properties, expectation};
+    ghost use Rattle.jxlm_predictor.specs.Properties.{earlier_properties};
+    ghost use Rattle.jxlm_predictor.specs.Inner.Expected.{expected_in};
 
     // Row `y` of a region.
     pub(crate) fn of(store: &'s [AlignedGrid<S>], region: Region, y: usize) -> EarlierRow<'s, S>
@@ -68,8 +69,8 @@ impl<'s, S: Sample> EarlierRow<'s, S> {
     fn expected(self, x: usize, y: usize) -> i32
         requires column { x < length self.row.now }
         requires above { x < length self.above.now }
-        ensures { (r : Region) (store : List (Grid S)) → IsRowOf r store y self.entry → result ≡ expectation
-            (grid_of (store_meanings S.to_int store) r).cells r.width x y }
+        ensures { (r : Region) (store : List (Grid S)) → IsRowOf r store y self.entry → result ≡ expected_in
+            (grid_of (store_meanings S.to_int store) r) x y }
     {
         if x == 0 {
             self.expected_first(y)
@@ -83,8 +84,8 @@ impl<'s, S: Sample> EarlierRow<'s, S> {
     // The same in the first column.
     fn expected_first(self, y: usize) -> i32
         requires { 0 < length self.above.now }
-        ensures { (r : Region) (store : List (Grid S)) → IsRowOf r store y self.entry → result ≡ expectation
-            (grid_of (store_meanings S.to_int store) r).cells r.width 0 y }
+        ensures { (r : Region) (store : List (Grid S)) → IsRowOf r store y self.entry → result ≡ expected_in
+            (grid_of (store_meanings S.to_int store) r) 0 y }
     {
         if y == 0 { 0 } else { self.cell_above(0) }
     }

@@ -4,7 +4,7 @@
 //! prediction.
 
 ghost use Rattle.jxlm_predictor.specs.Holding.{IsCurrent, IsOfPlace};
-ghost use Rattle.jxlm_weighted.specs.SelfCorrecting.{corrected, unclamped_correction};
+ghost use Rattle.jxlm_weighted.specs.SelfCorrecting.{weighted_prediction, unclamped_correction};
 
 use crate::properties::Properties;
 use jxlm_weighted::self_correcting::PredictionResult;
@@ -26,7 +26,7 @@ pub fn before_clamp<S>(properties: &Properties<'_, S>) -> i64
 /// The prediction at the cell of these properties, times 8, after its clamp; 0 where there are no weights.
 pub fn after_clamp<S>(properties: &Properties<'_, S>) -> i64
     requires { IsCurrent properties.now }
-    ensures { IsOfPlace properties.now corrected result }
+    ensures { IsOfPlace properties.now weighted_prediction result }
 {
     PredictionResult::eightfold(&properties.correction)
 }

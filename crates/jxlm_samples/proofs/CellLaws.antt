@@ -36,7 +36,8 @@ use Rattle.jxlm_samples.specs.Coded.{next_prediction, sample_of}
 use Rattle.jxlm_tree.specs.SumTrees.{GoesBySum, takes_sums_at}
 use Rattle.jxlm_transform.specs.Params.{are_clamped}
 use Rattle.jxlm_tree.proofs.SumTrees.{goes_by_sum, second_of}
-use Rattle.jxlm_samples.specs.Part.{clamps, channel, max_width, no_channel}
+use Rattle.jxlm_transform.specs.ChannelSteps.{table_channel}
+use Rattle.jxlm_samples.specs.Part.{clamps, channel, max_width}
 use Rattle.jxlm_samples.specs.Reading.{FindsClusters, HasRoomFor, IsCodingOf, IsTreeOf, alone_at, are_weighted, cost_of, flat, part_of, regions_of, weights_used}
 use Rattle.jxlm_samples.specs.Inner.Cells.{FailsSample, ReadsSample, predicted_at}
 use Rattle.jxlm_samples.specs.ChannelSettings.{StandsAfter, asked_at, earlier_for, region_at, setting_of, weighted_at, weights_at}
@@ -152,7 +153,7 @@ module _ {D : Type 0} (c : PartCoding D) (coding : IsCodingOf c) (i : ℕ) (li :
   narrow_at =
       let count = same_count (part_of c).channels (regions_of c) coding.sizes in
       let same = same_size (part_of c).channels (regions_of c) i coding.sizes li in
-      let sides = coding.narrow i no_channel (omega (arith, count)) in
+      let sides = coding.narrow i (table_channel 0 0) (omega (arith, count)) in
       (subst (λ n. n ≤ 2 ^ 30) (sym same.0) sides.0, subst (λ n. n ≤ 2 ^ 30) (sym same.1) sides.1)
 
 -- the read of the cell in column x of a line's row, after the cells of the row before it

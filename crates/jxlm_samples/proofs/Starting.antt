@@ -15,9 +15,10 @@ use Rattle.jxlm_tree.specs.declared.flat.Leaf.{Leaf}
 use Rattle.jxlm_weighted.specs.declared.weights.WpHeader.{WpHeader}
 use Rattle.jxlm_predictor.specs.declared.state.PredictorState.{PredictorState}
 use Rattle.jxlm_predictor.proofs.StandingLaws.{stands_earlier}
+use Rattle.jxlm_transform.specs.ChannelSteps.{table_channel}
 use Rattle.jxlm_transform.specs.Channels.{Channel, IsNarrow, infos}
 use Rattle.jxlm_transform.specs.declared.channels.PlacedChannel.{PlacedChannel}
-use Rattle.jxlm_samples.specs.Part.{channel, no_channel, downward, earlier_alike, is_alike}
+use Rattle.jxlm_samples.specs.Part.{channel, downward, earlier_alike, is_alike}
 use Rattle.jxlm_samples.specs.Reading.{HasFlats, HasRoom, HasRoomFor, IsCodingOf, IsRoomy, IsRoomyFor, IsTreeOf, LeadsAlone, alone_at, alone_in, flat, part_of, regions_of, row_width, sampled_width, state_width, tree_of, walked_width, width_in_state}
 use Rattle.jxlm_samples.specs.ChannelSettings.{IsAfterChannel, IsNext, StandsIn, all_alike, asked_at, earlier_regions, earlier_for, region_at, setting_of, weights_at}
 use Rattle.jxlm_samples.specs.declared.coding.Alone.{Alone}
@@ -163,7 +164,7 @@ module _ {D X : Type 0} (c : PartCoding D) (i : ℕ) where
 
 -- a channel, as it is kept
 pub info_at : (placed : List PlacedChannel) (k : ℕ) (d : PlacedChannel) → k < length placed → channel (infos placed) k ≡ (get_or placed k d).info
-info_at placed k d l = get_or-map (λ p. p.info) placed k d no_channel l
+info_at placed k d l = get_or-map (λ p. p.info) placed k d (table_channel 0 0) l
 
 pub passes_is : {D : Type 0} (c : PartCoding D) (i e : ℕ) (a b : PlacedChannel) (r : Bool) → e < length c.channels.now → i < length c.channels.now →
     r ≡ is_alike (get_or c.channels.now e a).info (get_or c.channels.now i b).info → passes c i e ≡ r

@@ -40,8 +40,7 @@ module _ {S : Type 0} (d : Meaning S) (w : Width) (part : Part) (bytes : List �
     pub coded : IsCoded decoder p (cell_count part.channels) grids state q
     pub accepts : d.finalize state ≡ Ok tt
 
-  -- The first n cells are coded from position p up to position q, and there the next call returns the error e: the read
-  -- of the next cell, or finalize after the last. That is the number of reads that were tried.
+  -- n cells are coded from p up to q, and the next call, a read or finalize, returns e: the number of reads tried
   pub record FailsAfter (decoder : S) (p n : ℕ) (grids : List (Grid ℤ)) (q : ℕ) (e : DecoderError) (tried : ℕ) :
       Type 0 where
     pub state : S

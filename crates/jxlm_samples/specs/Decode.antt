@@ -25,8 +25,7 @@ module _ {S : Type 0} (d : Meaning S) (w : Width) (part : Part) (bytes : List �
     pub unchanged : new ≡ old
     pub tries : tried ≡ 0
 
-  -- a later call returns the error: the cells before it are coded, the others as before, and the reader is where that
-  -- call began
+  -- a later call returns the error: the cells before it are coded, the others as before, and the reader is before it
   pub record FailsLater (e : DecoderError) (tried : ℕ) : Type 0 where
     pub count : ℕ
     pub fails : FailsAfter d w part bytes decoder old.position count new.grids new.position e tried
@@ -50,8 +49,7 @@ module _ {S : Type 0} (d : Meaning S) (w : Width) (part : Part) (bytes : List �
     pub unchanged : new ≡ old
     pub tries : tried ≡ 0
 
-  -- What decoding returns: Ok where the part is whole, or where the input ends and that is allowed; else the
-  -- decoder's error.
+  -- what decoding returns: Ok where the part is whole, or the input ends and that is allowed; else the decoder's error
   abbrev pub DecodeGives : Bool → Result (Unit {0}) Error → ℕ → Type 0
   DecodeGives allow_partial (Ok u) tried = IsWhole tried ⊎ ((allow_partial ≡ true) × Fails UnexpectedEof tried)
   DecodeGives allow_partial (Err (Decoder UnexpectedEof)) tried = (allow_partial ≡ false) × Fails UnexpectedEof tried

@@ -19,13 +19,9 @@ pub record Part : Type 0 where
   pub tree : Shape Leaf
   pub stream : ℕ
 
--- the channel that is given where there is none
-abbrev pub no_channel : Channel
-no_channel = table_channel 0 0
-
--- channel i
+-- channel i; where there is none, one without cells
 abbrev pub channel : List Channel → ℕ → Channel
-channel channels i = slice_index_or channels i no_channel
+channel channels i = slice_index_or channels i (table_channel 0 0)
 
 -- how many cells there are
 abbrev pub cell_count : List Channel → ℕ

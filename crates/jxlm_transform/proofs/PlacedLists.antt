@@ -6,7 +6,7 @@ use Rattle.std.specs.Result.{is_ok}
 use Rattle.std.proofs.lemmas.List.{length-map, drop-map, take-map, get_or-map}
 use Rattle.jxlm_bits.specs.ErrorKind.{BadPalette, BadSqueeze}
 use Rattle.jxlm_transform.specs.Channels.{Channel, ChannelList, infos, regions}
-use Rattle.jxlm_transform.specs.ChannelSteps.{can_be_squeezed, has_range, keeps_meta, one_size, palette_step, range, squeeze_range, squeeze_step, with_halves}
+use Rattle.jxlm_transform.specs.ChannelSteps.{can_be_squeezed, has_range, keeps_meta, one_size, range, squeeze_range, with_halves, SqueezeStep, list_after}
 use Rattle.jxlm_transform.specs.Ends.{HasEnds}
 use Rattle.jxlm_transform.specs.declared.channels.PlacedChannel.{PlacedChannel}
 use Rattle.jxlm_transform.specs.declared.transform.Palette.{Palette}
@@ -45,7 +45,7 @@ put_halves_by {X} part t f g averages residuals xs seen us new (Ok u) same same_
 put_halves_by part t f g averages residuals xs seen us new (Err e) same same_us a r said = tt
 
 -- which lists a squeeze step suits
-pub squeeze_suits : (t : SqueezeParams) (l : ChannelList) → is_ok (squeeze_step t l) ≡ (squeeze_range t l && list_all can_be_squeezed (range t.begin_c t.num_c l.channels))
+pub squeeze_suits : (t : SqueezeParams) (l : ChannelList) → is_ok (list_after (SqueezeStep t) l) ≡ (squeeze_range t l && list_all can_be_squeezed (range t.begin_c t.num_c l.channels))
 squeeze_suits t l = ok_if (squeeze_range t l && list_all can_be_squeezed (range t.begin_c t.num_c l.channels)) _ _
 
 -- the condition of what is Ok
@@ -59,7 +59,7 @@ pub table_first : {X Y : Type 0} (part : X → Y) (t : Palette) (x : X) (xs new 
 table_first part t x xs new is = ap (map part) is ∙ ap (λ ys. part x ∷ ys) (simp (map-append, take-map, drop-map))
 
 -- what a palette does to a list that it suits, and to the places in it
-pub palette_after : (t : Palette) (l m : ModularChannels) (table : PlacedChannel) → IsOk (palette_step t (list_of l)) → 1 ≤ t.num_c →
+pub palette_after : (t : Palette) (l m : ModularChannels) (table : PlacedChannel) → IsOk (list_after (PaletteStep t) (list_of l)) → 1 ≤ t.num_c →
     table.info ≡ table_channel t.nb_colours t.num_c → table.region ≡ region l.buffers 0 0 t.nb_colours t.num_c →
     m.placed.items ≡ table ∷ (take (t.begin_c + 1) l.placed.items ++ drop (t.begin_c + t.num_c) l.placed.items) →
     m.nb_meta_channels ≡ (if nat_lt t.begin_c l.nb_meta_channels then l.nb_meta_channels + 2 - t.num_c else l.nb_meta_channels + 1) →
@@ -86,7 +86,7 @@ palette_after t l m table ok some info place items nb_meta buffers =
     }
 
 -- the channels of a step that suits them can be squeezed
-pub squeezable : (t : SqueezeParams) (l : ModularChannels) → IsOk (squeeze_step t (list_of l)) → All (λ p. IsTrue (can_be_squeezed p.info)) (range t.begin_c t.num_c l.placed.items)
+pub squeezable : (t : SqueezeParams) (l : ModularChannels) → IsOk (list_after (SqueezeStep t) (list_of l)) → All (λ p. IsTrue (can_be_squeezed p.info)) (range t.begin_c t.num_c l.placed.items)
 squeezable t l ok =
     let xs : List PlacedChannel = l.placed.items in
     let cs : List Channel = range t.begin_c t.num_c (infos xs) in

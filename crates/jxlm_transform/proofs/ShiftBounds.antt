@@ -6,7 +6,7 @@ use Rattle.std.proofs.lemmas.Int.{ints, to_z_pos}
 use Rattle.std.specs.Int.{w32, div_ceil}
 use Rattle.std.specs.Int.RustNames.{unsigned_abs}
 use Rattle.jxlm_transform.specs.Params.{IsSide}
-use Rattle.jxlm_transform.specs.Shifts.{upsampled_side, shift_size, jpeg_shift, hshift, vshift, IsShift, IsValidShift}
+use Rattle.jxlm_transform.specs.Shifts.{upsampled_side, shift_size, jpeg_shift, shifts_of, IsShift, IsValidShift}
 use Rattle.jxlm_transform.specs.declared.param.ChannelShift.{ChannelShift}
 use Rattle.jxlm_transform.specs.declared.param.ChannelShift.TheVariants.{JpegUpsampling, Shifts, Raw}
 
@@ -33,7 +33,7 @@ IsSide-shift_size (Raw h v) w n fits_w fits_n =
     (omega arith, omega arith)
 
 -- a single shift that may be given is itself as a signed number
-pub hshift-shifts : (s : ℕ) → IsValidShift (Shifts s) → hshift (Shifts s) ≡ pos s
+pub hshift-shifts : (s : ℕ) → IsValidShift (Shifts s) → (shifts_of (Shifts s)).0 ≡ pos s
 hshift-shifts s valid = to_z_pos w32 s (omega arith)
 
 IsShift-pos : (n : ℕ) → n ≤ 30 → IsShift (pos n)
@@ -44,7 +44,7 @@ halvings true = IsShift-pos 1 (omega arith)
 halvings false = IsShift-pos 0 (omega arith)
 
 -- The shifts of a channel that may be given go from 0 to 30.
-pub IsShift-hshift : (s : ChannelShift) → IsValidShift s → IsShift (hshift s) × IsShift (vshift s)
+pub IsShift-hshift : (s : ChannelShift) → IsValidShift s → IsShift (shifts_of s).0 × IsShift (shifts_of s).1
 IsShift-hshift (JpegUpsampling has_h h has_v v) valid = (halvings h, halvings v)
 IsShift-hshift (Shifts s) valid = rw (hshift-shifts s valid) (IsShift-pos s valid, IsShift-pos s valid)
 IsShift-hshift (Raw h v) valid = valid

@@ -12,7 +12,7 @@ use Rattle.jxlm_bits.specs.ErrorKind.{ErrorKind, BadSqueeze}
 use Rattle.jxlm_transform.proofs.Halvings.{more, none}
 use Rattle.jxlm_transform.proofs.SideBounds.{came}
 use Rattle.jxlm_transform.specs.Channels.{Channel, ChannelList}
-use Rattle.jxlm_transform.specs.ChannelSteps.{Step, SqueezeStep, average_channel, default_of_all, default_of_chroma, default_squeeze, halvings, in_turn, list_after_all, one_size, range, residual_channel, squeeze_step, step_of_all, step_of_chroma}
+use Rattle.jxlm_transform.specs.ChannelSteps.{Step, SqueezeStep, average_channel, default_of_all, default_of_chroma, default_squeeze, halvings, in_turn, list_after_all, one_size, range, residual_channel, step_of_all, step_of_chroma, list_after}
 use Rattle.jxlm_transform.specs.DefaultSqueeze.{halved_side, IsLeastToEight, TakesFewestSteps, LeavesSmallSides}
 use Rattle.jxlm_transform.specs.declared.transform.SqueezeParams.{SqueezeParams}
 
@@ -183,7 +183,7 @@ module _ {X : Type 0} where
   begun (x ∷ xs) rest (suc f) c e = begun xs rest f c e
 
 -- a step of all channels leaves the averages of the first in its place
-first_halved : (f n : ℕ) (h : Bool) (l m : ChannelList) (c : Channel) → slice_get l.channels f ≡ Some c → squeeze_step (step_of_all f (suc n) h) l ≡ Ok m → slice_get m.channels f ≡ Some (average_channel h c)
+first_halved : (f n : ℕ) (h : Bool) (l m : ChannelList) (c : Channel) → slice_get l.channels f ≡ Some c → list_after (SqueezeStep (step_of_all f (suc n) h)) l ≡ Ok m → slice_get m.channels f ≡ Some (average_channel h c)
 first_halved f n h l m c there step =
     let xs : List Channel = l.channels in
     let (rest, is) = ranged xs f n c there in
@@ -197,7 +197,7 @@ first_halved f n h l m c there step =
     (longer (take f xs ++ halves (range f (suc n) xs)) (drop (f + suc n) xs) f (average_channel h c) placed)
 
 -- one of chroma leaves the first channel
-first_kept : (f : ℕ) (h : Bool) (l m : ChannelList) (c : Channel) → slice_get l.channels f ≡ Some c → squeeze_step (step_of_chroma f h) l ≡ Ok m → slice_get m.channels f ≡ Some c
+first_kept : (f : ℕ) (h : Bool) (l m : ChannelList) (c : Channel) → slice_get l.channels f ≡ Some c → list_after (SqueezeStep (step_of_chroma f h)) l ≡ Ok m → slice_get m.channels f ≡ Some c
 first_kept f h l m c there step =
     let xs : List Channel = l.channels in
     let cs : List Channel = range (f + 1) 2 xs in
@@ -230,8 +230,8 @@ first_after f n [] l m c all there e =
       same l m e = cc
 first_after f n (s ∷ ss) l m c all there e =
     let is : s ≡ step_of_all f (suc n) s.horizontal = All-head (λ s. s ≡ step_of_all f (suc n) s.horizontal) s ss all in
-    let (k, first, rest) = came (squeeze_step s l) (list_after_all (map SqueezeStep ss)) m e in
-    let next = first_halved f n s.horizontal l k c there (subst (λ (t : SqueezeParams). squeeze_step t l ≡ Ok k) is first) in
+    let (k, first, rest) = came (list_after (SqueezeStep s) l) (list_after_all (map SqueezeStep ss)) m e in
+    let next = first_halved f n s.horizontal l k c there (subst (λ (t : SqueezeParams). list_after (SqueezeStep t) l ≡ Ok k) is first) in
     let (d, ends, halves) = first_after f n ss k m (average_channel s.horizontal c) (All-tail (λ s. s ≡ step_of_all f (suc n) s.horizontal) s ss all) next rest in
     let more = halved_once_more s.horizontal (across ss) (down ss) c d halves in
     (d, ends, (more.0 ∙ ap (λ (k : ℕ). halved_side k c.width) (sym (next_across s ss)), more.1 ∙ ap (λ (k : ℕ). halved_side k c.height) (sym (next_down s ss))))
@@ -242,8 +242,8 @@ first_after_chroma : (f : ℕ) (b : Bool) (ss : List SqueezeParams) (l m : Chann
     (k : ChannelList) × (slice_get k.channels f ≡ Some c) × (list_after_all (map SqueezeStep ss) k ≡ Ok m)
 first_after_chroma f false ss l m c there e = (l, there, e)
 first_after_chroma f true ss l m c there e =
-    let (i, first, rest) = came (squeeze_step (step_of_chroma f true) l) (list_after_all (SqueezeStep (step_of_chroma f false) ∷ map SqueezeStep ss)) m e in
-    let (k, second, last) = came (squeeze_step (step_of_chroma f false) i) (list_after_all (map SqueezeStep ss)) m rest in
+    let (i, first, rest) = came (list_after (SqueezeStep (step_of_chroma f true)) l) (list_after_all (SqueezeStep (step_of_chroma f false) ∷ map SqueezeStep ss)) m e in
+    let (k, second, last) = came (list_after (SqueezeStep (step_of_chroma f false)) i) (list_after_all (map SqueezeStep ss)) m rest in
     (k, first_kept f false i k c (first_kept f true l i c there first) second, last)
 
 -- what the law says of the list after the steps

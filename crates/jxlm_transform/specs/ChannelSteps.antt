@@ -34,37 +34,18 @@ with_each_halved t average residual xs = with_halves t (map average (range t.beg
 abbrev pub has_range : {X : Type 0} → ℕ → ℕ → List X → Bool
 has_range begin n xs = nat_le (begin + n) (length xs)
 
--- a channel has the sides of another
-abbrev pub has_size_of : Channel → Channel → Bool
-has_size_of c d = d.width == c.width && d.height == c.height
-
 -- all channels have the sides of the first
 abbrev pub one_size : List Channel → Bool
 one_size [] = true
-one_size (c ∷ cs) = list_all (has_size_of c) cs
+one_size (c ∷ cs) = list_all (λ d. d.width == c.width && d.height == c.height) cs
 
 -- a range that begins among the meta channels ends there
 abbrev pub keeps_meta : ℕ → ℕ → ℕ → Bool
 keeps_meta begin n nb_meta = not (nat_lt begin nb_meta) || nat_le (begin + n) nb_meta
 
--- a colour transform needs three channels of one size, and changes no channel's size
-abbrev pub rct_step : Rct → ChannelList → Result ChannelList ErrorKind
-rct_step t l = if has_range t.begin_c 3 l.channels && one_size (range t.begin_c 3 l.channels) then Ok l else Err BadRct
-
 -- a table: a column for each colour, a row for each channel; its shifts are -1
 abbrev pub table_channel : ℕ → ℕ → Channel
 table_channel colours channels = record { width = colours; height = channels; original_width = colours; original_height = channels; hshift = negsuc 0; vshift = negsuc 0; original_shift = Raw (negsuc 0) (negsuc 0); palette_tables = OfColours; gradient_sums = Wrapped }
-
--- channels of one size, all meta or none, become a table, which comes first and is meta, and a channel of indices
-abbrev pub palette_step : Palette → ChannelList → Result ChannelList ErrorKind
-palette_step t l =
-    let cs : List Channel = l.channels in
-    if has_range t.begin_c t.num_c cs && one_size (range t.begin_c t.num_c cs) && keeps_meta t.begin_c t.num_c l.nb_meta then
-    Ok (record {
-      channels = table_channel t.nb_colours t.num_c ∷ (take (t.begin_c + 1) cs ++ drop (t.begin_c + t.num_c) cs);
-      nb_meta = if nat_lt t.begin_c l.nb_meta then l.nb_meta + 2 - t.num_c else l.nb_meta + 1;
-    })
-    else Err BadPalette
 
 -- a shift grows by one where a side is halved; a table's stays
 abbrev pub shift_of_half : ℤ → ℤ
@@ -92,9 +73,27 @@ can_be_squeezed c = nat_lt 0 c.width && nat_lt 0 c.height && int_le c.hshift (po
 abbrev pub squeeze_range : SqueezeParams → ChannelList → Bool
 squeeze_range t l = has_range t.begin_c t.num_c l.channels && (not (nat_lt t.begin_c l.nb_meta) || t.in_place && nat_le (t.begin_c + t.num_c) l.nb_meta)
 
+-- A transform is one or more steps, each with its effect on the list.
+pub data Step : Type 0 where
+  RctStep : Rct → Step
+  PaletteStep : Palette → Step
+  SqueezeStep : SqueezeParams → Step
+
+-- the list after a step, or its one error
+abbrev pub list_after : Step → ChannelList → Result ChannelList ErrorKind
+-- a colour transform needs three channels of one size, and changes no channel's size
+list_after (RctStep t) l = if has_range t.begin_c 3 l.channels && one_size (range t.begin_c 3 l.channels) then Ok l else Err BadRct
+-- channels of one size, all meta or none, become a table, which comes first and is meta, and a channel of indices
+list_after (PaletteStep t) l =
+    let cs : List Channel = l.channels in
+    if has_range t.begin_c t.num_c cs && one_size (range t.begin_c t.num_c cs) && keeps_meta t.begin_c t.num_c l.nb_meta then
+    Ok (record {
+      channels = table_channel t.nb_colours t.num_c ∷ (take (t.begin_c + 1) cs ++ drop (t.begin_c + t.num_c) cs);
+      nb_meta = if nat_lt t.begin_c l.nb_meta then l.nb_meta + 2 - t.num_c else l.nb_meta + 1;
+    })
+    else Err BadPalette
 -- channels of such a range that can be squeezed become averages and residuals; those of meta channels are meta
-abbrev pub squeeze_step : SqueezeParams → ChannelList → Result ChannelList ErrorKind
-squeeze_step t l =
+list_after (SqueezeStep t) l =
     let cs : List Channel = range t.begin_c t.num_c l.channels in
     if squeeze_range t l && list_all can_be_squeezed cs then
     Ok (record {
@@ -145,23 +144,11 @@ abbrev pub steps_of_squeeze : List SqueezeParams → ChannelList → Result (Lis
 steps_of_squeeze [] l = default_squeeze l.nb_meta (drop l.nb_meta l.channels)
 steps_of_squeeze (s ∷ ss) l = Ok (s ∷ ss)
 
--- A transform is one or more steps, each with its effect on the list.
-pub data Step : Type 0 where
-  RctStep : Rct → Step
-  PaletteStep : Palette → Step
-  SqueezeStep : SqueezeParams → Step
-
 -- the steps of a transform at a list of channels
 abbrev pub steps_of : Transform → ChannelList → Result (List Step) ErrorKind
 steps_of (OfRct t) l = Ok (RctStep t ∷ [])
 steps_of (OfPalette t) l = Ok (PaletteStep t ∷ [])
 steps_of (OfSqueeze steps) l = steps_of_squeeze steps l >>= λ steps. Ok (map SqueezeStep steps)
-
--- the list after a step, or its one error
-abbrev pub list_after : Step → ChannelList → Result ChannelList ErrorKind
-list_after (RctStep t) l = rct_step t l
-list_after (PaletteStep t) l = palette_step t l
-list_after (SqueezeStep t) l = squeeze_step t l
 
 -- the list after steps in order
 abbrev pub list_after_all : List Step → ChannelList → Result ChannelList ErrorKind

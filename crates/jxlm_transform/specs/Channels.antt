@@ -17,19 +17,17 @@ Channel = ModularChannelInfo
 
 -- a channel of an image, before any transform
 abbrev pub image_channel : ModularChannelParams → Channel
-image_channel p =
-    let size : ℕ × ℕ = shifts.shift_size p.shift (p.width, p.height) in
-    record {
-      width = size.0;
-      height = size.1;
-      original_width = p.width;
-      original_height = p.height;
-      hshift = shifts.hshift p.shift;
-      vshift = shifts.vshift p.shift;
-      original_shift = p.shift;
-      palette_tables = p.palette_tables;
-      gradient_sums = p.gradient_sums;
-    }
+image_channel p = record {
+  width = (shifts.shift_size p.shift (p.width, p.height)).0;
+  height = (shifts.shift_size p.shift (p.width, p.height)).1;
+  original_width = p.width;
+  original_height = p.height;
+  hshift = (shifts.shifts_of p.shift).0;
+  vshift = (shifts.shifts_of p.shift).1;
+  original_shift = p.shift;
+  palette_tables = p.palette_tables;
+  gradient_sums = p.gradient_sums;
+}
 
 -- no side of it is above 2 ^ 30
 abbrev pub IsNarrow : Channel → Type 0

@@ -27,8 +27,7 @@ first_layout cs = record { regions = whole_regions 0 cs; buffers = length cs }
 abbrev pub no_region : Region
 no_region = region 0 0 0 0 0
 
--- After a step: a table has the next buffer, and its indices lie where the first of its channels lay; a squeezed
--- region is divided in two.
+-- after a step: a table has the next buffer, its indices lie where its first channel lay, a squeezed region is divided
 abbrev pub layout_after : Step → Layout → Layout
 layout_after (RctStep t) l = l
 layout_after (PaletteStep t) l = record {

@@ -16,17 +16,11 @@ shift_size (JpegUpsampling has_h h has_v v) size = (upsampled_side has_h h size.
 shift_size (Shifts s) size = (div_ceil size.0 (2 ^ s), div_ceil size.1 (2 ^ s))
 shift_size (Raw h v) size = (div_ceil size.0 (2 ^ unsigned_abs h), div_ceil size.1 (2 ^ unsigned_abs v))
 
--- how often a channel is halved across; a single shift is read as a signed number of 32 bits
-abbrev pub hshift : ChannelShift → ℤ
-hshift (JpegUpsampling has_h h has_v v) = if h then pos 1 else pos 0
-hshift (Shifts s) = cast_signed w32 s
-hshift (Raw h v) = h
-
--- how often it is halved down
-abbrev pub vshift : ChannelShift → ℤ
-vshift (JpegUpsampling has_h h has_v v) = if v then pos 1 else pos 0
-vshift (Shifts s) = cast_signed w32 s
-vshift (Raw h v) = v
+-- how often a channel is halved across, and down; a single shift is read as a signed number of 32 bits
+abbrev pub shifts_of : ChannelShift → ℤ × ℤ
+shifts_of (JpegUpsampling has_h h has_v v) = (if h then pos 1 else pos 0, if v then pos 1 else pos 0)
+shifts_of (Shifts s) = (cast_signed w32 s, cast_signed w32 s)
+shifts_of (Raw h v) = (h, v)
 
 -- The channel of this index, by the samples that each of three channels has across and down: the value 0 stands for 1
 -- and 1, 1 for 2 and 2, 2 for 2 and 1, 3 for 1 and 2. A channel is halved along a side where it has 1 and some

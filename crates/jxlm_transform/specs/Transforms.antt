@@ -1,11 +1,9 @@
 -- The transforms of a header, as they stand in the input (ISO/IEC 18181-1, Modular: TransformInfo and SqueezeParams).
-use Rattle.std.specs.Prelude.{◌≡◌, ◌⊎◌, ℕ, ◌+◌, ◌≤◌, List, length, slice_get, ok_or, ◌==◌, codes, Option, Some, None, Result, Ok, Err}
+use Rattle.std.specs.Prelude.{◌≡◌, ◌⊎◌, ℕ, ◌+◌, ◌≤◌, List, length, slice_get, ok_or, ◌==◌, codes, Option, Some, None}
 use Rattle.std.specs.List.{All}
-use Rattle.jxlm_bits.specs.Decoding.{Found}
-use Rattle.jxlm_bits.specs.ErrorKind.{ErrorKind, BadEnum, ErrorAt, UnlessNoMemory, kind_of}
-use Rattle.jxlm_bits.specs.Grammar.{Grammar, IsErrorAt, number, flag, u32, give, fail, either, repeated, ◌>>=◌, from_result}
+use Rattle.jxlm_bits.specs.ErrorKind.{BadEnum}
+use Rattle.jxlm_bits.specs.Grammar.{Grammar, number, flag, u32, give, fail, either, repeated, ◌>>=◌, from_result}
 use Rattle.jxlm_bits.specs.declared.bits.U32Spec.TheVariants.{Const, Offset}
-use Rattle.jxlm_bits.specs.declared.error.Error.{Error}
 use Rattle.jxlm_predictor.specs.Predictions.{predictors}
 use Rattle.jxlm_predictor.specs.declared.predictor.Predictor.{Predictor}
 use Rattle.jxlm_predictor.specs.declared.predictor.Predictor.TheVariants.{SelfCorrecting}
@@ -141,9 +139,3 @@ HasChannels other = Unit {0}
 abbrev pub KeepsWeights : WpHeader → Transform → Type 0
 KeepsWeights weights (OfPalette t) = (t.wp_header ≡ None) ⊎ (t.wp_header ≡ Some weights)
 KeepsWeights weights other = Unit {0}
-
--- What a call that reads fields and takes memory returned, seen by view, and where it left the reader, are what
--- reading gives, unless it is out of memory.
-abbrev pub Parses : {X Y : Type 0} → (X → Y) → Result X Error → ℕ → Result (Found Y) ErrorAt → Type 0
-Parses view (Ok x) q reading = reading ≡ Ok (record { value = view x; position = q })
-Parses view (Err e) q reading = UnlessNoMemory (kind_of e) (IsErrorAt reading (kind_of e) q)

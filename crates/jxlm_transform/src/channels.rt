@@ -1,11 +1,11 @@
 //! The channels of an image, as they are coded (ISO/IEC 18181-1, Modular: channel list).
 
-ghost use Rattle.std.specs.Prelude.{◌≡◌, ◌≤ℤ◌, pos, IsTrue, IfOk, IfErr, map};
+ghost use Rattle.std.specs.Prelude.{◌≡◌, ◌≤ℤ◌, ◌&&◌, ◌==◌, pos, IsTrue, IfOk, IfErr, map};
 ghost use Rattle.std.specs.List.{All, list_any};
 ghost use Rattle.jxlm_bits.specs.ErrorKind.{NoMemory, kind_of};
 ghost use Rattle.jxlm_base.specs.Regions.{region};
 ghost use Rattle.jxlm_lanes.specs.Squeeze.{averages as the_averages};
-ghost use Rattle.jxlm_transform.specs.ChannelSteps.{has_size_of, table_channel, average_channel, residual_channel, can_be_squeezed, shift_of_half as the_grown};
+ghost use Rattle.jxlm_transform.specs.ChannelSteps.{table_channel, average_channel, residual_channel, can_be_squeezed, shift_of_half as the_grown};
 ghost use Rattle.jxlm_transform.specs.Channels.{image_channel, infos, regions, tables_for as the_tables};
 ghost use Rattle.jxlm_transform.specs.Ends.{HasEnds};
 ghost use Rattle.jxlm_transform.specs.Params.{IsValidChannel, has_deltas};
@@ -92,7 +92,7 @@ impl ModularChannelInfo {
 
     /// Whether another channel has the size of this one.
     pub fn is_of_size(&self, other: &ModularChannelInfo) -> bool
-        ensures { result ≡ has_size_of self.now other.now }
+        ensures { result ≡ (other.now.width == self.now.width && other.now.height == self.now.height) }
     {
         other.width == self.width && other.height == self.height
     }

@@ -3,7 +3,7 @@
 ghost use Rattle.std.specs.Prelude.{◌≡◌, ◌+◌, ◌<◌, ◌≤◌, ◌↔◌, ◌^◌, ◌==◌, ◌&&◌, ◌||◌, IsTrue, IfOk, IfErr, map};
 ghost use Rattle.std.specs.Int.{div_ceil};
 ghost use Rattle.std.specs.List.{All, list_any};
-ghost use Rattle.jxlm_transform.specs.Shifts.{IsValidShift, shift_size, jpeg_shift, hshift, vshift, IsShift, upsampled_side as the_upsampled_side};
+ghost use Rattle.jxlm_transform.specs.Shifts.{IsValidShift, shift_size, jpeg_shift, shifts_of, IsShift, upsampled_side as the_upsampled_side};
 ghost use Rattle.jxlm_transform.specs.Params.{IsSide, IsValidChannel, IsGroupDim, IsValidParams, OneSizeIsValid, OneSizeOfImageIsValid, PowersAreGroupDims, are_clamped, clamps_indices, columns, has_deltas, params_of, channel_params, with_sums, with_tables};
 ghost use Rattle.jxlm_bits.specs.ErrorKind.{NoMemory, kind_of};
 
@@ -72,7 +72,7 @@ impl ChannelShift {
     /// How often the width is halved. `Shifts(s)` gives s as a signed number, which is negative
     /// from 2^31 on.
     pub fn hshift(&self) -> i32
-        ensures { result ≡ hshift self.now }
+        ensures { result ≡ (shifts_of self.now).0 }
     {
         match *self {
             ChannelShift::JpegUpsampling { h_subsample, .. } => i32::from(h_subsample),
@@ -83,7 +83,7 @@ impl ChannelShift {
 
     /// How often the height is halved; `Shifts(s)` as in [`ChannelShift::hshift`].
     pub fn vshift(&self) -> i32
-        ensures { result ≡ vshift self.now }
+        ensures { result ≡ (shifts_of self.now).1 }
     {
         match *self {
             ChannelShift::JpegUpsampling { v_subsample, .. } => i32::from(v_subsample),

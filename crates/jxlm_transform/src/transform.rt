@@ -3,13 +3,13 @@
 ghost use Rattle.std.specs.Prelude.{◌≡◌, ◌≤◌, ◌↔◌, ◌⊎◌, length, IsTrue, IfOk, None, Some};
 ghost use Rattle.std.specs.List.{All};
 ghost use Rattle.jxlm_bits.specs.Bits.{bytes_of, position_of};
-ghost use Rattle.jxlm_bits.specs.Grammar.{FitsU32, IsExact, Reads, number, repeated, u32 as the_u32};
+ghost use Rattle.jxlm_bits.specs.Grammar.{FitsU32, IsExact, Reads, number, repeated, u32 as the_u32, Parses, HasRead};
 ghost use Rattle.jxlm_weighted.specs.WeightsHeader.{GivesExactly};
 ghost use Rattle.jxlm_transform.specs.DefaultSqueeze.{LeavesSmallSides, TakesFewestSteps};
 ghost use Rattle.jxlm_bits.specs.FieldRanges.{min_of, max_of};
 ghost use Rattle.jxlm_transform.specs.Params.{columns};
 ghost use Rattle.jxlm_transform.specs.Kinds.{is_palette as the_palettes, is_squeeze as the_squeezes};
-ghost use Rattle.jxlm_transform.specs.Transforms.{OfPalette, transform_of, begin_channel as the_begin_channel, rct, predictor, weights_for, palette, palette_by, squeeze_params, squeeze, transform, transform_by, IsRct, IsPalette, IsSqueezeParams, IsSqueeze, IsTransform, HasChannels, KeepsWeights, IsPaletteTransform, IsSqueezeTransform, Parses};
+ghost use Rattle.jxlm_transform.specs.Transforms.{OfPalette, transform_of, begin_channel as the_begin_channel, rct, predictor, weights_for, palette, palette_by, squeeze_params, squeeze, transform, transform_by, IsRct, IsPalette, IsSqueezeParams, IsSqueeze, IsTransform, HasChannels, KeepsWeights, IsPaletteTransform, IsSqueezeTransform};
 
 mod lists;
 mod steps;
@@ -142,9 +142,7 @@ impl Rct {
 
 /// A predictor by its number of 4 bits.
 fn read_predictor(bits: &mut Bitstream<'_>) -> std::result::Result<Predictor, BitstreamError>
-    ensures gives { Reads (λ v. v) result (position_of bits.new)
-        (predictor.read (bytes_of bits.old) (position_of bits.old)) }
-    ensures bytes { bytes_of bits.new ≡ bytes_of bits.old }
+    ensures { HasRead Reads (λ v. v) result bits.old bits.new predictor }
 {
     let number = bits.read_bits(4)?;
     Predictor::try_from(number)
@@ -304,9 +302,7 @@ fn read_steps(alloc: Global, bits: &mut Bitstream<'_>, count: u32) -> Result<Vec
 
 /// The kind of a transform.
 fn read_kind(bits: &mut Bitstream<'_>) -> std::result::Result<u32, BitstreamError>
-    ensures gives { Reads (λ v. v) result (position_of bits.new)
-        ((number 2).read (bytes_of bits.old) (position_of bits.old)) }
-    ensures bytes { bytes_of bits.new ≡ bytes_of bits.old }
+    ensures { HasRead Reads (λ v. v) result bits.old bits.new (number 2) }
 {
     bits.read_bits(2)
 }

@@ -5,24 +5,12 @@ use Rattle.jxlm_tree.specs.FlatTree.{FlatTree, leaf_reached}
 use Rattle.jxlm_tree.specs.Tree.{Shape, leaf, decision}
 use Rattle.jxlm_tree.specs.declared.flat.Leaf.{Leaf}
 use Rattle.jxlm_predictor.specs.declared.predictor.Predictor.{Predictor}
-use Rattle.jxlm_predictor.specs.declared.predictor.Predictor.TheVariants.{Zero, West, North, AvgWestAndNorth, Select, Gradient, SelfCorrecting, NorthEast, NorthWest, WestWest, AvgWestAndNorthWest, AvgNorthAndNorthWest, AvgNorthAndNorthEast, AvgAll}
+use Rattle.jxlm_predictor.specs.declared.predictor.Predictor.TheVariants.{Gradient}
 
 -- of all predictors, the clamped gradient
 abbrev pub is_gradient : Predictor → Bool
-is_gradient Zero = false
-is_gradient West = false
-is_gradient North = false
-is_gradient AvgWestAndNorth = false
-is_gradient Select = false
 is_gradient Gradient = true
-is_gradient SelfCorrecting = false
-is_gradient NorthEast = false
-is_gradient NorthWest = false
-is_gradient WestWest = false
-is_gradient AvgWestAndNorthWest = false
-is_gradient AvgNorthAndNorthWest = false
-is_gradient AvgNorthAndNorthEast = false
-is_gradient AvgAll = false
+is_gradient other = false
 
 -- a leaf that predicts by the gradient, with an offset and a multiplier of 8 bits
 abbrev pub is_small_gradient : Leaf → Bool
@@ -33,8 +21,7 @@ is_small_gradient l =
 abbrev pub is_near : ℤ → Bool
 is_near v = int_le (neg_ℤ (pos 513)) v && int_le v (pos 510)
 
--- once the decisions on the channel and the stream are taken, all others are on property 9 with near cuts, and all leaves
--- are such gradients
+-- decisions on channel and stream taken, all others are on property 9 with near cuts, and all leaves such gradients
 abbrev pub takes_sums : ℤ → ℤ → Shape Leaf → Bool
 takes_sums channel stream (leaf l) = is_small_gradient l
 takes_sums channel stream (decision k v left right) =

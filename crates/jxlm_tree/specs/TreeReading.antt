@@ -13,10 +13,6 @@ use Rattle.jxlm_tree.specs.Tree.{Node, Config, leaf_node, decision_node, levels,
 use Rattle.jxlm_tree.specs.declared.flat.Leaf.{Leaf}
 use Rattle.jxlm_predictor.specs.declared.predictor.Predictor.{Predictor}
 
--- an error, with the reader at p
-abbrev pub error_at_bit : {X : Type 0} → ℕ → ErrorKind → Result X ErrorAt
-error_at_bit p error = Err (record { error = error; position = Some p })
-
 -- what a call of the decoder gives; its error leaves the reader at that position
 abbrev pub through : {X : Type 0} → Option ℕ → Result X DecoderError → Result X ErrorAt
 through place = result_map_both (λ x. x) (λ e. record { error = OfDecoder e; position = place })
@@ -74,9 +70,10 @@ module _ {S : Type 0} (d : Meaning S) (bytes : List ℕ) where
   unfoldable pub multiplier_at : S → ℕ → Result (Taken ℕ S) ErrorAt
   multiplier_at s p = do
     log ← read_context 4 s p
-    if nat_lt 30 log.value then error_at_bit log.position BadTree else (do
+    if nat_lt 30 log.value then Err (record { error = BadTree; position = Some log.position }) else (do
       factor ← read_context 5 log.state log.position
-      if nat_lt (2 ^ (31 - log.value) - 2) factor.value then error_at_bit factor.position BadTree else
+      if nat_lt (2 ^ (31 - log.value) - 2) factor.value
+          then Err (record { error = BadTree; position = Some factor.position }) else
           Ok (record { value = (factor.value + 1) * 2 ^ log.value; state = factor.state; position = factor.position }))
 
   -- a leaf: predictor, offset and multiplier; its cluster comes later
@@ -105,7 +102,7 @@ module _ {S : Type 0} (d : Meaning S) (bytes : List ℕ) where
   -- `missing` nodes, and those that they call for, of which `room` may be read; one more is the error `limit`
   unfoldable pub nodes_at : ErrorKind → ℕ → ℕ → S → ℕ → Result (Taken (List (Node Leaf)) S) ErrorAt
   nodes_at limit room zero s p = Ok (record { value = []; state = s; position = p })
-  nodes_at limit zero (suc missing) s p = error_at_bit p limit
+  nodes_at limit zero (suc missing) s p = Err (record { error = limit; position = Some p })
   nodes_at limit (suc room) (suc missing) s p = do
     first ← node_at s p
     others ← nodes_at limit room (missing + children first.value) first.state first.position
@@ -115,7 +112,7 @@ module _ {S : Type 0} (d : Meaning S) (bytes : List ℕ) where
   unfoldable pub drafts_at : ℕ → S → ℕ → Result (Found (List (Node Leaf))) ErrorAt
   drafts_at node_limit s p =
       let single = d.single_token s (slice_index (d.cluster_map s) 1) in
-      if nat_lt 0 (unwrap_or single 0) then error_at_bit p BadTree else (do
+      if nat_lt 0 (unwrap_or single 0) then Err (record { error = BadTree; position = Some p }) else (do
         start ← through (Some p) (d.begin s bytes p)
         nodes ← nodes_at (limit_error node_limit) (max_nodes node_limit) 1 start.value start.position
         ended ← through (Some nodes.position) (d.finalize nodes.state)
@@ -135,21 +132,16 @@ module _ {S : Type 0} (d : Meaning S) (bytes : List ℕ) where
   MemoryGives p (Ok x) = Unit {0}
   MemoryGives p (Err e) = kind_of e ≡ NoMemory → IsOk (d.parse bytes p 6)
 
-  module _ (node_limit depth_limit : ℕ) (p : ℕ) where
+  module _ (limit depth_limit : ℕ) (p : ℕ) where
     -- from position p to q stand the nodes of this tree, level by level, and the decoder of its leaves' clusters
-    abbrev pub IsListedAt : Config S → ℕ → Type 0
-    IsListedAt config q =
-        listing_at node_limit p ≡ Ok (record { value = levels config.tree; state = config.decoder; position = q })
-
-    -- that is the tree at position p, with its decoder, and q is the position after both
     pub record IsTreeAt (config : Config S) (q : ℕ) : Type 0 where
-      pub reads : IsListedAt config q
+      pub reads : listing_at limit p ≡ Ok (record { value = levels config.tree; state = config.decoder; position = q })
       pub within : depth config.tree ≤ depth_limit
 
     -- the tree at position p is too deep, and q is the position after it
     pub record IsTooDeep (error : ErrorKind) (q : ℕ) : Type 0 where
       pub config : Config S
-      pub reads : IsListedAt config q
+      pub reads : listing_at limit p ≡ Ok (record { value = levels config.tree; state = config.decoder; position = q })
       pub beyond : depth_limit < depth config.tree
       pub failure : error ≡ BadProfile (codes "decoded MA tree is too deep")
 
@@ -157,4 +149,4 @@ module _ {S : Type 0} (d : Meaning S) (bytes : List ℕ) where
     -- fails; out of memory may come at any time.
     abbrev pub TreeGives : Result (Config S) Error → ℕ → Type 0
     TreeGives (Ok config) q = IsTreeAt config q
-    TreeGives (Err e) q = UnlessMemory (kind_of e) (IsErrorAt (listing_at node_limit p) (kind_of e) q ⊎ IsTooDeep (kind_of e) q)
+    TreeGives (Err e) q = UnlessMemory (kind_of e) (IsErrorAt (listing_at limit p) (kind_of e) q ⊎ IsTooDeep (kind_of e) q)

@@ -254,7 +254,7 @@ impl CompiledTree {
             .iter()
             .fold(0, |most: u32, node| most.max(node.earlier_named()));
         let found = ClusterTable::of(alloc, &nodes, root)?;
-        let table = ClusterTable::shared(alloc, found)?;
+        let table = ClusterTable::share(alloc, found)?;
         let last_alike = last_channel(channel, channels_alike(&tree.root, &known));
         Ok(CompiledTree {
             nodes,

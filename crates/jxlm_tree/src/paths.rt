@@ -163,8 +163,8 @@ impl ClusterTable {
         }))
     }
 
-    // The table in memory that is shared.
-    pub(crate) fn shared(
+    // Puts the table into memory that is shared.
+    pub(crate) fn share(
         alloc: Global,
         table: Option<ClusterTable>,
     ) -> Result<Option<Rc<ClusterTable>>, OutOfMemory>

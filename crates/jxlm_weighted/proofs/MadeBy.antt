@@ -2,7 +2,7 @@
 use Rattle.std.proofs.Common.{◌≡◌, ℕ, pos, ℤ, List, Some, None, Option, refl}
 use Rattle.jxlm_weighted.specs.Correcting.{Corrects, CorrectsAfter, CorrectsBy, IsMade, IsMadeBy, near_of}
 use Rattle.jxlm_weighted.specs.Inner.CorrectingSteps.{CorrectsNext}
-use Rattle.jxlm_weighted.specs.SelfCorrecting.{corrected, error_property, greatest}
+use Rattle.jxlm_weighted.specs.SelfCorrecting.{weighted_prediction, error_property, greatest}
 use Rattle.jxlm_weighted.specs.declared.weights.WpHeader.{WpHeader}
 use Rattle.jxlm_weighted.specs.declared.self_correcting.Corrector.{Corrector}
 use Rattle.jxlm_weighted.specs.declared.self_correcting.PredictionResult.{PredictionResult}
@@ -23,10 +23,10 @@ error-none None width samples h = refl
 error-none (Some w) width samples h = absurd h
 
 -- nor a prediction
-pub corrected-some : (o : Option WpHeader) (r : PredictionResult) (width : ℕ) (samples : List ℤ) → IsMade (Some r) o width samples → r.prediction ≡ corrected o samples width
+pub corrected-some : (o : Option WpHeader) (r : PredictionResult) (width : ℕ) (samples : List ℤ) → IsMade (Some r) o width samples → r.prediction ≡ weighted_prediction o samples width
 corrected-some None r width samples h = absurd h
 corrected-some (Some w) r width samples h = h.prediction_is
 
-pub corrected-none : (o : Option WpHeader) (width : ℕ) (samples : List ℤ) → IsMade None o width samples → pos 0 ≡ corrected o samples width
+pub corrected-none : (o : Option WpHeader) (width : ℕ) (samples : List ℤ) → IsMade None o width samples → pos 0 ≡ weighted_prediction o samples width
 corrected-none None width samples h = refl
 corrected-none (Some w) width samples h = absurd h

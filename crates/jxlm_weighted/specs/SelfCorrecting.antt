@@ -160,8 +160,8 @@ abbrev pub maximum_error : WpHeader → List ℤ → ℕ → ℤ
 maximum_error header samples width = greatest (near header samples width)
 
 -- the weighted prediction times 8, where there are weights for it
-abbrev pub corrected : Option WpHeader → List ℤ → ℕ → ℤ
-corrected weights samples width = option_map_or (λ h. self_corrected h samples width) weights (pos 0)
+abbrev pub weighted_prediction : Option WpHeader → List ℤ → ℕ → ℤ
+weighted_prediction weights samples width = option_map_or (λ h. self_corrected h samples width) weights (pos 0)
 
 -- the same before it is clamped
 abbrev pub unclamped_correction : Option WpHeader → List ℤ → ℕ → ℤ

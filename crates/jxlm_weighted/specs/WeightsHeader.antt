@@ -1,8 +1,8 @@
 -- The weights of the weighted predictor, as they stand in the input (ISO/IEC 18181-1, Modular: the bundle WPHeader).
-use Rattle.std.specs.Prelude.{◌≡◌, ℕ, true, false, Result, Ok, Err}
+use Rattle.std.specs.Prelude.{ℕ, true, false, Result}
 use Rattle.jxlm_bits.specs.Decoding.{Found}
 use Rattle.jxlm_bits.specs.ErrorKind.{ErrorAt, kind_of}
-use Rattle.jxlm_bits.specs.Grammar.{Grammar, IsErrorAt, number, flag, give, either, ◌>>=◌}
+use Rattle.jxlm_bits.specs.Grammar.{Grammar, IsErrorAt, Returns, number, flag, give, either, ◌>>=◌}
 use Rattle.jxlm_bits.specs.declared.error.Error.{Error}
 use Rattle.jxlm_weighted.specs.declared.weights.WpHeader.{WpHeader}
 
@@ -24,5 +24,4 @@ wp_header = flag >>= λ is_default. either is_default (give default_weights) lis
 
 -- What a call that takes no memory returned, and where it left the reader, are what reading gives.
 abbrev pub GivesExactly : {X : Type 0} → Result X Error → ℕ → Result (Found X) ErrorAt → Type 0
-GivesExactly (Ok x) q reading = reading ≡ Ok (record { value = x; position = q })
-GivesExactly (Err e) q reading = IsErrorAt reading (kind_of e) q
+GivesExactly result q reading = Returns (λ e reading q. IsErrorAt reading (kind_of e) q) (λ v. v) result q reading

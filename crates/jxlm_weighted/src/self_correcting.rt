@@ -358,7 +358,7 @@ impl PredictionResult {
     ghost use Rattle.jxlm_weighted.specs.Around.{neighbours_of};
     ghost use Rattle.jxlm_weighted.specs.Correcting.{IsMade, cell_errors, near_of, predicted_by};
     ghost use Rattle.jxlm_weighted.specs.Inner.CorrectingSteps.{errors_from};
-    ghost use Rattle.jxlm_weighted.specs.SelfCorrecting.{corrected, error_property};
+    ghost use Rattle.jxlm_weighted.specs.SelfCorrecting.{weighted_prediction, error_property};
     ghost use Rattle.jxlm_weighted.specs.declared.weights.WpHeader.{WpHeader};
 
     /// Property 15: the maximum error, or 0 where nothing was made.
@@ -375,7 +375,7 @@ impl PredictionResult {
     /// The prediction times 8, or 0 where nothing was made.
     pub fn eightfold(made: &Option<PredictionResult>) -> i64
         ensures value { (weights : Option WpHeader) (width : ℕ) (samples : List ℤ) → IsMade made.now weights width
-            samples → result ≡ corrected weights samples width }
+            samples → result ≡ weighted_prediction weights samples width }
         ensures bound { unsigned_abs result < 2 ^ 62 }
     {
         match made {

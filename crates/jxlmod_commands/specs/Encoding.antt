@@ -31,8 +31,7 @@ decoder_of Second = plain2
 abbrev pub IsEncodedIn : Format → List (Grid ℤ) → Width → List ℕ → Type 0
 IsEncodedIn format image w bytes = IsEncodedFor [] gradient_tree image (decoder_of format) w bytes
 
--- From the first bit on stands, in a format, a picture of this image, and of no other one. Its header has no global tree,
--- the default weights and no transform, and its tree is one leaf, which predicts by the clamped gradient.
+-- from the first bit on stands, in a format, a picture of this image and of no other, by a plain header and one leaf
 pub record IsEncodedPicture (format : Format) (image : List (Grid ℤ)) (w : Width) (bytes : List ℕ) (bit_depth : ℕ) : Type 0 where
   pub end : ℕ
   pub picture : IsPicture (decoder_of format) w None bytes 0 (channels_of image) 0 bit_depth image end

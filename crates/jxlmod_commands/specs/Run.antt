@@ -13,8 +13,7 @@ status_of Unreadable = 1
 status_of (Refused e) = 1
 status_of Unwritable = 1
 
--- the input was read to its end, from left to rest; other bytes were made of its bytes; the output, which held `held`,
--- holds these after it
+-- the input was read to its end, from left to rest; the output, which held `held`, holds bytes made of it after these
 pub record IsPrinted (prints : List ℕ → List ℕ → Type 0) (left rest held holds : Option (List ℕ)) : Type 0 where
   pub bytes : List ℕ
   pub made : List ℕ

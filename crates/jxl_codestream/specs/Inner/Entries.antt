@@ -2,7 +2,7 @@
 use Rattle.std.specs.Prelude.{◌≡◌, ℕ, ◌+◌, ◌/◌, ◌<◌, List, length, get_or, take, sum, slice_index}
 use Rattle.jxlm_bits.specs.Grammar.{Grammar, u32, give, repeated, ◌>>=◌}
 use Rattle.jxlm_bits.specs.declared.bits.U32Spec.TheVariants.{Offset}
-use Rattle.jxl_image_header.specs.Fields.{here, aligned}
+use Rattle.jxl_image_header.specs.Fields.{here, zero_pad_to_byte}
 use Rattle.jxl_codestream.specs.Tocs.{Table}
 use Rattle.jxl_codestream.specs.declared.toc.Table.{Table as TableInMemory}
 use Rattle.jxl_codestream.specs.declared.toc.TocEntry.{TocEntry}
@@ -17,9 +17,9 @@ entry_size = u32 (Offset 0 10) (Offset 1024 14) (Offset 17408 22) (Offset 421171
 
 abbrev pub sizes : List ℕ → ℕ → Grammar Table
 sizes code n = do
-  u ← aligned
+  u ← zero_pad_to_byte
   sizes ← repeated n entry_size
-  v ← aligned
+  v ← zero_pad_to_byte
   p ← here
   give (record { code = code; sizes = sizes; start = p / 8 })
 

@@ -32,20 +32,20 @@ StartFails d size n deepest first p e = ⊥
 
 -- These are the channels of a frame of this size, by its first section, which has the shared tree from bit p on, and by those
 -- of its groups: they have the samples that the sections code.
-pub record IsCoded {S D : Type 0} (d : Meaning D) (w : Width) (to_int : S → ℤ) (zero : S) (image : Image) (deepest : ℕ) (size : Size) (group_dim : ℕ) (first : List ℕ) (p : ℕ) (places : Places) (grids : List (Grid ℤ)) (before after : ℕ) : Type 0 where
+pub record IsCoded {D : Type 0} (d : Meaning D) (w : Width) (image : Image) (deepest : ℕ) (size : Size) (group_dim : ℕ) (first : List ℕ) (p : ℕ) (places : Places) (grids : List (Grid ℤ)) (before after : ℕ) : Type 0 where
   pub global : Option (Config D)
   pub begin : ℕ
   pub shared : SharedTree d size (channel_count image) deepest first p global begin
-  pub still : IsStill d w to_int zero global (channels_given image size) group_dim image.bit_depth.bits_per_sample first begin (own_passes places) (section_at places) grids before after
+  pub still : IsStill d w global (channels_given image size) group_dim image.bit_depth.bits_per_sample first begin (own_passes places) (section_at places) grids before after
 
-module _ {S D : Type 0} (d : Meaning D) (w : Width) (to_int : S → ℤ) (zero : S) (image : Image) (deepest : ℕ) where
+module _ {D : Type 0} (d : Meaning D) (w : Width) (image : Image) (deepest : ℕ) where
   -- the first section has the shared tree from bit p on, and after it the image of a frame of this size, or its samples, have
   -- this error
   pub record SamplesFail (size : Size) (group_dim : ℕ) (first : List ℕ) (p : ℕ) (places : Places) (error : FrameError) : Type 0 where
     pub global : Option (Config D)
     pub begin : ℕ
     pub shared : SharedTree d size (channel_count image) deepest first p global begin
-    pub fails : StillFails {S = S} d w to_int zero global (channels_given image size) group_dim image.bit_depth.bits_per_sample first begin (own_passes places) (section_at places) error
+    pub fails : StillFails d w global (channels_given image size) group_dim image.bit_depth.bits_per_sample first begin (own_passes places) (section_at places) error
 
   -- what each error says of a frame by its first section, from bit p on, and those of its groups
   abbrev pub CodedFails : Size → ℕ → List ℕ → ℕ → Places → FileError → Type 0
@@ -69,7 +69,7 @@ module _ {D : Type 0} (d : Meaning D) (image : Image) (slots : Slots) where
     pub begin : ℕ
     pub dictionary : BeginsWith frame first patches begin
     pub own : List (Grid ℤ)
-    pub coded : IsCoded d w32 (λ (v : ℤ). v) (pos 0) image deepest (frame_size image.size frame) frame.group_dim first begin places own before after
+    pub coded : IsCoded d w32 image deepest (frame_size image.size frame) frame.group_dim first begin places own before after
     pub put : ArePut slots (colour_count image) patches own grids
 
   -- the first section begins with patches, or with none, and what comes after them has this error
@@ -77,7 +77,7 @@ module _ {D : Type 0} (d : Meaning D) (image : Image) (slots : Slots) where
     pub patches : Option Patches
     pub begin : ℕ
     pub dictionary : BeginsWith frame first patches begin
-    pub fails : CodedFails {S = ℤ} d w32 (λ (v : ℤ). v) (pos 0) image deepest (frame_size image.size frame) frame.group_dim first begin places error
+    pub fails : CodedFails d w32 image deepest (frame_size image.size frame) frame.group_dim first begin places error
 
   -- what each error says of a frame by its first section and those of its groups
   abbrev pub MadeFails : Frame → ℕ → List ℕ → Places → FileError → Type 0

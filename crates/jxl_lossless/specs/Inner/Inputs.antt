@@ -50,11 +50,11 @@ pub record IsReadyCut (x : SectionsInput) : Type 0 where
   pub input : IsReadyInput x.input
   pub usable : IsTrue (can_group (own_passes x.places) [])
 
-module _ {S D : Type 0} (d : Meaning D) (w : Width) (to_int : S → ℤ) (zero : S) (x : SectionsInput) (first : List ℕ) (p : ℕ) where
+module _ {D : Type 0} (d : Meaning D) (w : Width) (x : SectionsInput) (first : List ℕ) (p : ℕ) where
   -- these are the channels of the frame without its patches, by its first section from bit p on
   abbrev pub CodedOf : List (Grid ℤ) → ℕ → ℕ → Type 0
-  CodedOf grids before after = IsCoded d w to_int zero (image_in x.input) x.input.frame.now.deepest (size_of x.input) x.input.frame.now.header.group_dim first p x.places grids before after
+  CodedOf grids before after = IsCoded d w (image_in x.input) x.input.frame.now.deepest (size_of x.input) x.input.frame.now.header.group_dim first p x.places grids before after
 
   -- what each error says of them
   abbrev pub CodedOfFails : FileError → Type 0
-  CodedOfFails error = CodedFails {S = S} d w to_int zero (image_in x.input) x.input.frame.now.deepest (size_of x.input) x.input.frame.now.header.group_dim first p x.places error
+  CodedOfFails error = CodedFails d w (image_in x.input) x.input.frame.now.deepest (size_of x.input) x.input.frame.now.header.group_dim first p x.places error

@@ -1,21 +1,17 @@
 -- What reading the header of a frame's image gives, at a bit position.
-use Rattle.std.specs.Prelude.{◌≡◌, ℕ, ◌⊎◌, List, true, false, Option}
+use Rattle.std.specs.Prelude.{◌≡◌, ℕ, List, true, false, Option}
 use Rattle.jxlm_bits.specs.Decoding.{Meaning}
-use Rattle.jxlm_bits.specs.ErrorKind.{ErrorKind, UnlessMemory, kind_of}
-use Rattle.jxlm_bits.specs.Grammar.{IsErrorAt}
+use Rattle.jxlm_bits.specs.ErrorKind.{UnlessMemory, kind_of}
 use Rattle.jxlm_transform.specs.Channels.{ChannelList}
 use Rattle.jxlm_header.specs.Opening.{Opening}
 use Rattle.jxlm_tree.specs.Tree.{Config}
 use Rattle.jxl_modular.specs.Fresh.{fresh}
 use Rattle.jxl_modular.specs.Image.{Image}
-use Rattle.jxl_modular.specs.Parsing.{IsStartAt, IsTreeErrorAt, opening_at}
+use Rattle.jxl_modular.specs.Parsing.{IsStartAt}
 use Rattle.jxl_lossless.specs.Inner.Weighted.{weighted_at}
+use Rattle.jxl_lossless.specs.Stills.{HeaderFails}
 use Rattle.jxl_lossless.specs.declared.still.error.FrameError.{FrameError}
 use Rattle.jxl_lossless.specs.declared.still.error.FrameError.TheVariants as errors
-
--- at bit p a Modular header or its tree has this error
-abbrev pub HeaderFails : {D : Type 0} → Meaning D → Option (Config D) → ChannelList → List ℕ → ℕ → ErrorKind → Type 0
-HeaderFails d global given bytes p error = (q : ℕ) × (IsErrorAt (opening_at global bytes given p) error q ⊎ IsTreeErrorAt d global bytes given p error q)
 
 module _ {D : Type 0} (d : Meaning D) (global : Option (Config D)) (given : ChannelList) (bytes : List ℕ) (p : ℕ) where
   -- the image whose header the bits up to bit q code

@@ -87,13 +87,13 @@ pub fn decode_frame<'a, S: Sample, D: Decoder, P: Progress>(
     requires alike { IsTrue (one_picture (image_list params.channels.items).channels) }
     requires usable { IsTrue (can_group (own_passes places) []) }
     ensures none { (result ≡ Ok None) ↔ (params.entry.channels.items ≡ []) }
-    ensures still { IfOk result (λ made. IfSome made (λ image. IsStill D.meaning S.width S.to_int (S.from_int (pos 0))
+    ensures still { IfOk result (λ made. IfSome made (λ image. IsStill D.meaning S.width
         (option_copied params.entry.ma_config) (image_list params.entry.channels.items) params.entry.group_dim
         params.entry.bit_depth (bytes_of first.entry) (position_of first.entry) (own_passes places.entry)
         (section_at places.entry) (image_grids S.to_int image) steps.old steps.new)) }
     ensures sides { IfOk result (λ made. IfSome made (λ image.
         AreGridsOf (image_list params.entry.channels.items).channels (image_grids S.to_int image))) }
-    ensures err { IfErr result (StillFails D.meaning S.width S.to_int (S.from_int (pos 0))
+    ensures err { IfErr result (StillFails D.meaning S.width
         (option_copied params.entry.ma_config) (image_list params.entry.channels.items) params.entry.group_dim
         params.entry.bit_depth (bytes_of first.entry) (position_of first.entry) (own_passes places.entry)
         (section_at places.entry)) }

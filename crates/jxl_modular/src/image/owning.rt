@@ -1,6 +1,6 @@
 //! Images as values: questions on their transforms, clones, and channels that are taken out.
 
-ghost use Rattle.std.specs.Prelude.{◌≡◌, length, IfOk, IfErr};
+ghost use Rattle.std.specs.Prelude.{◌≡◌, length, take, IfOk, IfErr};
 ghost use Rattle.std.specs.List.{zip};
 ghost use Rattle.jxlm_bits.specs.ErrorKind.{kind_of};
 ghost use Rattle.jxlm_tree.specs.TreeReading.{IsOutOfMemory};
@@ -95,7 +95,7 @@ fn clone_grids<S: Sample>(
 
 impl<S: Sample, D: Decoder> ModularImageDestination<S, D> {
     ghost use Rattle.jxlm_base.specs.Regions.{store_meanings};
-    ghost use Rattle.jxl_modular.specs.Image.{IsOnlyImage, coded_grids, grids_given};
+    ghost use Rattle.jxl_modular.specs.Image.{IsOnlyImage, coded_grids};
     ghost use Rattle.jxlm_transform.specs.Channels.{AreGridsOf};
 
     /// Whether a transform of the header is a palette.
@@ -166,7 +166,7 @@ impl<S: Sample, D: Decoder> ModularImageDestination<S, D> {
 
     /// The channels of the image, as [`image_channels`](Self::image_channels) lends them; all else is let go.
     pub fn into_image_channels(self) -> Vec<AlignedGrid<S>>
-        ensures grids { result.items ≡ grids_given self }
+        ensures grids { result.items ≡ take (length self.given) self.store }
         ensures sizes { AreGridsOf self.given result.items }
     {
         let ModularImageDestination { store, given, .. } = self;
@@ -178,7 +178,7 @@ impl<S: Sample, D: Decoder> ModularImageDestination<S, D> {
     /// The channels of the image, as [`image_channels`](Self::image_channels) lends them, each with what is known of it
     /// as it was given; all else is let go.
     pub fn into_image_channels_with_info(self) -> ChannelsWithInfo<S>
-        ensures pairs { result ≡ zip (grids_given self) self.given }
+        ensures pairs { result ≡ zip (take (length self.given) self.store) self.given }
         ensures each { length result ≡ length self.given }
     {
         let ModularImageDestination { given, store, .. } = self;

@@ -1,13 +1,13 @@
 //! What transforms do to the list of an image's channels, and where these lie then (ISO/IEC 18181-1, Modular: the
 //! channels after each transform).
 
-ghost use Rattle.std.specs.Prelude.{◌≡◌, ◌≤◌, ◌<◌, ◌^◌, ◌+◌, ◌&&◌, nat_le, length, map, IsOk, IsTrue, IfOk, IfErr};
+ghost use Rattle.std.specs.Prelude.{◌≡◌, ◌≤◌, ◌<◌, ◌^◌, ◌+◌, ◌&&◌, ◌==◌, nat_le, length, map, IsOk, IsTrue, IfOk, IfErr};
 ghost use Rattle.std.specs.List.{All, list_all};
 ghost use Rattle.std.specs.Result.{is_ok};
 ghost use Rattle.jxlm_base.specs.Regions.{region};
 ghost use Rattle.jxlm_transform.specs.Channels.{HasItsMeta, infos, regions};
 ghost use Rattle.jxlm_transform.specs.Lists.{list_of};
-ghost use Rattle.jxlm_transform.specs.ChannelSteps.{PaletteStep, SqueezeStep, range, has_range as the_has_range, has_size_of, one_size as the_one_size, keeps_meta as the_keeps_meta, rct_step, palette_step, table_channel, can_be_squeezed, squeeze_range, squeeze_step, average_channel, residual_channel, with_each_halved};
+ghost use Rattle.jxlm_transform.specs.ChannelSteps.{PaletteStep, SqueezeStep, range, has_range as the_has_range, one_size as the_one_size, keeps_meta as the_keeps_meta, table_channel, can_be_squeezed, squeeze_range, average_channel, residual_channel, with_each_halved, RctStep, list_after};
 ghost use Rattle.jxlm_transform.specs.Ends.{HasEnds};
 ghost use Rattle.jxlm_transform.specs.Lists.{IsAfter, IsSame};
 ghost use Rattle.jxlm_transform.specs.SqueezedRegions.{average_region, residual_region};
@@ -26,7 +26,8 @@ fn has_range(begin: usize, count: usize, len: usize) -> bool
 
 /// Whether the others have the size of the first.
 fn are_of_size(first: &PlacedChannel, others: &[PlacedChannel]) -> bool
-    ensures { result ≡ list_all (λ p. has_size_of first.now.info p.info) others.now }
+    ensures { result ≡ list_all
+        (λ p. p.info.width == first.now.info.width && p.info.height == first.now.info.height) others.now }
 {
     others
         .iter()
@@ -62,7 +63,7 @@ impl Rct {
     /// Whether the transform suits the channels: from its first channel on there are three, of one size. It changes
     /// neither the list nor where channels lie.
     pub fn suits(&self, channels: &ModularChannels) -> bool
-        ensures { result ≡ is_ok (rct_step self.now (list_of channels.now)) }
+        ensures { result ≡ is_ok (list_after (RctStep self.now) (list_of channels.now)) }
     {
         has_one_size(&channels.placed, self.begin_c as usize, 3)
     }
@@ -72,7 +73,7 @@ impl Palette {
     /// Whether the palette suits the channels: its range is there, of one size, and ends among the meta channels
     /// where it begins there.
     pub fn suits(&self, channels: &ModularChannels) -> bool
-        ensures { result ≡ is_ok (palette_step self.now (list_of channels.now)) }
+        ensures { result ≡ is_ok (list_after (PaletteStep self.now) (list_of channels.now)) }
     {
         let begin = self.begin_c as usize;
         let count = self.num_c as usize;
@@ -99,7 +100,7 @@ impl Palette {
     /// `OutOfMemory`, and no other; the channels are as before then.
     pub fn transform_channel_info(&self, channels: &mut ModularChannels) -> Result<(), OutOfMemory>
         requires some_channels { 1 ≤ self.now.num_c }
-        requires suits { IsOk (palette_step self.now (list_of channels.old)) }
+        requires suits { IsOk (list_after (PaletteStep self.now) (list_of channels.old)) }
         requires meta { HasItsMeta (list_of channels.old) }
         requires room { channels.old.buffers + 1 < 2 ^ 64 }
         ensures ok { IfOk result (λ _. IsAfter (PaletteStep self.now) channels.old channels.new) }
@@ -180,7 +181,7 @@ impl SqueezeParams {
     /// Whether the step suits the channels: its range is there; where it begins among the meta channels, it ends there
     /// and is squeezed in place; and no channel of it has a side of 0 or a shift above 30.
     pub fn suits(&self, channels: &ModularChannels) -> bool
-        ensures { result ≡ is_ok (squeeze_step self.now (list_of channels.now)) }
+        ensures { result ≡ is_ok (list_after (SqueezeStep self.now) (list_of channels.now)) }
     {
         self.has_its_range(channels)
             && can_all_be_squeezed(&channels.placed[self.begin_c..self.begin_c + self.num_c])
@@ -218,7 +219,7 @@ impl SqueezeParams {
         alloc: Global,
         channels: &mut ModularChannels,
     ) -> Result<(), OutOfMemory>
-        requires suits { IsOk (squeeze_step self.now (list_of channels.old)) }
+        requires suits { IsOk (list_after (SqueezeStep self.now) (list_of channels.old)) }
         requires meta { HasItsMeta (list_of channels.old) }
         ensures ok { IfOk result (λ _. IsAfter (SqueezeStep self.now) channels.old channels.new) }
         ensures meta { IfOk result (λ _. HasItsMeta (list_of channels.new)) }

@@ -2,9 +2,8 @@ use Rattle.std.proofs.Common.{◌≡◌, ◌*◌, ◌∙◌, [], Ok}
 use Rattle.std.proofs.lemmas.Result.{err_from_is_err_and}
 use Rattle.jxlm_bits.specs.Bits.{bytes_of, position_of}
 use Rattle.jxlm_bits.specs.ErrorKind.{kind_of, UnlessMemory}
-use Rattle.jxlm_bits.specs.Grammar.{IsErrorAt, flag}
+use Rattle.jxlm_bits.specs.Grammar.{IsErrorAt, flag, Parses}
 use Rattle.jxl_image_header.specs.Fields.{when}
-use Rattle.jxl_image_header.specs.Reading.{Parses}
 use Rattle.jxl_codestream.specs.Orders.{lehmer_code}
 use Rattle.jxl_codestream.specs.Tocs.{room}
 use Rattle.jxl_codestream.specs.Inner.Entries.{sizes, table_of}

@@ -45,7 +45,7 @@ returns-in_err-channels-clause-err g c =
     let p = err_from_is_err_and c.from_residual.result c.from_residual.ensures.1 in
     let e = c.in_err-channels.field-0.0 in
     let bytes : bytes_of c.read_patches.new.bits ≡ first = c.in-Ok.ensures.bytes ∙ c.new-bits.ensures.bytes in
-    let fails = subst (λ (b : List ℕ). CodedOfFails {S = ℤ} d w32 (λ (v : ℤ). v) (pos 0) c.args.self b q e) bytes c.in_err-channels.ensures.err in
+    let fails = subst (λ (b : List ℕ). CodedOfFails d w32 c.args.self b q e) bytes c.in_err-channels.ensures.err in
     rw (p.1, p.2) (made_fails d image slots frame c.args.self.input.frame.now.deepest first c.args.self.places patches q stands e fails)
 
 pub put_patches-requires-clause-held : goal.put_patches-requires-clause-held
@@ -90,7 +90,7 @@ returns-clause-ok g c =
     let stands = begins d image slots frame c.args.self.input.frame.now.deepest first c.args.self.places size c.len-extra.result (sizes_of slots) (bytes_of c.new-bits.result) (position_of c.new-bits.result) q c.size-size.ensures count
     refl c.new-bits.ensures.bytes c.new-bits.ensures.position patches c.in-Ok.ensures.gives in
     let bytes : bytes_of c.read_patches.new.bits ≡ first = c.in-Ok.ensures.bytes ∙ c.new-bits.ensures.bytes in
-    let coded = subst (λ (b : List ℕ). CodedOf d w32 (λ (v : ℤ). v) (pos 0) c.args.self b q items c.args.steps.now c.decode_grids.new.steps) bytes c.in_ok-channels.ensures.ok in
+    let coded = subst (λ (b : List ℕ). CodedOf d w32 c.args.self b q items c.args.steps.now c.decode_grids.new.steps) bytes c.in_ok-channels.ensures.ok in
     let put = subst (λ (xs : List (Grid ℤ)). ArePut slots (colour_count image) patches xs changed) c.deref_mut.ensures.value
     (subst (λ n. ArePut slots n patches c.deref_mut.result.now changed) c.colours.ensures c.put_patches.ensures.put) in
     let there : c.args.self.input.frame.now.header.coding.flags.patches ≡ true = search rules in

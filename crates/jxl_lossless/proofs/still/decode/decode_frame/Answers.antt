@@ -23,7 +23,7 @@ returns-in_err-opened-clause-err g c =
     let bytes = bytes_of c.args.first in
     let place = position_of c.args.first in
     let e = c.in_err-opened.field-0.0 in
-    let fails : StillFails g.D.Decoder.meaning g.S.Sealed.width g.S.Sealed.to_int zero global (image_list c.args.params.channels.items) c.args.params.group_dim c.args.params.bit_depth bytes place (own_passes c.args.places) (section_at c.args.places) e =
+    let fails : StillFails g.D.Decoder.meaning g.S.Sealed.width global (image_list c.args.params.channels.items) c.args.params.group_dim c.args.params.bit_depth bytes place (own_passes c.args.places) (section_at c.args.places) e =
     open_fails g.D.Decoder.meaning g.S.Sealed.width g.S.Sealed.to_int zero global c.args.params.channels.items c.args.params.group_dim c.args.params.bit_depth bytes place c.args.places e c.in_err-opened.ensures.err in
     let p = err_from_is_err_and c.from_residual.result c.from_residual.ensures.1 in
     rw (p.1, p.2) fails
@@ -51,7 +51,7 @@ returns-in_err-sections-clause-err g c =
     let o = at_some (λ (i : Image g.row.S.Denot g.row.D.Denot). Opens g.D.Decoder.meaning global (image_list c.args.params.channels.items) bytes place zero c.args.params.group_dim c.args.params.bit_depth i q)
     c.in_ok-opened.opened image c.in-Some.is c.in_ok-opened.ensures.ok in
     let e = c.in_err-sections.field-0.0 in
-    let fails : StillFails g.D.Decoder.meaning g.S.Sealed.width g.S.Sealed.to_int zero global (image_list c.args.params.channels.items) c.args.params.group_dim c.args.params.bit_depth bytes place (own_passes c.args.places) (section_at c.args.places) e =
+    let fails : StillFails g.D.Decoder.meaning g.S.Sealed.width global (image_list c.args.params.channels.items) c.args.params.group_dim c.args.params.bit_depth bytes place (own_passes c.args.places) (section_at c.args.places) e =
     list_fails g.D.Decoder.meaning g.S.Sealed.width g.S.Sealed.to_int zero global c.args.params.channels.items c.args.params.group_dim c.args.params.bit_depth bytes place c.args.places image q o e c.in_err-sections.ensures.err in
     let p = err_from_is_err_and c.from_residual-in_err-sections.result c.from_residual-in_err-sections.ensures.1 in
     rw (p.1, p.2) fails
@@ -120,7 +120,7 @@ returns-in_err-decode_all-clause-err g c =
     let stops : SamplesStop g.D.Decoder.meaning g.S.Sealed.width g.S.Sealed.to_int zero image (own_passes c.args.places) global sections e =
     subst (λ (ss : List Section). SamplesStop g.D.Decoder.meaning g.S.Sealed.width g.S.Sealed.to_int zero image (own_passes c.args.places) global ss e) c.deref-2.ensures.value
     (subst (λ (i : Image g.row.S.Denot g.row.D.Denot). SamplesStop g.D.Decoder.meaning g.S.Sealed.width g.S.Sealed.to_int zero i (own_passes c.args.places) global c.deref-2.result.now e) c.in_ok-sections.ensures.unchanged c.in_err-decode_all.ensures.err) in
-    let fails : StillFails g.D.Decoder.meaning g.S.Sealed.width g.S.Sealed.to_int zero global (image_list c.args.params.channels.items) c.args.params.group_dim c.args.params.bit_depth bytes place (own_passes c.args.places) (section_at c.args.places) e =
+    let fails : StillFails g.D.Decoder.meaning g.S.Sealed.width global (image_list c.args.params.channels.items) c.args.params.group_dim c.args.params.bit_depth bytes place (own_passes c.args.places) (section_at c.args.places) e =
     samples_fail g.D.Decoder.meaning g.S.Sealed.width g.S.Sealed.to_int zero global c.args.params.channels.items c.args.params.group_dim c.args.params.bit_depth bytes place c.args.places image q o
     c.open_image.new.bits c.in_ok-opened.ensures.bytes refl sections c.in_ok-sections.ensures.listed c.in_ok-sections.ensures.cut.cells c.requires.usable c.requires.valid.channels c.requires.alike e (ap (list_any section_is_weighted) (sym c.deref.ensures.value) ∙ sym c.in_ok-weighted.ensures ∙ c.if-weighted.false) stops in
     let p = err_from_is_err_and c.from_residual-in_err-decode_all.result c.from_residual-in_err-decode_all.ensures.1 in

@@ -12,13 +12,13 @@ returns-then-x-eq0 g c r store h =
 
 pub returns-then-y-eq0 : goal.returns-then-y-eq0
 returns-then-y-eq0 g c r store h =
-    let cells = (grid_of (store_meanings g.S.Sealed.to_int store) r).cells in
+    let grid = grid_of (store_meanings g.S.Sealed.to_int store) r in
     let f : FitsSigned w32 c.cell.result = search rules in
-    to_z-of_z w32 c.cell.result f ∙ c.cell.ensures r store c.args.y h ∙ expected_first_row cells r.width c.args.x c.args.y (c.args.x - 1) (omega arith) (omega arith)
+    to_z-of_z w32 c.cell.result f ∙ c.cell.ensures r store c.args.y h ∙ expected_first_row grid c.args.x c.args.y (c.args.x - 1) (omega arith) (omega arith)
 
 pub returns-else-y-eq0 : goal.returns-else-y-eq0
 returns-else-y-eq0 g c r store h =
-    let cells = (grid_of (store_meanings g.S.Sealed.to_int store) r).cells in
+    let grid = grid_of (store_meanings g.S.Sealed.to_int store) r in
     let x = c.args.x in
     let y = c.args.y in
     let above = row_below r store y c.args.self h (y - 1) (omega arith) in
@@ -29,4 +29,4 @@ returns-else-y-eq0 g c r store h =
     to_z-of_z w32 c.grad_clamped.result f
     ∙ c.grad_clamped.ensures
     ∙ rw (to_z-of_z w32 c.cell_above.result f1, to_z-of_z w32 c.cell-else-y-eq0.result f2, to_z-of_z w32 c.cell_above-else-y-eq0.result f3, c.cell_above.ensures r store (y - 1) above, c.cell-else-y-eq0.ensures r store y h, c.cell_above-else-y-eq0.ensures r store (y - 1) above)
-    (expected_inside cells r.width x y (x - 1) (y - 1) (omega arith) (omega arith))
+    (expected_inside grid x y (x - 1) (y - 1) (omega arith) (omega arith))
