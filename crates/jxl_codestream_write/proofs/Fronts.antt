@@ -13,7 +13,7 @@ use Rattle.jxl_container.specs.Files.{is_bare}
 use Rattle.jxl_image_header.specs.Images.{Image, image_header, image_refusal}
 use Rattle.jxl_image_header.specs.declared.refusal.Refusal.{Refusal}
 use Rattle.jxl_image_header.specs.declared.refusal.Refusal.TheVariants as image_refusals
-use Rattle.jxl_image_header.proofs.HeaderLaws.{exact-aligned}
+use Rattle.jxl_image_header.proofs.HeaderLaws.{exact-zero_pad_to_byte}
 use Rattle.jxl_frame_header.specs.Blendings.{is_replace}
 use Rattle.jxl_frame_header.specs.Frames.{frame_header, frame_refusal}
 use Rattle.jxl_frame_header_write.specs.Stills.{still_frame, replaces}
@@ -37,7 +37,7 @@ pub image_front : (image : Image) (bits bytes : List ℕ) → Writes [] bits ima
 image_front image bits bytes w fills = record {
   end = length w.word;
   header = λ rest. subst (λ (n : ℕ). StandsAt image_header (bytes ++ rest) 0 image n) (from_zero (length w.word)) (w.holds (bytes ++ rest) 0 (has_more bytes rest 0 w.word word));
-  padding = λ rest. exact-aligned.stands_read (bytes ++ rest) (length w.word) 0 (8 * length bytes)
+  padding = λ rest. exact-zero_pad_to_byte.stands_read (bytes ++ rest) (length w.word) 0 (8 * length bytes)
       (padding_stands [] bytes rest bits (length w.word) (8 * length bytes) fills (let n = ap length w.added in omega (arith, n)) (omega arith));
 } where
   word : HasBits bytes 0 w.word

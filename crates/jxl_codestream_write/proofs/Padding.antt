@@ -3,7 +3,7 @@ use Rattle.std.proofs.Common.{◌≡◌, ℕ, zero, suc, ◌+◌, ◌-◌, ◌*�
 use Rattle.std.specs.Prelude.{slice_index}
 use Rattle.std.proofs.lemmas.List.{length-append, append-nil, get_or_append_left, get_or-append-add, get_or-replicate, length-replicate}
 use Rattle.jxlm_bits.specs.Bits.{bit_at, bits_at}
-use Rattle.jxl_image_header.specs.Fields.{aligned}
+use Rattle.jxl_image_header.specs.Fields.{zero_pad_to_byte}
 use Rattle.jxlm_bit_writer.specs.Written.{AreFilled, HasBits}
 use Rattle.jxlm_bit_writer.proofs.BitLists.{filled_stands, has_rest, length-bits}
 
@@ -53,8 +53,8 @@ zero_bits bytes p (suc n) h = rw (zero_bits bytes p n (λ j lt. h j (omega (arit
 
 -- the zeros after bits that fill bytes are what the reader wants there
 pub padding_stands : (before bytes after bits : List ℕ) (p q : ℕ) → AreFilled bytes bits → p ≡ 8 * length before + length bits → q ≡ 8 * (length before + length bytes) →
-    aligned.Stands (before ++ (bytes ++ after)) p 0 q
-unfolding aligned
+    zero_pad_to_byte.Stands (before ++ (bytes ++ after)) p 0 q
+unfolding zero_pad_to_byte
 padding_stands before bytes after bits p q f ep eq =
     let whole : HasBits (before ++ (bytes ++ after)) (8 * length before) (bits ++ replicate f.zeros 0) =
     has_behind before (bytes ++ after) 0 (8 * length before) (bits ++ replicate f.zeros 0) (omega arith) (has_more bytes after 0 (bits ++ replicate f.zeros 0) (filled_whole bytes bits f)) in

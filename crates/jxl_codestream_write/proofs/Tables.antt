@@ -3,7 +3,7 @@ use Rattle.std.proofs.Common.{◌≡◌, ℕ, ◌+◌, ◌*◌, ◌/◌, List, [
 use Rattle.std.proofs.lemmas.List.{length-append}
 use Rattle.jxlm_bits.specs.Decoding.{Meaning}
 use Rattle.jxlm_bits.specs.Grammar.{flag, repeated}
-use Rattle.jxl_image_header.specs.Fields.{aligned}
+use Rattle.jxl_image_header.specs.Fields.{zero_pad_to_byte}
 use Rattle.jxlm_bit_writer.specs.Written.{AreFilled, HasBits}
 use Rattle.jxlm_bit_writer.specs.Writes.{Spells}
 use Rattle.jxlm_bit_writer.proofs.BitLists.{filled_stands, has_first, has_moved, has_rest}
@@ -30,12 +30,12 @@ module _ (bits flagged first table second : List ℕ) (sizes : List ℕ) (told :
         let n : length table ≡ length sized.word = ap length sized.added in
         let all = has_more first (second ++ rest) 0 (bits ++ told.word) begins in
         let the_flag : flag.Stands bytes (length bits) false (length bits + length told.word) = told.holds bytes (length bits) (has_moved bytes (0 + length bits) (length bits) told.word (omega arith) (has_rest bytes 0 bits told.word all)) in
-        let zeros : aligned.Stands bytes (length bits + length told.word) 0 (8 * length first) =
+        let zeros : zero_pad_to_byte.Stands bytes (length bits + length told.word) 0 (8 * length first) =
         padding_stands [] first (second ++ rest) flagged (length bits + length told.word) (8 * length first) fills (omega (arith, m)) (omega arith) in
         let word : HasBits second 0 sized.word = subst (λ (xs : List ℕ). HasBits second 0 xs) sized.added (filled_stands second table fills_too) in
         let there : HasBits bytes (8 * length first) sized.word = has_behind first (second ++ rest) 0 (8 * length first) sized.word (omega arith) (has_more second rest 0 sized.word word) in
         let the_sizes : (repeated (length sizes) entry).Stands bytes (8 * length first) sizes (8 * length first + length sized.word) = sized.holds bytes (8 * length first) there in
-        let more_zeros : aligned.Stands bytes (8 * length first + length sized.word) 0 (8 * length (first ++ second)) =
+        let more_zeros : zero_pad_to_byte.Stands bytes (8 * length first + length sized.word) 0 (8 * length (first ++ second)) =
         padding_stands first second rest table (8 * length first + length sized.word) (8 * length (first ++ second)) fills_too (omega (arith, n)) (omega (arith, l)) in
         let long = sizes_long (length sizes) bytes (8 * length first) sizes (8 * length first + length sized.word) the_sizes in
         let inside = there.inside in

@@ -1,7 +1,7 @@
 -- The parts of the front of a still picture, each of whole bytes.
 use Rattle.std.specs.Prelude.{ℕ, ◌*◌, List, ◌++◌, length}
 use Rattle.jxlm_bits.specs.Decoding.{Meaning}
-use Rattle.jxl_image_header.specs.Fields.{aligned}
+use Rattle.jxl_image_header.specs.Fields.{zero_pad_to_byte}
 use Rattle.jxl_image_header.specs.Images.{Image, image_header}
 use Rattle.jxl_frame_header.specs.Frames.{frame_header}
 use Rattle.jxl_frame_header_write.specs.Stills.{still_frame}
@@ -13,7 +13,7 @@ use Rattle.jxl_codestream_write.specs.Tables.{table_of}
 pub record IsImageFront (image : Image) (bytes : List ℕ) : Type 0 where
   pub end : ℕ
   pub header : (rest : List ℕ) → StandsAt image_header (bytes ++ rest) 0 image end
-  pub padding : (rest : List ℕ) → StandsAt aligned (bytes ++ rest) end 0 (8 * length bytes)
+  pub padding : (rest : List ℕ) → StandsAt zero_pad_to_byte (bytes ++ rest) end 0 (8 * length bytes)
 
 -- The bytes are the header of a still picture's frame and a table of sections of these sizes: whatever follows them, the reader
 -- finds both, and the first section begins where they end.
