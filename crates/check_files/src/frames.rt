@@ -6,7 +6,7 @@ ghost use Rattle.jxlm_bits.specs.Bits.{bytes_of};
 use crate::images::tell_error;
 use check_rows::bytes;
 use jxl_codestream::layout::Layout;
-use jxl_codestream::profile::skip_profile;
+use jxl_codestream::profile::read_encoded;
 use jxl_codestream::toc::Toc;
 use jxl_coding::decoder::EntropyDecoder;
 use jxl_frame_header::blending::{Blending, BlendingInfo, FrameUse};
@@ -190,7 +190,7 @@ fn first_frame(alloc: Global, bits: &mut Bitstream<'_>, image: &ImageHeader) -> 
     ensures bytes { bytes_of bits.new ≡ bytes_of bits.old }
 {
     if image.colour_encoding.want_icc {
-        skip_profile::<EntropyDecoder>(alloc, bits, 1 << 20)?;
+        read_encoded::<EntropyDecoder>(alloc, bits, 1 << 20)?;
     }
     align(bits)?;
     FrameHeader::parse(alloc, bits, image)

@@ -12,6 +12,7 @@ mod images;
 mod names;
 mod pictures;
 mod printing;
+mod profiles;
 mod streams;
 mod told;
 mod words;
@@ -41,6 +42,8 @@ fn seen_of_files(alloc: Global, row: &Row<'_>) -> Option<String> {
         "later" => pictures::seen_of_later_error(alloc, row.asked),
         "beginnings" => pictures::seen_of_beginnings(alloc, row.asked),
         "maximum" => pictures::seen_of_maximum(alloc, row.asked),
+        "profile" => profiles::seen(alloc, row.asked),
+        "metadata" => profiles::seen_of_metadata(alloc, row.asked),
         _ => None,
     }
 }

@@ -88,7 +88,11 @@ fn picture(alloc: Global, header: &[u8], samples: &[i32]) -> Option<Picture> {
     let mut bits = Bitstream::new(header);
     let header = ImageHeader::parse(alloc, &mut bits).ok()?;
     let channels = channels(alloc, &header, samples)?;
-    Some(Picture { header, channels })
+    Some(Picture {
+        header,
+        channels,
+        profile: None,
+    })
 }
 
 /// A format, and a picture to be written in it.

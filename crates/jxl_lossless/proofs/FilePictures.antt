@@ -1,6 +1,7 @@
 -- The picture of a file whose frames were read, or why it has none.
-use Rattle.std.proofs.Common.{◌≡◌, ℕ, List, [], ◌∷◌, ◌++◌, map, Result, Ok, Err, subst}
+use Rattle.std.proofs.Common.{◌≡◌, ℕ, List, [], ◌∷◌, ◌++◌, map, Option, None, Result, Ok, Err, ap, subst, sym}
 use Rattle.std.specs.Prelude.{IfErr, IfOk, MatchResult}
+use Rattle.std.specs.Global.{Vec}
 use Rattle.jxlm_bits.specs.Decoding.{Meaning}
 use Rattle.jxl_coding.specs.Parse.{decoder_at}
 use Rattle.jxl_coding.specs.Tokens.{entropy}
@@ -9,12 +10,12 @@ use Rattle.jxl_image_header.specs.Images.{Image, image_of}
 use Rattle.jxl_image_header.specs.declared.image.ImageHeader.{ImageHeader}
 use Rattle.jxl_picture.specs.declared.limits.Limits.{Limits}
 use Rattle.jxl_picture.specs.declared.picture.Picture.{Picture}
-use Rattle.jxl_codestream.specs.Fronts.{FrameAt, FrontFails, FrontStands}
-use Rattle.jxl_codestream.specs.FrontParts.{AreFramesOf, IsReady, frame_at}
+use Rattle.jxl_codestream.specs.Fronts.{FrameAt, FrontFails, FrontStands, HasProfile}
+use Rattle.jxl_codestream.specs.FrontParts.{AreFramesOf, IsReady, bytes_if, frame_at}
 use Rattle.jxl_codestream.specs.declared.error.FrontError.{FrontError}
 use Rattle.jxl_codestream.specs.declared.front.Frames.{Frames}
-use Rattle.jxl_lossless.specs.Files.{IsReadOf, upright}
-use Rattle.jxl_lossless.specs.Pictures.{FileFails, HasFront, IsPictureOfFile}
+use Rattle.jxl_lossless.specs.Files.{IsReadOf, error_of, profile_of, reason_of, upright}
+use Rattle.jxl_lossless.specs.Pictures.{FileFails, HasFront, IsPictureOfFile, ProfileOfFile}
 use Rattle.jxl_lossless.specs.Saved.{FramesFail}
 use Rattle.jxl_lossless.specs.Inner.Shown.{IsShown}
 use Rattle.jxl_lossless.specs.declared.error.FileError.{FileError}
@@ -27,9 +28,16 @@ module _ (limits : Limits) (file stream : List ℕ) (found : HasCodestream file 
   front = record { bytes = stream; found = found; image = image; saved = saved; shown = shown; stands = stand }
 
   -- the picture of the frames of a file is that of the file
-  pub of_file : (before after : ℕ) (result : Result Picture FileError) → IfOk result (λ p. IsShown stream image saved shown p before after) → IfOk result (λ p. IsPictureOfFile limits file p before after)
-  of_file before after (Ok p) h = record { front = front; coded = h.coded; decoded = h.decoded; upright = h.upright }
-  of_file before after (Err e) h = tt
+  pub of_file : (profile : Option (Vec ℕ)) → HasProfile (entropy decoder_at) limits stream image (bytes_if profile) → (before after : ℕ) (result : Result Picture FileError) →
+      IfOk result (λ p. IsShown stream image saved shown p before after) → IfOk result (λ p. p.profile ≡ profile) → IfOk result (λ p. IsPictureOfFile limits file p before after)
+  of_file profile has before after (Ok p) h same = record {
+    front = front;
+    coded = h.coded;
+    decoded = h.decoded;
+    upright = h.upright;
+    profile = subst (λ (v : Option (Vec ℕ)). HasProfile (entropy decoder_at) limits stream image (bytes_if v)) (sym same) has;
+  }
+  of_file profile has before after (Err e) h same = tt
 
   fails : (e : FileError) → FramesFail (entropy decoder_at) stream image (saved ++ shown ∷ []) e → FileFails limits file e
   fails errors.OutOfMemory h = (front, h)
@@ -69,7 +77,22 @@ frames_refused : {D : Type 0} (d : Meaning D) (limits : Limits) (bytes : List �
 frames_refused d limits bytes header (Ok f) h error e = let bad : ⊥ = cc in absurd bad
 frames_refused d limits bytes header (Err x) h error e = let same : x ≡ error = cc in subst (λ (y : FrontError). FrontFails d limits bytes y) same h
 
+-- the profile that was read with them
+profile_with : {D : Type 0} (d : Meaning D) (limits : Limits) (bytes : List ℕ) (image : Image) (profile : Option (Vec ℕ)) (frames : Result Frames FrontError) →
+    MatchResult frames (λ frames. HasProfile d limits bytes image (bytes_if profile)) (λ error. profile ≡ None) → error_of frames ≡ None → HasProfile d limits bytes image (bytes_if profile)
+profile_with d limits bytes image profile (Ok f) h none = h
+profile_with d limits bytes image profile (Err x) h none = let bad : ⊥ = cc in absurd bad
+
 module _ (limits : Limits) (file : List ℕ) (read : JxlFile) (is : IsReadOf limits file read) where
+  -- the profile that was read is that of the file
+  pub profile_read : reason_of read ≡ None → ProfileOfFile limits file (profile_of read)
+  profile_read none = record {
+    bytes = stream_of read.stream;
+    found = is.found;
+    image = image_of read.front.image;
+    profile = profile_with (entropy decoder_at) limits (stream_of read.stream) (image_of read.front.image) read.front.profile read.front.frames is.front.profile none;
+  }
+
   module _ (f : Frames) (has : read.front.frames ≡ Ok f) (bytes : List ℕ) (same : bytes ≡ stream_of read.stream) where
     abbrev image : Image
     image = image_of read.front.image
@@ -82,10 +105,11 @@ module _ (limits : Limits) (file : List ℕ) (read : JxlFile) (is : IsReadOf lim
 
     -- the picture of its frames is that of the file
     pub picture_read : (before after : ℕ) (result : Result Picture FileError) → IfOk result (λ p. IsShown bytes image (map frame_at f.saved.items) (frame_at f.shown) p before after) →
-        IfOk result (λ p. IsPictureOfFile limits file p before after)
-    picture_read before after result h =
-        of_file limits file (stream_of read.stream) is.found image (map frame_at f.saved.items) (frame_at f.shown) stand before after result
-        (subst (λ (b : List ℕ). IfOk result (λ p. IsShown b image (map frame_at f.saved.items) (frame_at f.shown) p before after)) same h)
+        IfOk result (λ p. p.profile ≡ read.front.profile) → IfOk result (λ p. IsPictureOfFile limits file p before after)
+    picture_read before after result h kept =
+        of_file limits file (stream_of read.stream) is.found image (map frame_at f.saved.items) (frame_at f.shown) stand read.front.profile
+        (profile_with (entropy decoder_at) limits (stream_of read.stream) image read.front.profile read.front.frames is.front.profile (ap error_of has)) before after result
+        (subst (λ (b : List ℕ). IfOk result (λ p. IsShown b image (map frame_at f.saved.items) (frame_at f.shown) p before after)) same h) kept
 
     -- what is wrong with its frames is wrong with the file
     pub failure_read : (result : Result Picture FileError) → IfErr result (FramesFail (entropy decoder_at) bytes image all) → IfErr result (FileFails limits file)

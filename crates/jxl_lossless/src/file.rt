@@ -1,6 +1,7 @@
 //! A file, which is read once, and its picture.
 
-ghost use Rattle.std.specs.Prelude.{◌≡◌, List, ℕ, true, IfErr, IfOk};
+ghost use Rattle.std.specs.Prelude.{◌≡◌, List, ℕ, true, IfErr, IfOk, None};
+ghost use Rattle.std.specs.Option.{option_copied};
 ghost use Rattle.jxl_coding.specs.Parse.{decoder_at};
 ghost use Rattle.jxl_coding.specs.Tokens.{entropy};
 ghost use Rattle.jxl_image_header.specs.Images.{image_of};
@@ -14,6 +15,7 @@ use jxl_codestream::front::Front;
 use jxl_coding::decoder::EntropyDecoder;
 use jxl_container::codestream::{Codestream, find_codestream};
 use jxl_container::error::FileError as BoxError;
+use jxl_container::metadata::{find_exif, find_xmp};
 use jxl_image_header::image::ImageHeader;
 use jxl_modular::sections::Progress;
 use jxl_picture::limits::Limits;
@@ -22,17 +24,22 @@ use jxlm_tree::flat::Steps;
 use std::alloc::Global;
 
 /// A JPEG XL file that was read up to the sections of its frames: the codestream, and the first error of the boxes after
-/// it; the image header, and the headers and tables of contents of the frames, or why these are not decoded.
+/// it; Exif and XMP data; the image header, and the profile, the headers and tables of contents of the frames, or why these
+/// are not decoded.
 #[derive(Drop)]
 pub struct JxlFile<'a> {
     stream: Codestream<'a>,
     later_error: Option<BoxError>,
+    exif: Option<&'a [u8]>,
+    xmp: Option<&'a [u8]>,
     front: Front,
 }
 
 impl<'a> JxlFile<'a> {
     ghost use Rattle.jxl_picture.specs.declared.limits.Limits.{Limits as TheLimits};
-    ghost use Rattle.jxl_lossless.specs.Files.{IsReadOf, IsReadyFile, header_of, is_before_frames, later_error_of, reason_of, upright};
+    ghost use Rattle.jxl_lossless.specs.Files.{IsReadOf, IsReadyFile, exif_of, header_of, is_before_frames, later_error_of, profile_of, reason_of, upright, xmp_of};
+    ghost use Rattle.jxl_lossless.specs.Pictures.{ProfileOfFile};
+    ghost use Rattle.jxl_codestream.specs.FrontParts.{bytes_if};
 
     /// Reads a file, bare or in boxes, up to the sections of its frames. No sample is decoded, and no memory is taken for
     /// samples.
@@ -55,6 +62,8 @@ impl<'a> JxlFile<'a> {
                     Ok(front) => Ok(JxlFile {
                         stream: found.codestream,
                         later_error: found.later_error,
+                        exif: find_exif(file),
+                        xmp: find_xmp(file),
                         front,
                     }),
                     Err(error) => Err(FileError::Front(error)),
@@ -88,6 +97,41 @@ impl<'a> JxlFile<'a> {
         self.later_error
     }
 
+    /// The ICC profile of the file, if it has one; none if there is a [`reason`](JxlFile::reason).
+    pub fn profile(&self) -> Option<&[u8]>
+        ensures { option_copied result ≡ profile_of self.now }
+    {
+        match &self.front.profile {
+            Some(profile) => Some(profile),
+            None => None,
+        }
+    }
+
+    /// The ICC profile of the file, if it has one; none if there is a [`reason`](JxlFile::reason).
+    pub fn into_profile(self) -> Option<Vec<u8>>
+        ensures is { bytes_if result ≡ profile_of self.entry }
+        ensures of_file { (limits : TheLimits) (file : List ℕ) → IsReadOf limits file self.entry
+            → reason_of self.entry ≡ None → ProfileOfFile limits file (bytes_if result) }
+    {
+        let JxlFile { front, .. } = self;
+        let Front { profile, .. } = front;
+        profile
+    }
+
+    /// The Exif data of the file, if it has some: from the TIFF header on, unless the offset before it says otherwise.
+    pub fn exif(&self) -> Option<&'a [u8]>
+        ensures { option_copied result ≡ exif_of self.now }
+    {
+        self.exif
+    }
+
+    /// The XMP data of the file, if it has some.
+    pub fn xmp(&self) -> Option<&'a [u8]>
+        ensures { option_copied result ≡ xmp_of self.now }
+    {
+        self.xmp
+    }
+
     /// The picture of the file, as [`decode_lossless_with`] gives it: by whichever limits it was read. Its header is the
     /// file's, but with the sides of what is shown, and orientation 1.
     pub fn decode<P: Progress>(
@@ -105,12 +149,24 @@ impl<'a> JxlFile<'a> {
             → IfErr result (FileFails limits file) }
     {
         let JxlFile { stream, front, .. } = self;
-        let Front { image, frames } = front;
+        let Front {
+            image,
+            profile,
+            frames,
+        } = front;
         let frames = match frames {
             Ok(frames) => frames,
             Err(error) => return Err(FileError::Front(error)),
         };
-        decode_codestream(alloc, stream.bytes(), image, &frames, steps, progress)
+        decode_codestream(
+            alloc,
+            stream.bytes(),
+            image,
+            profile,
+            &frames,
+            steps,
+            progress,
+        )
     }
 }
 
@@ -121,7 +177,7 @@ impl<'a> JxlFile<'a> {
 /// hold one; image header, frame headers and tables of contents stand at its bits; each section lies where the table
 /// says; and the channels are the only ones that the transforms turn into the samples that the sections code, read by
 /// the entropy decoder with the indices of their streams. They are shown upright: mirrored or turned as the image header
-/// says. An extra channel with a shift has the sides that it was coded with: nothing is upsampled. The picture's header
+/// says. The picture has the profile of the file. An extra channel with a shift has the sides that it was coded with: nothing is upsampled. The picture's header
 /// is that of the file, but that it has the size of what is shown, and orientation 1. Of each frame's trees, `steps`
 /// counts at most the depth and one more for each sample.
 ///

@@ -1,6 +1,6 @@
 //! The picture of a codestream whose headers were read.
 
-ghost use Rattle.std.specs.Prelude.{List, [], ◌∷◌, ◌++◌, map, IfErr, IfOk};
+ghost use Rattle.std.specs.Prelude.{◌≡◌, List, [], ◌∷◌, ◌++◌, map, IfErr, IfOk};
 ghost use Rattle.jxl_coding.specs.Parse.{decoder_at};
 ghost use Rattle.jxl_coding.specs.Tokens.{entropy};
 ghost use Rattle.jxl_image_header.specs.Images.{image_of};
@@ -18,11 +18,12 @@ use jxl_picture::picture::Picture;
 use jxlm_tree::flat::Steps;
 use std::alloc::Global;
 
-/// The picture of a codestream with this image header and these frames, shown upright.
+/// The picture of a codestream with this image header, this profile and these frames, shown upright.
 pub fn decode_codestream<P: Progress>(
     alloc: Global,
     bytes: &[u8],
     image: ImageHeader,
+    profile: Option<Vec<u8>>,
     frames: &Frames,
     steps: &mut Steps,
     progress: &mut P,
@@ -30,6 +31,7 @@ pub fn decode_codestream<P: Progress>(
     requires ready { IsReady bytes.now image frames.now }
     ensures ok { IfOk result (λ p. IsShown bytes.now (image_of image) (map frame_at frames.now.saved.items)
         (frame_at frames.now.shown) p steps.old steps.new) }
+    ensures profile { IfOk result (λ p. p.profile ≡ profile) }
     ensures whole { IfOk result (λ p. IsWhole (image_of p.header) p.channels.items) }
     ensures err { IfErr result (FramesFail (entropy decoder_at) bytes.now
         (image_of image) (map frame_at frames.now.saved.items ++ frame_at frames.now.shown ∷ [])) }
@@ -43,6 +45,7 @@ pub fn decode_codestream<P: Progress>(
     let coded = Picture {
         header: image,
         channels,
+        profile,
     };
     let shown = coded.upright(alloc)?;
     Ok(shown)

@@ -8,12 +8,12 @@ pub returns-clause-ok : goal.returns-clause-ok
 returns-clause-ok g c = record {
   coded = c.in_ok-channels.channels.items;
   decoded = c.in_ok-channels.ensures.ok;
-  upright = c.in_ok-shown.ensures;
+  upright = c.in_ok-shown.ensures.shown;
 }
 
 pub returns-clause-whole : goal.returns-clause-whole
 returns-clause-whole g c =
-    whole_upright (image_of c.args.image) c.in_ok-channels.channels.items (image_of c.in_ok-shown.shown.header) c.in_ok-shown.shown.channels.items c.in_ok-channels.ensures.whole c.in_ok-shown.ensures
+    whole_upright (image_of c.args.image) c.in_ok-channels.channels.items (image_of c.in_ok-shown.shown.header) c.in_ok-shown.shown.channels.items c.in_ok-channels.ensures.whole c.in_ok-shown.ensures.shown
 
 pub returns-in_err-shown-clause-err : goal.returns-in_err-shown-clause-err
 returns-in_err-shown-clause-err g c =
