@@ -24,7 +24,7 @@ use Rattle.jxlm_samples.specs.Placed.{standing_in}
 use Rattle.jxlm_header.specs.Opening.{Opening}
 use Rattle.jxl_modular.specs.Groups.{held_in, part_in}
 use Rattle.jxl_modular.specs.Image.{Image}
-use Rattle.jxl_modular.specs.Parsing.{Start, coded_part}
+use Rattle.jxlm_nested.specs.Starts.{Start, coded_part}
 use Rattle.jxl_modular.specs.Nested.{NestedDone, NestedStops, NestedTurn, NotBegun, PartTurn, Turn, nested_regions, with_tables}
 use Rattle.jxl_modular.specs.Sections.{AllTurn, CodesNested, CodesPart, CodesWhole, SectionTurn, SectionsStop, list_in}
 use Rattle.jxl_modular.specs.declared.sections.Section.{Section}

@@ -23,7 +23,8 @@ use Rattle.jxlm_samples.specs.Coded.{DecodingFails}
 use Rattle.jxlm_samples.specs.Part.{Part, cell_count}
 use Rattle.jxl_modular.specs.Groups.{channels_in, part_in}
 use Rattle.jxl_modular.specs.Image.{Image}
-use Rattle.jxl_modular.specs.Parsing.{IsTreeErrorAt, Start, coded_part, opening_at}
+use Rattle.jxl_modular.specs.Parsing.{IsTreeErrorAt, opening_at}
+use Rattle.jxlm_nested.specs.Starts.{Start, coded_part}
 use Rattle.jxl_modular.specs.Sections.{AreDecoded, CodesPart, list_in}
 use Rattle.jxl_modular.specs.declared.sections.Section.{Section}
 use Rattle.jxlm_section_split.specs.CutPicture.{image_by}
