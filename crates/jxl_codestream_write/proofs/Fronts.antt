@@ -10,6 +10,7 @@ use Rattle.jxlm_bit_writer.specs.Written.{AreFilled, HasBits}
 use Rattle.jxlm_bit_writer.specs.Writes.{Writes}
 use Rattle.jxlm_bit_writer.proofs.BitLists.{filled_stands}
 use Rattle.jxl_container.specs.Files.{is_bare}
+use Rattle.jxl_image_header.specs.Fields.{zero_pad_to_byte}
 use Rattle.jxl_image_header.specs.Images.{Image, image_header, image_refusal}
 use Rattle.jxl_image_header.specs.declared.refusal.Refusal.{Refusal}
 use Rattle.jxl_image_header.specs.declared.refusal.Refusal.TheVariants as image_refusals
@@ -54,6 +55,10 @@ module _ {D : Type 0} (d : Meaning D) (image : Image) (shift : ℕ) (sizes : Lis
     contents = λ rest. subst (λ n. StandsAt (toc d (length sizes)) (bytes ++ rest) n (table_of sizes (length bytes)) (8 * length bytes)) (ap length w.added) (c.stands rest);
   }
 
+-- without a profile, the bits up to the next byte are all that is between the image header and the first frame
+no_profile : {D : Type 0} (d : Meaning D) (limit : ℕ) (bytes : List ℕ) (p q : ℕ) → StandsAt zero_pad_to_byte bytes p 0 q → StandsAt (between d limit false) bytes p None q
+no_profile d limit bytes p q e = rw e refl
+
 none_of : {X : Type 0} (p : X → Bool) (x : X) (n : ℕ) → p x ≡ false → list_any p (replicate n x) ≡ false
 none_of p x n e = list_any_none p (replicate n x) (λ k d lt. let l = length-replicate n x in let below : k ≤ k = omega arith in ap p (get_or-replicate n k x d (omega (arith, lt, l))) ∙ e)
 
@@ -89,9 +94,10 @@ module _ {D : Type 0} (d : Meaning D) (image : Image) (shift : ℕ) (sizes first
     before : AreBefore d limits bytes image [] (length first) 0
     before =
         let p : 8 * length first / 8 ≡ length first = omega arith in
-        let padding : StandsAt (between d limits.profile image.colour_encoding.want_icc) bytes i.end 0 (8 * length first) =
-        subst (λ (b : Bool). StandsAt (between d limits.profile b) bytes i.end 0 (8 * length first)) (sym plain) (i.padding (frame ++ joined sections)) in
-        subst (λ (n : ℕ). AreBefore d limits bytes image [] n 0) p (NoFrame i.end 0 (8 * length first) (i.header (frame ++ joined sections), supported, allowed) padding)
+        let padding : StandsAt (between d limits.profile image.colour_encoding.want_icc) bytes i.end None (8 * length first) =
+        subst (λ (b : Bool). StandsAt (between d limits.profile b) bytes i.end None (8 * length first)) (sym plain)
+        (no_profile d limits.profile bytes i.end (8 * length first) (i.padding (frame ++ joined sections))) in
+        subst (λ (n : ℕ). AreBefore d limits bytes image [] n 0) p (NoFrame i.end None (8 * length first) (i.header (frame ++ joined sections), supported, allowed) padding)
 
     contents : ContentsStand d limits bytes image (length first) 0 (still_frame image shift) (entries_from (length frame) sizes)
     contents = record {
