@@ -143,15 +143,7 @@ fn read<D: Decoder>(
     };
     let kinds = 1 + extra;
     let frame = FrameShape { size, kinds };
-    rectangles(
-        &mut decoder,
-        bits,
-        frame,
-        slots,
-        limit,
-        count,
-        &mut growing,
-    )?;
+    rectangles(&mut decoder, bits, frame, slots, limit, count, &mut growing)?;
     decoder.finalize()?;
     Ok(growing)
 }

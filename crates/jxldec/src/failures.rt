@@ -56,10 +56,8 @@ impl Failure {
         ensures { result ≡ is_of_output self }
     {
         match self {
-            Failure::Ending
-            | Failure::Unwritable(_)
-            | Failure::Closed
-            | Failure::Unsaved(_, _) => true,
+            Failure::Ending | Failure::Unwritable(_) | Failure::Closed | Failure::Unsaved(_, _) =>
+                true,
             _ => false,
         }
     }

@@ -84,24 +84,21 @@ fn info(alloc: Global) -> Result<Arg<'static>, AllocError> {
 }
 
 fn icc(alloc: Global) -> Arg<'static> {
-    Arg::new(alloc, "icc")
-        .long("icc")
-        .value_name("OUT")
-        .help("Where to write the ICC profile; without --output, no picture is written")
+    Arg::new(alloc, "icc").long("icc").value_name("OUT").help(
+        "Where to write the ICC profile; without --output, no picture is written",
+    )
 }
 
 fn exif(alloc: Global) -> Arg<'static> {
-    Arg::new(alloc, "exif")
-        .long("exif")
-        .value_name("OUT")
-        .help("Where to write the Exif data; without --output, no picture is written")
+    Arg::new(alloc, "exif").long("exif").value_name("OUT").help(
+        "Where to write the Exif data; without --output, no picture is written",
+    )
 }
 
 fn xmp(alloc: Global) -> Arg<'static> {
-    Arg::new(alloc, "xmp")
-        .long("xmp")
-        .value_name("OUT")
-        .help("Where to write the XMP data; without --output, no picture is written")
+    Arg::new(alloc, "xmp").long("xmp").value_name("OUT").help(
+        "Where to write the XMP data; without --output, no picture is written",
+    )
 }
 
 fn format(alloc: Global) -> Arg<'static> {

@@ -242,9 +242,7 @@ fn output_asked<P: Line>(
 {
     match options.task {
         Task::Headers => info_of_file(alloc, file, &options.limits),
-        Task::Picture => {
-            picture_of_file(alloc, file, options.format, &options.limits, progress)
-        }
+        Task::Picture => { picture_of_file(alloc, file, options.format, &options.limits, progress) }
         Task::Nothing => nothing_of_file(alloc, file, &options.limits),
     }
 }
@@ -471,12 +469,12 @@ fn carry_out<R: Read, W: Flush, F: Flush, P: Line>(
         (string_bytes l.channels) l.profile l.later_error) }
     ensures saved { OnOk result (IsReadWhole (R.remaining input.old) (R.remaining input.new) (λ file.
         IsSaved (is_some options.now.icc) (λ bytes. ProfileOfFile options.now.limits file (Some bytes))
-            (F.contents extras.old.profile) (F.contents extras.new.profile) (F.is_flushed extras.new.profile)
-            (extras.new.profile ≡ extras.old.profile)
+        (F.contents extras.old.profile) (F.contents extras.new.profile) (F.is_flushed extras.new.profile)
+        (extras.new.profile ≡ extras.old.profile)
         × IsSaved (is_some options.now.exif) (λ bytes. HasExif file (Some bytes)) (F.contents extras.old.exif)
-            (F.contents extras.new.exif) (F.is_flushed extras.new.exif) (extras.new.exif ≡ extras.old.exif)
+        (F.contents extras.new.exif) (F.is_flushed extras.new.exif) (extras.new.exif ≡ extras.old.exif)
         × IsSaved (is_some options.now.xmp) (λ bytes. HasXmp file (Some bytes)) (F.contents extras.old.xmp)
-            (F.contents extras.new.xmp) (F.is_flushed extras.new.xmp) (extras.new.xmp ≡ extras.old.xmp))) }
+        (F.contents extras.new.xmp) (F.is_flushed extras.new.xmp) (extras.new.xmp ≡ extras.old.xmp))) }
     ensures failed { IfErr result (InputFails options.now.task options.now.limits options.now.format
         (R.remaining input.old) (R.remaining input.new) (W.contents output.old) (W.contents output.new)) }
     ensures flushed { OnOk result (W.is_flushed output.new) }
@@ -552,12 +550,12 @@ pub fn run<R: Read, W: Flush, F: Flush, E: Write, P: Line>(
         (IsReported result.reported (E.contents errors.old) (E.contents errors.new)) (errors.new ≡ errors.old) }
     ensures saved { result.status ≡ 0 → IsReadWhole (R.remaining input.old) (R.remaining input.new) (λ file.
         IsSaved (is_some options.entry.icc) (λ bytes. ProfileOfFile options.entry.limits file (Some bytes))
-            (F.contents extras.old.profile) (F.contents extras.new.profile) (F.is_flushed extras.new.profile)
-            (extras.new.profile ≡ extras.old.profile)
+        (F.contents extras.old.profile) (F.contents extras.new.profile) (F.is_flushed extras.new.profile)
+        (extras.new.profile ≡ extras.old.profile)
         × IsSaved (is_some options.entry.exif) (λ bytes. HasExif file (Some bytes)) (F.contents extras.old.exif)
-            (F.contents extras.new.exif) (F.is_flushed extras.new.exif) (extras.new.exif ≡ extras.old.exif)
+        (F.contents extras.new.exif) (F.is_flushed extras.new.exif) (extras.new.exif ≡ extras.old.exif)
         × IsSaved (is_some options.entry.xmp) (λ bytes. HasXmp file (Some bytes)) (F.contents extras.old.xmp)
-            (F.contents extras.new.xmp) (F.is_flushed extras.new.xmp) (extras.new.xmp ≡ extras.old.xmp)) }
+        (F.contents extras.new.xmp) (F.is_flushed extras.new.xmp) (extras.new.xmp ≡ extras.old.xmp)) }
     ensures flushed { result.status ≡ 0 → W.is_flushed output.new }
     ensures failed { result.status ≡ 1 → IsFailed options.entry.task options.entry.limits options.entry.format
         options.entry.input.now options.entry.output_name.now (R.remaining input.old) (R.remaining input.new)
