@@ -58,8 +58,8 @@ fn write_frame<D: Decoder>(
 }
 
 /// What a still picture without a profile has before the sections of its only frame, which have these sizes: the
-/// signature and the image header, the header of the frame and its table of contents. The sides of groups are 128 times 2
-/// to the power of `shift`. The sections follow one behind another, and nothing after them.
+/// signature and the image header, the header of the frame and its table of contents. The sides of groups are 128
+/// times 2 to the power of `shift`. The sections follow one behind another, and nothing after them.
 pub fn write_front<D: Decoder>(
     alloc: Global,
     image: &ImageHeader,
