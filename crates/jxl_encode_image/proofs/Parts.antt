@@ -31,8 +31,7 @@ module _ (dim : ℕ) (passes : List Pass) (l : ChannelList) (part : SectionPart)
   sides [] all = tt
   sides (p ∷ ps) all =
       let i = All-head (IsPiece l part) p ps all in
-      let is : get_or l.channels p.buffer (table_channel 0 0) ≡ i.c = (get_of l.channels p.buffer i.c (table_channel 0 0) i.channel).1 in
-      (
+      let is : get_or l.channels p.buffer (table_channel 0 0) ≡ i.c = (get_of l.channels p.buffer i.c (table_channel 0 0) i.channel).1 in (
         (sym i.is.same_width ∙ ap (λ (c : Channel). (channel_in part c p).width) (sym is), sym i.is.same_height ∙ ap (λ (c : Channel). (channel_in part c p).height) (sym is)),
         sides ps (All-tail (IsPiece l part) p ps all),
       )

@@ -19,7 +19,9 @@ use jxlm_encode_transform::redo::redo_all;
 use jxlm_groups::part::SectionPart;
 use jxlm_groups::pass::Pass;
 use jxlm_groups::pieces::pieces;
-use jxlm_transform::channels::{ModularChannelInfo, ModularChannels, PlacedChannel, image_channels};
+use jxlm_transform::channels::{
+    ModularChannelInfo, ModularChannels, PlacedChannel, image_channels,
+};
 use jxlm_transform::param::ModularChannelParams;
 use jxlm_transform::transform::{Rct, TransformInfo};
 use std::alloc::Global;

@@ -33,7 +33,7 @@ returns g c =
     let placed = subst (λ (cs : List Channel). IsPlacedFor (colour_transforms c.args.colour) cs c.in_ok-placed.placed) (c.deref.ensures.value ∙ c.in-Ok.ensures.ok) c.in_ok-placed.ensures in
     let shape = subst (λ (gs : List (Grid g.row.S.Denot)). SameShape gs c.redo_all.new.store) c.deref_mut.ensures.value c.in_ok-redo_all.ensures.shape in
     let undone : (depth : ℕ) → UndoesAll g.S.Sealed.to_int g.S.Sealed.width depth (undos_of c.in_ok-placed.placed.undoings.items) c.redo_all.new.store c.args.grids.items = λ depth. subst (λ (us : List Undoing). UndoesAll g.S.Sealed.to_int g.S.Sealed.width depth (undos_of us) c.redo_all.new.store c.args.grids.items) c.deref-2.ensures.value
-        (subst (λ (gs : List (Grid g.row.S.Denot)). UndoesAll g.S.Sealed.to_int g.S.Sealed.width depth (undos_of c.deref-2.result.now) c.redo_all.new.store gs) c.deref_mut.ensures.value (c.in_ok-redo_all.ensures.redone depth)) in
+    (subst (λ (gs : List (Grid g.row.S.Denot)). UndoesAll g.S.Sealed.to_int g.S.Sealed.width depth (undos_of c.deref-2.result.now) c.redo_all.new.store gs) c.deref_mut.ensures.value (c.in_ok-redo_all.ensures.redone depth)) in
     let coded = colour_coded g.S.Sealed.to_int c.args.colour c.requires.spelled c.args.given.now c.requires.suits c.requires.valid c.requires.few c.args.grids.items c.requires.sides c.in_ok-placed.placed placed c.redo_all.new.store shape g.S.Sealed.width undone in
     subst (λ (gs : List (Grid g.row.S.Denot)). IsCodedImage g.S.Sealed.to_int g.S.Sealed.width (colour_transforms c.args.colour) (image_list c.args.given.now) (store_meanings g.S.Sealed.to_int c.args.grids.items) c.in_ok-placed.placed.channels gs)
     (sym (store_back c.args.grids.len c.redo_all.new.store c.args.grids.items c.args.grids.ok.0 shape.count)) coded
