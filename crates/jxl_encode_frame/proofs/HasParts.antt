@@ -128,10 +128,10 @@ pub groups_in_layout : GroupsAreInLayout
 groups_in_layout given size dim ts coded part some valid sized accepted cells =
     let list : ChannelList = image_list given in
     let own : All (IsOfPicture size.width size.height) list.channels = All-map (IsOfPicture size.width size.height) image_channel given (λ k d lt.
-        let p : ModularChannelParams = get_or given k d in
-        subst (λ w. IsOfPicture w size.height (image_channel p)) (sized k d lt).0 (subst (λ h. IsOfPicture p.width h (image_channel p)) (sized k d lt).1 (image_of_picture p (valid k d lt)))) in
+    let p : ModularChannelParams = get_or given k d in
+    subst (λ w. IsOfPicture w size.height (image_channel p)) (sized k d lt).0 (subst (λ h. IsOfPicture p.width h (image_channel p)) (sized k d lt).1 (image_of_picture p (valid k d lt)))) in
     let plain = written_steps ts list coded accepted.written accepted.come in
     let pictured : IsPictured size.width size.height coded.list =
-        pictured_after_all size.width size.height coded.steps list coded.list (steps_list ts list coded accepted.come) (steps_have coded.steps plain) (λ i d le lt. own i d lt) in
+    pictured_after_all size.width size.height coded.steps list coded.list (steps_list ts list coded accepted.come) (steps_have coded.steps plain) (λ i d le lt. own i d lt) in
     let held = (counts_cells dim one_pass coded.list part).0 cells in
     has_it dim some size coded.list pictured part (held_exists dim one_pass coded.list part held.n held.x held.y held.has)

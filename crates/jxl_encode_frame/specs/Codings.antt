@@ -59,7 +59,7 @@ module _ {D : Type 0} (d : Meaning D) (w : Width) (config : Config D) where
     pub groups : (part : SectionPart) → part ≢ parts.Global → 0 < cell_count (part_channels group_dim passes ready.coded.list part) →
         (bytes : List ℕ) × (stream : ℕ) × (section_of part ≡ Some (bytes, stream))
         × CodesBehindHeader [] (part_channels group_dim passes ready.coded.list part) stream bytes 0
-          (grids_in (pieces group_dim passes ready.coded.list part) ready.samples)
+        (grids_in (pieces group_dim passes ready.coded.list part) ready.samples)
 
 -- The first section of a frame begins with the default factors and the tree that all sections share, which is within the limits
 -- of the frame; and from there on its sections have these channels, as samples of 32 bits.
