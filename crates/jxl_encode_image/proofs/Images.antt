@@ -21,7 +21,7 @@ use Rattle.jxlm_chain.proofs.LayoutLaws.{lie_after_all, lie_first}
 use Rattle.jxlm_chain.proofs.ShapeLaws.{lie_in_kept, tables_kept}
 use Rattle.jxlm_chain.proofs.Undone.{chain_of}
 use Rattle.jxlm_transform.specs.Channels.{AreGridsOf, Channel, ChannelList, IsNarrow, image_channel, image_list}
-use Rattle.jxlm_transform.specs.ChannelSteps.{CodedList, RctStep, Step, coded_list, list_after_all, rct_step}
+use Rattle.jxlm_transform.specs.ChannelSteps.{CodedList, RctStep, Step, coded_list, list_after, list_after_all}
 use Rattle.jxlm_transform.specs.Layout.{HasBuffers, Layout, buffers_of, first_layout, layout_after_all, sides_of}
 use Rattle.jxlm_transform.specs.Lists.{layout_of, list_of}
 use Rattle.jxlm_transform.specs.Steps.{HasChannels, Sides}
@@ -144,13 +144,13 @@ colour_few None = omega arith
 colour_few (Some t) = omega arith
 
 -- it keeps the list of channels that it suits
-colour_list : (colour : Option Rct) (l : ChannelList) (c : CodedList) → IfSome colour (λ t. rct_step t l ≡ Ok l) → coded_list (colour_transforms colour) l ≡ Ok c → c.list ≡ l
+colour_list : (colour : Option Rct) (l : ChannelList) (c : CodedList) → IfSome colour (λ t. list_after (RctStep t) l ≡ Ok l) → coded_list (colour_transforms colour) l ≡ Ok c → c.list ≡ l
 colour_list None l c suits e = sym (ap (λ (x : CodedList). x.list) (same_coded (record { steps = []; list = l }) c e))
 colour_list (Some t) l c suits e =
     let made : coded_list (OfRct t ∷ []) l ≡ Ok (record { steps = RctStep t ∷ []; list = l }) = rw suits refl in
     sym (ap (λ (x : CodedList). x.list) (same_coded (record { steps = RctStep t ∷ []; list = l }) c (sym made ∙ e)))
 
-module _ {S : Type 0} (to_int : S → ℤ) (colour : Option Rct) (spelled : IfSome colour (λ t. IsRct t)) (ps : List ModularChannelParams) (suits : IfSome colour (λ t. rct_step t (image_list ps) ≡ Ok (image_list ps))) (valid : All IsValidChannel ps)
+module _ {S : Type 0} (to_int : S → ℤ) (colour : Option Rct) (spelled : IfSome colour (λ t. IsRct t)) (ps : List ModularChannelParams) (suits : IfSome colour (λ t. list_after (RctStep t) (image_list ps) ≡ Ok (image_list ps))) (valid : All IsValidChannel ps)
     (few : length ps ≤ 65536) (grids : List (Grid S)) (sizes : AreGridsOf (image_list ps).channels grids) (p : PlacedChannels) (placed : IsPlacedFor (colour_transforms colour) (image_list ps).channels p) where
   pub colour_runs : CanUndoAll grids (undos_of p.undoings.items)
   colour_runs = can_run to_int (colour_transforms colour) (colour_written colour spelled) (colour_few colour) (image_list ps).channels grids sizes p placed

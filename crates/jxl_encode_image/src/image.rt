@@ -5,7 +5,7 @@ ghost use Rattle.std.specs.List.{All};
 ghost use Rattle.std.specs.Option.{IfSome};
 ghost use Rattle.jxlm_base.specs.Regions.{store_meanings};
 ghost use Rattle.jxlm_transform.specs.Channels.{AreGridsOf, image_list};
-ghost use Rattle.jxlm_transform.specs.ChannelSteps.{rct_step};
+ghost use Rattle.jxlm_transform.specs.ChannelSteps.{RctStep, list_after};
 ghost use Rattle.jxlm_transform.specs.Params.{IsGroupDim, IsValidChannel};
 ghost use Rattle.jxlm_transform.specs.Transforms.{IsRct, transform_of};
 ghost use Rattle.jxl_encode_image.specs.Preparations.{colour_transforms};
@@ -52,7 +52,7 @@ fn placed_by(
     given: &[ModularChannelInfo],
     colour: Option<Rct>,
 ) -> Result<PlacedChannels, OutOfMemory>
-    requires suits { IfSome colour (λ t. rct_step t (listed given.now) ≡ Ok (listed given.now)) }
+    requires suits { IfSome colour (λ t. list_after (RctStep t) (listed given.now) ≡ Ok (listed given.now)) }
     ensures { IfOk result (λ p. IsPlacedFor (colour_transforms colour) given.now p) }
 {
     let Ok(mut placed) = PlacedChannels::whole(alloc, given) else {
@@ -81,7 +81,7 @@ pub fn code_image<S: Sample>(
     requires few { length given.now ≤ 65536 }
     requires sides { AreGridsOf (image_list given.now).channels grids.items }
     requires spelled { IfSome colour (λ t. IsRct t) }
-    requires suits { IfSome colour (λ t. rct_step t (image_list given.now) ≡ Ok (image_list given.now)) }
+    requires suits { IfSome colour (λ t. list_after (RctStep t) (image_list given.now) ≡ Ok (image_list given.now)) }
     ensures { IfOk result (λ i. IsCodedImage S.to_int S.width (colour_transforms colour) (image_list given.now)
         (store_meanings S.to_int grids.items) i.channels i.store.items) }
 {
