@@ -155,7 +155,7 @@ fn tell_closing(text: &mut String, header: &FrameHeader) -> Option<()> {
 }
 
 /// Adds all of a frame header.
-fn tell(text: &mut String, image: &ImageHeader, header: &FrameHeader) -> Option<()> {
+pub fn tell_frame(text: &mut String, image: &ImageHeader, header: &FrameHeader) -> Option<()> {
     tell_coding(text, header)?;
     tell_passes(text, &header.passes)?;
     tell_place(text, header.place)?;
@@ -184,7 +184,11 @@ fn tell_toc(text: &mut String, toc: &Toc) -> Option<()> {
 }
 
 /// The header of the first frame, after the image header, its profile and the bits up to a byte.
-fn first_frame(alloc: Global, bits: &mut Bitstream<'_>, image: &ImageHeader) -> Result<FrameHeader>
+pub fn first_frame(
+    alloc: Global,
+    bits: &mut Bitstream<'_>,
+    image: &ImageHeader,
+) -> Result<FrameHeader>
     requires { 8 * length (bytes_of bits.old) < 2 ^ 64 }
     ensures dim { IfOk result (λ h. 0 < h.group_dim) }
     ensures bytes { bytes_of bits.new ≡ bytes_of bits.old }
@@ -229,7 +233,7 @@ fn tell_all(alloc: Global, text: &mut String, bytes: &[u8]) -> Option<()> {
     let image = ImageHeader::parse(alloc, &mut bits).ok()?;
     match first_frame(alloc, &mut bits, &image) {
         Ok(header) => {
-            tell(text, &image, &header)?;
+            tell_frame(text, &image, &header)?;
             tell_sections(alloc, text, &mut bits, &image, &header)?;
         }
         // where a decoder's error leaves the reader is the decoder's own matter

@@ -120,7 +120,7 @@ fn tell_colour(text: &mut String, colour: ColourEncoding) -> Option<()> {
 }
 
 /// Adds all of a header, and what it has that is not supported.
-fn tell(text: &mut String, header: &ImageHeader) -> Option<()> {
+pub fn tell_image(text: &mut String, header: &ImageHeader) -> Option<()> {
     write!(text, "{}x{} ", header.size.width, header.size.height).ok()?;
     tell_depth(text, header.bit_depth)?;
     if header.modular_16bit_buffers {
@@ -168,7 +168,7 @@ pub fn tell_error(text: &mut String, error: Error) -> Option<()> {
 fn tell_all(alloc: Global, text: &mut String, bytes: &[u8]) -> Option<()> {
     let mut bits = Bitstream::new(bytes);
     match ImageHeader::parse(alloc, &mut bits) {
-        Ok(header) => tell(text, &header)?,
+        Ok(header) => tell_image(text, &header)?,
         Err(error) => tell_error(text, error)?,
     }
     write!(text, " @{}", bits.position()).ok()

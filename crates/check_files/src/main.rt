@@ -13,6 +13,7 @@ mod names;
 mod pictures;
 mod printing;
 mod profiles;
+mod spelled;
 mod streams;
 mod told;
 mod words;
@@ -33,6 +34,10 @@ fn seen_of_files(alloc: Global, row: &Row<'_>) -> Option<String> {
         "info" => told::seen(alloc, row.asked),
         "image" => images::seen(alloc, row.asked),
         "frame" => frames::seen(alloc, row.asked),
+        "image_bits" => spelled::seen_of_image(alloc, row.asked),
+        "image_again" => spelled::seen_of_image_again(alloc, row.asked),
+        "frame_bits" => spelled::seen_of_frame(alloc, row.asked),
+        "frame_again" => spelled::seen_of_frame_again(alloc, row.asked),
         "entropy" => answers::seen(alloc, row.asked, row.expected.starts_with('#')),
         "entropy_cuts" => damaged::seen_of_cuts(alloc, row.asked),
         "damaged" => damaged::sum_of_damaged(alloc, row.asked),

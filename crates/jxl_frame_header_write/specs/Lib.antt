@@ -1,1 +1,3 @@
 pub mod Stills
+pub mod Writable
+pub mod Inner

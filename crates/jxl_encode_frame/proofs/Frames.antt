@@ -1,0 +1,64 @@
+-- Sections behind the tree that they share are a frame.
+use Rattle.std.proofs.Common.{◌≡◌, ℕ, ℤ, pos, List, [], get_or, Bool, true, false, Option, Some, None, Ok, refl, sym, ap, ◌∙◌, subst}
+use Rattle.std.specs.Int.{w32}
+use Rattle.jxlm_bits.specs.Decoding.{Meaning}
+use Rattle.jxlm_base.specs.Grid.{Grid}
+use Rattle.jxlm_groups.specs.Passes.{passes_of}
+use Rattle.jxlm_transform.specs.Channels.{ChannelList}
+use Rattle.jxl_image_header.specs.Images.{Image}
+use Rattle.jxl_image_header.specs.declared.size.Size.{Size}
+use Rattle.jxl_frame_header.specs.Frames.{frame_size}
+use Rattle.jxl_frame_header.specs.Passes.{pass_shifts}
+use Rattle.jxl_codestream.specs.Fronts.{FrameAt, StandsAt, layout_in}
+use Rattle.jxl_patches.specs.Slots.{Slots, optional_patches, sizes_of}
+use Rattle.jxl_picture.specs.Pictures.{colour_count}
+use Rattle.jxl_picture.specs.Limits.{channel_count}
+use Rattle.jxl_lossless.specs.Frames.{IsFrame, SharedTree, channels_given, dictionary}
+use Rattle.jxl_lossless.specs.Sections.{section_of, sections_in}
+use Rattle.jxl_lossless.specs.Stills.{IsStill}
+use Rattle.jxl_lossless.proofs.Channels.{alike, are_given, valid}
+use Rattle.jxl_lossless.proofs.PassShifts.{can_be_cut}
+use Rattle.jxl_encode_frame.specs.Codings.{AreSections, FrameCoding}
+use Rattle.jxl_encode_frame.specs.Laws.{CodingIsFrame}
+use Rattle.jxl_encode_frame.proofs.Stills.{sections_still}
+
+-- without patches none are read
+no_patches : {D : Type 0} (d : Meaning D) (there : Bool) (size : Size) (extra : ℕ) (sizes : List (Option Size)) (bytes : List ℕ) → there ≡ false →
+    StandsAt (optional_patches d there size extra sizes) bytes 0 None 0
+no_patches d there size extra sizes bytes none = rw none refl
+
+pub coding_frame : {D : Type 0} (d : Meaning D) → CodingIsFrame d
+coding_frame {D} d image slots bytes frame grids fit c before =
+    let size : Size = frame_size image.size frame.header in
+    let first : List ℕ = get_or (sections_in bytes frame) 0 [] in
+    let are = are_given image size _ fit.low refl in
+    let one = alike (colour_count image) size.width size.height image.ec_info _ refl in
+    let ok = valid (colour_count image) size.width size.height image.ec_info fit.wide fit.high fit.low in
+    let can = can_be_cut frame.header.passes fit.passes (pass_shifts frame.header.passes) refl in
+    let s = c.sections in
+    let of_size = subst (λ (z : Size). AreSections d w32 c.config (channels_given image z) frame.header.group_dim (passes_of (pass_shifts frame.header.passes)) c.first c.end
+    (section_of (layout_in image frame.header) (sections_in bytes frame)) grids) c.size_is s in
+    let given = subst (λ (l : ChannelList). AreSections d w32 c.config l frame.header.group_dim (passes_of (pass_shifts frame.header.passes)) c.first c.end
+    (section_of (layout_in image frame.header) (sections_in bytes frame)) grids) (sym are) of_size in
+    let (after, still) = sections_still d w32 (λ (v : ℤ). v) (pos 0) c.config _ frame.header.group_dim image.bit_depth.bits_per_sample (passes_of (pass_shifts frame.header.passes)) (layout_in image frame.header) c.first c.end
+    (sections_in bytes frame) grids ok one can given before in
+    let own = subst (λ (l : ChannelList). IsStill {S = ℤ} d w32 (λ (v : ℤ). v) (pos 0) (Some c.config) l frame.header.group_dim image.bit_depth.bits_per_sample c.first c.end (passes_of (pass_shifts frame.header.passes))
+    (section_of (layout_in image frame.header) (sections_in bytes frame)) grids before after) are still in
+    let there = subst (λ (b : List ℕ). IsStill {S = ℤ} d w32 (λ (v : ℤ). v) (pos 0) (Some c.config) (channels_given image size) frame.header.group_dim image.bit_depth.bits_per_sample b c.end (passes_of (pass_shifts frame.header.passes))
+    (section_of (layout_in image frame.header) (sections_in bytes frame)) grids before after) c.first_is own in
+    let shared : SharedTree d c.size (channel_count image) frame.deepest c.first 0 (Some c.config) c.end =
+    record { there = true; begin = c.tree_at; start = c.start; tree = (c.config, refl, c.tree, c.within) } in (
+      after,
+      record {
+        tree = record {
+          after = record { patches = None; begin = 0; stand = no_patches d frame.header.coding.flags.patches _ _ _ _ fit.plain };
+          global = Some c.config;
+          begin = c.end;
+          shared = subst (λ (b : List ℕ). SharedTree d size (channel_count image) frame.deepest b 0 (Some c.config) c.end) c.first_is
+              (subst (λ (z : Size). SharedTree d z (channel_count image) frame.deepest c.first 0 (Some c.config) c.end) c.size_is shared);
+        };
+        own = grids;
+        still = there;
+        put = refl;
+      },
+    )

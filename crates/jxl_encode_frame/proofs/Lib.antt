@@ -1,0 +1,12 @@
+pub mod Headers
+pub mod Within
+pub mod Readers
+pub mod Ends
+pub mod WholePart
+pub mod Streams
+pub mod HasParts
+pub mod Numbers
+pub mod OneSection
+pub mod Stills
+pub mod Frames
+pub mod Pictures

@@ -1,0 +1,247 @@
+-- Sections that were written are a frame.
+use Rattle.std.proofs.Common.{◌≡◌, ◌≢◌, ◌↔◌, ℕ, zero, suc, ◌+◌, ◌*◌, ◌/◌, ◌%◌, ◌<◌, ◌≤◌, ℤ, List, [], ◌∷◌, length, map, get_or, true, false, Option, Some, None, Ok, refl, sym, ap, ◌∙◌, subst, arith}
+use Rattle.std.specs.Prelude.{Any, IsTrue, sum}
+use Rattle.std.specs.Int.{Width}
+use Rattle.std.specs.List.{All, AllPairs, AllZip}
+use Rattle.std.proofs.lemmas.List.Elements.{All-cons, All-head, All-nil, All-tail}
+use Rattle.jxlm_bits.specs.Bits.{bytes_of, position_of}
+use Rattle.jxlm_bits.specs.Decoding.{Meaning}
+use Rattle.jxlm_base.specs.Grid.{Grid}
+use Rattle.jxlm_base.specs.Regions.{grids_in}
+use Rattle.jxlm_chain.specs.Chain.{Chain}
+use Rattle.jxlm_chain.proofs.OneImage.{no_two_images}
+use Rattle.jxlm_groups.specs.Cutting.{can_cut}
+use Rattle.jxlm_groups.specs.Passes.{can_group, one_picture}
+use Rattle.jxlm_groups.specs.Pieces.{part_channels, pieces}
+use Rattle.jxlm_groups.specs.declared.part.SectionPart.{SectionPart}
+use Rattle.jxlm_groups.specs.declared.part.SectionPart.TheVariants as parts
+use Rattle.jxlm_groups.specs.declared.pass.Pass.{Pass}
+use Rattle.jxlm_groups.proofs.PartChannels.{few_channels}
+use Rattle.jxlm_header.specs.Opening.{Opening, opening_of}
+use Rattle.jxlm_nested.specs.Starts.{IsStartAt, opening_at}
+use Rattle.jxlm_samples.specs.Coded.{IsCodedWhole}
+use Rattle.jxlm_samples.specs.Part.{cell_count}
+use Rattle.jxlm_transform.specs.Channels.{AreGridsOf, Channel, ChannelList, image_list}
+use Rattle.jxlm_transform.specs.ChannelSteps.{CodedList}
+use Rattle.jxlm_transform.specs.Params.{IsValidChannel}
+use Rattle.jxlm_transform.specs.declared.param.ModularChannelParams.{ModularChannelParams}
+use Rattle.jxlm_transform.specs.declared.param.PaletteTables.TheVariants.{OfColours}
+use Rattle.jxlm_tree.specs.Tree.{Config, depth}
+use Rattle.jxlm_section_split.proofs.Openings.{opened_steps}
+use Rattle.jxlm_section_split.proofs.Pictures.{HasPicture, still_picture}
+use Rattle.jxlm_encode_write.specs.Laws.{IsWritten}
+use Rattle.jxl_modular.specs.Fresh.{fresh}
+use Rattle.jxl_modular.specs.Groups.{channels_in, part_in, pieces_of}
+use Rattle.jxl_modular.specs.Image.{Image, coded_list}
+use Rattle.jxl_modular.specs.Sections.{CodesNested, CodesPart, CodesWhole, IsComplete}
+use Rattle.jxl_modular.specs.declared.sections.Section.{Section}
+use Rattle.jxl_codestream.specs.Layouts.{Layout}
+use Rattle.jxl_lossless.specs.Sections.{section_of}
+use Rattle.jxl_lossless.specs.Stills.{HeaderStands, IsStill, IsWeightedAt}
+use Rattle.jxl_lossless.proofs.Complete.{all_ones, complete, each_one, sections_in_order}
+use Rattle.jxl_lossless.proofs.Order.{Before, Ordered}
+use Rattle.jxl_encode_image.specs.Preparations.{shared_header}
+use Rattle.jxl_encode_frame.specs.Codings.{AreSections}
+use Rattle.jxl_encode_frame.specs.Laws.{SectionsAreStill}
+use Rattle.jxl_encode_frame.proofs.Ends.{prepared_sides}
+use Rattle.jxl_encode_frame.proofs.Headers.{not_weighted, opens}
+use Rattle.jxl_encode_image.proofs.Parts.{part_sides}
+use Rattle.jxl_encode_frame.proofs.Readers.{at_start, place_is, reader}
+use Rattle.jxl_encode_frame.proofs.Streams.{streams_rise}
+use Rattle.jxl_encode_frame.proofs.Within.{header_ends}
+
+module _ {S D : Type 0} (d : Meaning D) (w : Width) (to_int : S → ℤ) (zero : S) (config : Config D) (ps : List ModularChannelParams) (group_dim bit_depth : ℕ)
+    (passes : List Pass) (layout : Layout) (first : List ℕ) (p : ℕ) (sections : List (List ℕ)) (image : List (Grid ℤ))
+    (valid : All IsValidChannel ps) (one : IsTrue (one_picture (image_list ps).channels)) (can : IsTrue (can_group passes []))
+    (c : AreSections d w config (image_list ps) group_dim passes first p (section_of layout sections) image) where
+  abbrev given : ChannelList
+  given = image_list ps
+
+  abbrev head : Opening
+  head = opening_of (shared_header c.ready.transforms) c.ready.coded
+
+  -- the image before any of its samples is decoded
+  abbrev x : Image S D
+  x = fresh zero given head config group_dim bit_depth
+
+  abbrev list : ChannelList
+  list = c.ready.coded.list
+
+  opened : opening_at (Some config) first given p ≡ Ok (record { value = head; position = c.global.samples_at })
+  opened = opens c.ready.transforms c.ready.accepted.written first p c.global.samples_at c.global.header given c.ready.coded c.ready.accepted.come c.ready.count config
+
+  start : IsStartAt d (Some config) first given p head config c.global.samples_at
+  start = record { tree_at = c.global.samples_at; header = opened; tree = (refl, refl) }
+
+  header_within : c.global.samples_at ≤ 8 * length first
+  header_within = header_ends first OfColours p (shared_header c.ready.transforms) c.global.samples_at c.global.header
+
+  abbrev Stands : Type 0
+  Stands = HeaderStands {S = S} d w to_int zero (Some config) given group_dim bit_depth first p passes (section_of layout sections)
+
+  abbrev stands : Stands
+  stands = record {
+    head = head;
+    image = x;
+    end = c.global.samples_at;
+    plain = not_weighted c.ready.transforms c.ready.accepted.written first p c.global.samples_at c.global.header;
+    start = start;
+    is = refl;
+  }
+
+  -- ---- the sections of groups
+
+  abbrev IsOne : SectionPart → Type 0
+  IsOne part = (part ≢ parts.Global) × (0 < cell_count (channels_in x passes part))
+
+  abbrev of_part : (part : SectionPart) → IsOne part → Section
+  of_part part g = record { part = part; bits = at_start (c.groups part g.0 g.1).0; stream_index = (c.groups part g.0 g.1).1; nested = true }
+
+  abbrev listed : (qs : List SectionPart) → All IsOne qs → List Section
+  listed [] all = []
+  listed (q ∷ qs) all = of_part q (All-head IsOne q qs all) ∷ listed qs (All-tail IsOne q qs all)
+
+  listed_parts : (qs : List SectionPart) (all : All IsOne qs) → map (λ (s : Section). s.part) (listed qs all) ≡ qs
+  listed_parts [] all = refl
+  listed_parts (q ∷ qs) all = ap (λ (rs : List SectionPart). q ∷ rs) (listed_parts qs (All-tail IsOne q qs all))
+
+  abbrev IsOfGroup : Section → Type 0
+  IsOfGroup s = (section_of layout sections s.part ≡ Some (bytes_of s.bits, s.stream_index)) × (position_of s.bits ≡ 0) × (s.nested ≡ true)
+
+  listed_found : (qs : List SectionPart) (all : All IsOne qs) → All IsOfGroup (listed qs all)
+  listed_found [] all = All-nil IsOfGroup
+  listed_found (q ∷ qs) all =
+      let g = All-head IsOne q qs all in
+      All-cons IsOfGroup (of_part q g) (listed qs (All-tail IsOne q qs all)) ((c.groups q g.0 g.1).2, refl, refl) (listed_found qs (All-tail IsOne q qs all))
+
+  abbrev IsPlain : Section → Type 0
+  IsPlain s = ¬ (IsWeightedAt (bytes_of s.bits) 0)
+
+  listed_plain : (qs : List SectionPart) (all : All IsOne qs) → All IsPlain (listed qs all)
+  listed_plain [] all = All-nil IsPlain
+  listed_plain (q ∷ qs) all =
+      let g = All-head IsOne q qs all in
+      let codes = (c.groups q g.0 g.1).3 in
+      All-cons IsPlain (of_part q g) (listed qs (All-tail IsOne q qs all)) (not_weighted [] (All-nil IsWritten) (c.groups q g.0 g.1).0 0 codes.samples_at codes.header) (listed_plain qs (All-tail IsOne q qs all))
+
+  -- ---- what each codes
+
+  abbrev cost : List Channel → ℕ
+  cost channels = cell_count channels * (depth config.tree + 1)
+
+  abbrev Codes : Section → ℕ → Type 0
+  Codes s n = CodesPart d w to_int zero x passes (Some config) s (grids_in (pieces_of x passes s.part) c.ready.samples) n
+
+  group_nested : (part : SectionPart) (g : IsOne part) → CodesNested d w to_int zero x passes (Some config) (of_part part g) (grids_in (pieces_of x passes part) c.ready.samples) (cost (channels_in x passes part))
+  group_nested part g =
+      let bytes : List ℕ = (c.groups part g.0 g.1).0 in
+      let codes = (c.groups part g.0 g.1).3 in
+      let own : ChannelList = record { channels = channels_in x passes part; nb_meta = 0 } in
+      let alone : CodedList = record { steps = []; list = own } in
+      let sides = part_sides group_dim passes list part c.ready.samples in
+      let few = few_channels group_dim passes list part in
+      let most = c.ready.count in
+      record {
+        start = record {
+          head = opening_of (shared_header []) alone;
+          config = config;
+          samples_at = codes.samples_at;
+          start = record {
+            tree_at = codes.samples_at;
+            header = opens [] (All-nil IsWritten) bytes 0 codes.samples_at codes.header own alone refl (omega (arith, few, most)) config;
+            tree = (refl, refl);
+          };
+        };
+        samples = grids_in (pieces_of x passes part) c.ready.samples;
+        coded = record { end = codes.end; coded = codes.coded; sizes = sides; costs = refl };
+        only = record { chain = (sides, refl); only = λ other chain. sym chain.1 };
+      }
+
+  group_codes : (part : SectionPart) (g : IsOne part) → Codes (of_part part g) (cost (channels_in x passes part))
+  group_codes part g = group_nested part g
+
+  abbrev costs : List SectionPart → List ℕ
+  costs [] = []
+  costs (q ∷ qs) = cost (channels_in x passes q) ∷ costs qs
+
+  listed_codes : (qs : List SectionPart) (all : All IsOne qs) → AllZip Codes (listed qs all) (costs qs)
+  listed_codes [] all = tt
+  listed_codes (q ∷ qs) all = (group_codes q (All-head IsOne q qs all), listed_codes qs (All-tail IsOne q qs all))
+
+  abbrev of_global : Section
+  of_global = record { part = parts.Global; bits = reader first c.global.samples_at header_within; stream_index = 0; nested = false }
+
+  global_whole : CodesWhole d w (part_in x passes parts.Global 0) first config.decoder (position_of (reader first c.global.samples_at header_within)) (grids_in (pieces_of x passes parts.Global) c.ready.samples) (cost (channels_in x passes parts.Global))
+  global_whole = record {
+    end = c.global.end;
+    coded = subst (λ q. IsCodedWhole d w (part_in x passes parts.Global 0) first config.decoder q (grids_in (pieces_of x passes parts.Global) c.ready.samples) c.global.end) (sym (place_is first c.global.samples_at header_within)) c.global.coded;
+    sizes = part_sides group_dim passes list parts.Global c.ready.samples;
+    costs = refl;
+  }
+
+  global_codes : Codes of_global (cost (channels_in x passes parts.Global))
+  global_codes = global_whole
+
+  -- ---- all of them
+
+  abbrev chain_given : Chain w bit_depth x.steps given image c.ready.samples
+  chain_given = c.ready.chain bit_depth
+
+  abbrev Still : ℕ → ℕ → Type 0
+  Still before after = IsStill {S = S} d w to_int zero (Some config) given group_dim bit_depth first p passes (section_of layout sections) image before after
+
+  made : (qs : List SectionPart) (ones : All IsOne qs) → ((part : SectionPart) → IsOne part ↔ Any (λ s. s.part ≡ part) (listed qs ones)) →
+      AllPairs (λ s t. s.stream_index < t.stream_index) (listed qs ones) → IsComplete x passes (of_global ∷ listed qs ones) → (before : ℕ) → Still before before
+  made qs ones each in_order complete before = record {
+    can = record {
+      has = record {
+        stands = stands;
+        cut = c.cut;
+        groups = listed qs ones;
+        are = listed_found qs ones;
+        each = each;
+        in_order = in_order;
+      };
+      plain = listed_plain qs ones;
+      first = of_global;
+      bytes_are = refl;
+      goes_on = place_is first c.global.samples_at header_within;
+      is = refl;
+    };
+    decoded = record {
+      coded = c.ready.samples;
+      sizes = prepared_sides w given image c.ready;
+      complete = complete;
+      costs = cost (channels_in x passes parts.Global) ∷ costs qs;
+      parts = (global_codes, listed_codes qs ones);
+      only = record { chain = chain_given; only = λ other chain. no_two_images w bit_depth x.steps given other image c.ready.samples chain chain_given };
+      counted = (omega arith, omega arith);
+    };
+  }
+
+  pictured : HasPicture head.coded.list
+  pictured = still_picture ps head valid one (opened_steps true given first p head c.global.samples_at opened)
+
+  listed_rise : (qs : List SectionPart) (ones : All IsOne qs) → Ordered Before (map (λ (s : Section). s.part) (listed qs ones)) → AllPairs (λ s t. s.stream_index < t.stream_index) (listed qs ones)
+  listed_rise qs ones order = streams_rise layout sections (listed qs ones) (λ k s lt. (listed_found qs ones k s lt).0) order
+
+  -- for each list of groups that are those of the image in their order
+  in_turn : (qs : List SectionPart) (ones : All IsOne qs) → (map (λ (s : Section). s.part) (listed qs ones) ≡ qs → (IsComplete x passes (of_global ∷ listed qs ones)) × ((part : SectionPart) → IsOne part ↔ Any (λ s. s.part ≡ part) (listed qs ones)) ×
+      Ordered Before (map (λ (s : Section). s.part) (listed qs ones))) → (before : ℕ) → Still before before
+  in_turn qs ones facts before =
+      let f = facts (listed_parts qs ones) in
+      made qs ones f.1 (listed_rise qs ones f.2) f.0 before
+
+  pub still : (before : ℕ) → (after : ℕ) × Still before after
+  still before = (
+    before,
+    in_turn _ (all_ones x passes) (λ are. (
+      complete x passes of_global _ refl are can pictured.w pictured.h pictured.is,
+      each_one x passes _ are can pictured.w pictured.h pictured.is,
+      sections_in_order x passes _ are,
+    )) before,
+  )
+
+pub sections_still : {S D : Type 0} (d : Meaning D) (w : Width) (to_int : S → ℤ) (z : S) → SectionsAreStill d w to_int z
+sections_still d w to_int z config ps group_dim bit_depth passes layout first p sections image valid one can c before =
+    still d w to_int z config ps group_dim bit_depth passes layout first p sections image valid one can c before

@@ -1,0 +1,3 @@
+pub mod Codings
+pub mod Laws
+pub mod Numbers

@@ -1,0 +1,29 @@
+-- Spellings of a header that uses the frame's tree.
+use Rattle.std.proofs.Common.{◌≡◌, ℕ, ◌≤◌, List, [], ◌∷◌, true, refl}
+use Rattle.jxlm_bits.specs.Grammar.{flag, number, u32}
+use Rattle.jxlm_bits.specs.declared.bits.U32Spec.TheVariants.{Const, Offset}
+use Rattle.jxlm_bit_writer.specs.Writes.{Spells}
+use Rattle.jxlm_bit_writer.proofs.WriteLaws.{after, becomes}
+use Rattle.jxlm_header.specs.Header.{header}
+use Rattle.jxlm_transform.specs.Transforms.{OfRct, Transform, begin_channel, transform}
+use Rattle.jxlm_transform.specs.declared.transform.Rct.{Rct}
+use Rattle.jxlm_weighted.specs.WeightsHeader.{default_weights}
+use Rattle.jxl_encode_image.specs.Preparations.{colour_transforms, shared_header}
+use Rattle.jxl_encode_image.specs.Inner.Lists.{transform_list}
+
+pub colour_spelled : (t : Rct) (b0 b1 b2 b3 : List ℕ) → Spells b0 b1 (number 2) 0 → Spells b1 b2 begin_channel t.begin_c → Spells b2 b3 (u32 (Const 6) (Offset 0 2) (Offset 2 4) (Offset 10 6)) t.rct_type →
+    Spells b0 b3 (transform default_weights) (OfRct t)
+colour_spelled t b0 b1 b2 b3 n b k =
+    becomes (after n (after b k)) (λ bytes p q s. (0, s.0, s.1, (t, q, (t.begin_c, s.2.0, s.2.1, (t.rct_type, q, s.2.2, (refl, refl))), (refl, refl))))
+
+pub none_listed : (a b : List ℕ) → Spells a b (u32 (Const 0) (Const 1) (Offset 2 4) (Offset 18 8)) 0 → Spells a b transform_list []
+none_listed a b u = becomes u (λ bytes p q s. (0, q, s, (refl, refl)))
+
+pub one_listed : (t : Transform) (a b c : List ℕ) → Spells a b (u32 (Const 0) (Const 1) (Offset 2 4) (Offset 18 8)) 1 → Spells b c (transform default_weights) t → Spells a c transform_list (t ∷ [])
+one_listed t a b c u v = becomes (after u v) (λ bytes p q s. (1, s.0, s.1, (t, q, s.2, ([], q, (refl, refl), (refl, refl)))))
+
+pub header_spelled : (ts : List Transform) (b0 b1 b2 b3 : List ℕ) → Spells b0 b1 flag true → Spells b1 b2 flag true → Spells b2 b3 transform_list ts → Spells b0 b3 header (shared_header ts)
+header_spelled ts b0 b1 b2 b3 f g l =
+    becomes (after f (after g l)) (λ bytes p q s.
+    let (count, k, counted, listed) = s.2.2 in
+    (true, s.0, s.1, (default_weights, s.2.0, (true, s.2.0, s.2.1, (refl, refl)), (count, k, counted, (ts, q, listed, (refl, refl))))))

@@ -1,0 +1,4 @@
+pub mod HeaderSpellings
+pub mod Buffers
+pub mod Images
+pub mod Parts

@@ -1,0 +1,3 @@
+pub mod Preparations
+pub mod Images
+pub mod Inner

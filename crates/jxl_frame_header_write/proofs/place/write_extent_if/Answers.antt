@@ -1,0 +1,5 @@
+use Rattle.jxl_frame_header_write.proofs.PlaceSpellings.{extent_spelled}
+use Rattle.jxl_frame_header_write.proofs.place.write_extent_if.Goals as goal
+
+pub returns : goal.returns
+returns c = extent_spelled c.args.present c.args.value c.args.bits.now c.write_field_if.new.bits c.in_ok-write_field_if.ensures
