@@ -10,7 +10,7 @@ use Rattle.jxl_encode_frame.specs.Laws.{CodingIsPicture}
 use Rattle.jxl_encode_frame.proofs.Frames.{coding_frame}
 
 pub coding_picture : CodingIsPicture
-coding_picture limits file picture front coded alone fit c upright before =
+coding_picture limits file picture front coded alone fit c upright profile before =
     let (after, frame) = coding_frame (entropy decoder_at) front.image no_slots front.bytes front.shown coded fit c before in
     let none = subst (λ (fs : List FrameAt). AreSaved (entropy decoder_at) front.bytes front.image fs no_slots no_slots before before) (sym alone) (refl, refl) in
-    (after, record { front = front; coded = coded; decoded = (no_slots, before, none, frame); upright = upright })
+    (after, record { front = front; coded = coded; decoded = (no_slots, before, none, frame); upright = upright; profile = profile })

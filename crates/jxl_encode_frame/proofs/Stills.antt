@@ -1,5 +1,5 @@
 -- Sections that were written are a frame.
-use Rattle.std.proofs.Common.{◌≡◌, ◌≢◌, ◌↔◌, ℕ, zero, suc, ◌+◌, ◌*◌, ◌/◌, ◌%◌, ◌<◌, ◌≤◌, ℤ, List, [], ◌∷◌, length, map, get_or, true, false, Option, Some, None, Ok, refl, sym, ap, ◌∙◌, subst, arith}
+use Rattle.std.proofs.Common.{◌≡◌, ◌≢◌, ◌↔◌, ℕ, zero, suc, ◌+◌, ◌*◌, ◌/◌, ◌%◌, ◌<◌, ◌≤◌, ℤ, pos, List, [], ◌∷◌, length, map, get_or, true, false, Option, Some, None, Ok, refl, sym, ap, ◌∙◌, subst, arith}
 use Rattle.std.specs.Prelude.{Any, IsTrue, sum}
 use Rattle.std.specs.Int.{Width}
 use Rattle.std.specs.List.{All, AllPairs, AllZip}
@@ -30,9 +30,9 @@ use Rattle.jxlm_tree.specs.Tree.{Config, depth}
 use Rattle.jxlm_section_split.proofs.Openings.{opened_steps}
 use Rattle.jxlm_section_split.proofs.Pictures.{HasPicture, still_picture}
 use Rattle.jxlm_encode_write.specs.Laws.{IsWritten}
-use Rattle.jxl_modular.specs.Fresh.{fresh}
 use Rattle.jxl_modular.specs.Groups.{channels_in, part_in, pieces_of}
-use Rattle.jxl_modular.specs.Image.{Image, coded_list}
+use Rattle.jxl_modular.specs.Image.{Image}
+use Rattle.jxlm_section_split.specs.CutPicture.{image_by}
 use Rattle.jxl_modular.specs.Sections.{CodesNested, CodesPart, CodesWhole, IsComplete}
 use Rattle.jxl_modular.specs.declared.sections.Section.{Section}
 use Rattle.jxl_codestream.specs.Layouts.{Layout}
@@ -50,7 +50,7 @@ use Rattle.jxl_encode_frame.proofs.Readers.{at_start, place_is, reader}
 use Rattle.jxl_encode_frame.proofs.Streams.{streams_rise}
 use Rattle.jxl_encode_frame.proofs.Within.{header_ends}
 
-module _ {S D : Type 0} (d : Meaning D) (w : Width) (to_int : S → ℤ) (zero : S) (config : Config D) (ps : List ModularChannelParams) (group_dim bit_depth : ℕ)
+module _ {D : Type 0} (d : Meaning D) (w : Width) (config : Config D) (ps : List ModularChannelParams) (group_dim bit_depth : ℕ)
     (passes : List Pass) (layout : Layout) (first : List ℕ) (p : ℕ) (sections : List (List ℕ)) (image : List (Grid ℤ))
     (valid : All IsValidChannel ps) (one : IsTrue (one_picture (image_list ps).channels)) (can : IsTrue (can_group passes []))
     (c : AreSections d w config (image_list ps) group_dim passes first p (section_of layout sections) image) where
@@ -61,8 +61,8 @@ module _ {S D : Type 0} (d : Meaning D) (w : Width) (to_int : S → ℤ) (zero :
   head = opening_of (shared_header c.ready.transforms) c.ready.coded
 
   -- the image before any of its samples is decoded
-  abbrev x : Image S D
-  x = fresh zero given head config group_dim bit_depth
+  abbrev x : Image ℤ D
+  x = image_by given head config group_dim bit_depth
 
   abbrev list : ChannelList
   list = c.ready.coded.list
@@ -77,16 +77,12 @@ module _ {S D : Type 0} (d : Meaning D) (w : Width) (to_int : S → ℤ) (zero :
   header_within = header_ends first OfColours p (shared_header c.ready.transforms) c.global.samples_at c.global.header
 
   abbrev Stands : Type 0
-  Stands = HeaderStands {S = S} d w to_int zero (Some config) given group_dim bit_depth first p passes (section_of layout sections)
+  Stands = HeaderStands d w (Some config) given group_dim bit_depth first p passes (section_of layout sections)
 
   abbrev stands : Stands
   stands = record {
-    head = head;
-    image = x;
-    end = c.global.samples_at;
     plain = not_weighted c.ready.transforms c.ready.accepted.written first p c.global.samples_at c.global.header;
-    start = start;
-    is = refl;
+    start = record { head = head; config = config; samples_at = c.global.samples_at; start = start };
   }
 
   -- ---- the sections of groups
@@ -130,9 +126,9 @@ module _ {S D : Type 0} (d : Meaning D) (w : Width) (to_int : S → ℤ) (zero :
   cost channels = cell_count channels * (depth config.tree + 1)
 
   abbrev Codes : Section → ℕ → Type 0
-  Codes s n = CodesPart d w to_int zero x passes (Some config) s (grids_in (pieces_of x passes s.part) c.ready.samples) n
+  Codes s n = CodesPart d w (λ v. v) (pos 0) x passes (Some config) s (grids_in (pieces_of x passes s.part) c.ready.samples) n
 
-  group_nested : (part : SectionPart) (g : IsOne part) → CodesNested d w to_int zero x passes (Some config) (of_part part g) (grids_in (pieces_of x passes part) c.ready.samples) (cost (channels_in x passes part))
+  group_nested : (part : SectionPart) (g : IsOne part) → CodesNested d w (λ v. v) (pos 0) x passes (Some config) (of_part part g) (grids_in (pieces_of x passes part) c.ready.samples) (cost (channels_in x passes part))
   group_nested part g =
       let bytes : List ℕ = (c.groups part g.0 g.1).0 in
       let codes = (c.groups part g.0 g.1).3 in
@@ -188,7 +184,7 @@ module _ {S D : Type 0} (d : Meaning D) (w : Width) (to_int : S → ℤ) (zero :
   chain_given = c.ready.chain bit_depth
 
   abbrev Still : ℕ → ℕ → Type 0
-  Still before after = IsStill {S = S} d w to_int zero (Some config) given group_dim bit_depth first p passes (section_of layout sections) image before after
+  Still before after = IsStill d w (Some config) given group_dim bit_depth first p passes (section_of layout sections) image before after
 
   made : (qs : List SectionPart) (ones : All IsOne qs) → ((part : SectionPart) → IsOne part ↔ Any (λ s. s.part ≡ part) (listed qs ones)) →
       AllPairs (λ s t. s.stream_index < t.stream_index) (listed qs ones) → IsComplete x passes (of_global ∷ listed qs ones) → (before : ℕ) → Still before before
@@ -242,6 +238,6 @@ module _ {S D : Type 0} (d : Meaning D) (w : Width) (to_int : S → ℤ) (zero :
     )) before,
   )
 
-pub sections_still : {S D : Type 0} (d : Meaning D) (w : Width) (to_int : S → ℤ) (z : S) → SectionsAreStill d w to_int z
-sections_still d w to_int z config ps group_dim bit_depth passes layout first p sections image valid one can c before =
-    still d w to_int z config ps group_dim bit_depth passes layout first p sections image valid one can c before
+pub sections_still : {D : Type 0} (d : Meaning D) (w : Width) → SectionsAreStill d w
+sections_still d w config ps group_dim bit_depth passes layout first p sections image valid one can c before =
+    still d w config ps group_dim bit_depth passes layout first p sections image valid one can c before

@@ -20,7 +20,8 @@ use Rattle.jxlm_section_split.specs.CutPicture.{one_pass}
 use Rattle.jxl_image_header.specs.declared.size.Size.{Size}
 use Rattle.jxl_frame_header.specs.Frames.{frame_size}
 use Rattle.jxl_frame_header.specs.Passes.{IsPassCount}
-use Rattle.jxl_codestream.specs.Fronts.{FrameAt}
+use Rattle.jxl_codestream.specs.FrontParts.{bytes_if}
+use Rattle.jxl_codestream.specs.Fronts.{FrameAt, HasProfile}
 use Rattle.jxl_codestream.specs.Layouts.{Layout, has_part, layout_of}
 use Rattle.jxl_coding.specs.Parse.{decoder_at}
 use Rattle.jxl_coding.specs.Tokens.{entropy}
@@ -41,14 +42,14 @@ OneSectionIsAll {D} d = (w : Width) (config : Config D) (given : List ModularCha
     (section_of : SectionPart → Option (List ℕ × ℕ)) (image : List (Grid ℤ)) →
     IsOneSection d w config (image_list given) group_dim bytes p image → AreSections d w config (image_list given) group_dim passes bytes p section_of image
 
--- The sections of an image are a frame of it, as the decoder defines it, however samples are kept: its channels are of one
--- picture, and the passes can cut it.
-abbrev pub SectionsAreStill : {S D : Type 0} → Meaning D → Width → (S → ℤ) → S → Type 0
-SectionsAreStill {S} {D} d w to_int zero = (config : Config D) (given : List ModularChannelParams) (group_dim bit_depth : ℕ) (passes : List Pass) (layout : Layout)
+-- The sections of an image are a frame of it, as the decoder defines it: its channels are of one picture, and the passes can cut
+-- it.
+abbrev pub SectionsAreStill : {D : Type 0} → Meaning D → Width → Type 0
+SectionsAreStill {D} d w = (config : Config D) (given : List ModularChannelParams) (group_dim bit_depth : ℕ) (passes : List Pass) (layout : Layout)
     (first : List ℕ) (p : ℕ) (sections : List (List ℕ)) (image : List (Grid ℤ)) →
     All IsValidChannel given → IsTrue (one_picture (image_list given).channels) → IsTrue (can_group passes []) →
     AreSections d w config (image_list given) group_dim passes first p (section_of layout sections) image → (before : ℕ) → (after : ℕ) ×
-    IsStill d w to_int zero (Some config) (image_list given) group_dim bit_depth first p passes (section_of layout sections) image before after
+    IsStill d w (Some config) (image_list given) group_dim bit_depth first p passes (section_of layout sections) image before after
 
 -- the channel is of a picture of this size
 abbrev pub IsOfSize : Size → ModularChannelParams → Type 0
@@ -73,8 +74,10 @@ abbrev pub CodingIsFrame : {D : Type 0} → Meaning D → Type 0
 CodingIsFrame d = (image : Image) (slots : Slots) (bytes : List ℕ) (frame : FrameAt) (grids : List (Grid ℤ)) → IsPlainFrame image frame →
     FrameCoding d image bytes frame grids → (before : ℕ) → (after : ℕ) × IsFrame d image slots bytes frame grids before after
 
--- In a file whose headers and tables describe this one frame, it is decoded to the picture of these channels.
+-- In a file whose headers and tables describe this one frame, it is decoded to the picture of these channels, with the profile of
+-- the file.
 abbrev pub CodingIsPicture : Type 0
 CodingIsPicture = (limits : Limits) (file : List ℕ) (picture : Picture) (front : HasFront limits file) (coded : List (Grid ℤ)) → front.saved ≡ [] →
     IsPlainFrame front.image front.shown → FrameCoding (entropy decoder_at) front.image front.bytes front.shown coded →
-    IsUpright front.image coded (image_of picture.header) picture.channels.items → (before : ℕ) → (after : ℕ) × IsPictureOfFile limits file picture before after
+    IsUpright front.image coded (image_of picture.header) picture.channels.items →
+    HasProfile (entropy decoder_at) limits front.bytes front.image (bytes_if picture.profile) → (before : ℕ) → (after : ℕ) × IsPictureOfFile limits file picture before after

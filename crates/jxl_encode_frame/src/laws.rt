@@ -1,6 +1,5 @@
 //! Laws of what is written into the sections of a frame: each is the contract of a function that does nothing.
 
-ghost use Rattle.std.specs.Prelude.{pos};
 ghost use Rattle.jxl_encode_frame.specs.Laws.{CodingIsFrame, CodingIsPicture, GroupsAreInLayout};
 ghost use Rattle.jxl_encode_frame.specs.Laws.{OneSectionIsAll, SectionsAreStill};
 
@@ -13,9 +12,9 @@ pub fn one_section_is_all<D: Decoder>()
 {}
 
 /// Sections that an encoder wrote of an image are a frame with this image, by the definition that the decoder of frames
-/// promises, whatever decoder reads the samples and however they are kept.
+/// promises, whatever decoder reads the samples and whichever of the two widths they have.
 pub fn sections_are_still<S: Sample, D: Decoder>()
-    ensures { SectionsAreStill D.meaning S.width S.to_int (S.from_int (pos 0)) }
+    ensures { SectionsAreStill D.meaning S.width }
 {}
 
 /// Sections that begin with the tree that they share are the frame of the image, by the definition that the decoder of files

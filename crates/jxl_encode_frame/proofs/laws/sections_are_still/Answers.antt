@@ -1,6 +1,5 @@
-use Rattle.std.specs.Prelude.{pos}
 use Rattle.jxl_encode_frame.proofs.Stills.{sections_still}
 use Rattle.jxl_encode_frame.proofs.laws.sections_are_still.Goals as goal
 
 pub returns : goal.returns
-returns g c = sections_still g.D.Decoder.meaning g.S.Sealed.width g.S.Sealed.to_int (g.S.Sealed.from_int (pos 0))
+returns g c = sections_still g.D.Decoder.meaning g.S.Sealed.width
