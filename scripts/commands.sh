@@ -26,6 +26,8 @@ printf '\377\012\010\100\120\020\200\000\000\340\001\000\000\000\000\300\101\161
 printf '\377\012\010\100\220\024\027\002\000\022\010\001\000\310\000\135\345\022\000\000\025\052\243\214\033\274\234\353\371\362\103\207' > lossy.jxl
 # A grey one of 4x3 whose tree is a chain of five decisions.
 printf '\377\012\020\000\006\200\240\270\021\010\006\001\000\320\000\053\011\044\340\200\003\122\226\121\125\104\125\125\004\000\000\000\000\000\000\000\000\000\000\104\314\124\025\121\125\025\002\000\000\340\333\037\300\341\077\340\364\017\060\376\003\352\077\000\040\011\060' > chain.jxl
+# A grey one of 16x16 with a profile, of cjxl.
+printf '\377\012\103\100\030\227\012\003\022\346\001\320\234\222\001\056\316\274\216\057\265\325\027\264\317\035\013\055\160\311\224\040\167\072\326\061\300\314\046\061\263\111\135\135\115\255\013\236\010\000\200\326\357\372\117\346\003\014\370\137\130\132\361\035\155\262\270\324\165\042\216\141\003\145\151\123\115\113\361\000\041\247\000\017\145\103\363\000\041\145\137\115\123\131\313\066\077\166\170\357\022\317\260\203\257\260\271\262\251\247\250\164\300\223\225\223\257\246\264\267\241\262\145\100\144\140\142\340\317\251\366\126\131\000\235\206\361\216\265\000\010\002\001\000\050\001\113\050\044\306\267\025\024\114\061\122\174\336\112\362\110\107\214\301\032\061\130\061\006\301\263\145\161\004\260\073\146\373\153\316\153\171\220\200\177\036\044\000\000\325\070\376\001\046\015\300\147\064\077\000\370\330\376\007\104\272\000\340\262\260\037\000\021\127\374\243\070\002\200\003' > profile.jxl
 input=/dev/null
 right=0
 wrong=0
@@ -180,6 +182,45 @@ for name in cut twice jbrd; do
 done
 expect 1 'jxldec: first.jxl: not supported: a JPEG file to be rebuilt' first.jxl -o first.ppm
 absent first.ppm
+
+# The profile, the Exif data and the XMP data: each in a file of its own, with the picture or without it.
+{ boxed; printf '\0\0\0\021Exif\0\0\0\0II*\0\0'; whole; printf '\0\0\0\014xml <x/>'; } > data.jxl
+expect 0 'jxldec: profile.jxl: colour profile left out' profile.jxl -o p.pgm
+expect 0 - profile.jxl -o q.pgm --icc p.icc
+cmp -s p.pgm q.pgm
+judge $? 'the picture is not what it is without --icc'
+test "$(cksum < p.icc)" = '2523711988 416'
+judge $? "the profile is not that of the file: $(cksum < p.icc)"
+rm p.icc
+expect 0 - profile.jxl --icc p.icc
+test "$(cksum < p.icc)$(cat out)" = '2523711988 416'
+judge $? 'without -o, --icc does not write the profile alone'
+expect 0 - profile.jxl --icc p.icc -o -
+begins out P5
+expect 0 - profile.jxl --info --icc q.icc
+begins out 'JPEG XL image, 16x16'
+cmp -s p.icc q.icc
+judge $? 'with --info the profile is another one'
+expect 0 - data.jxl --exif d.exif --xmp d.xmp
+test "$(cksum < d.exif)$(cat d.xmp out)" = "$(printf 'II*\0\0' | cksum)<x/>"
+judge $? 'the Exif or XMP data are not those of the file'
+expect 0 - data.jxl -o d.ppm --xmp d2.xmp
+cmp -s d.xmp d2.xmp
+judge $? 'with -o the XMP data are others'
+cmp -s d.ppm whole.ppm
+judge $? 'with --xmp the picture is another one'
+expect 1 'jxldec: whole.jxl: no colour profile' whole.jxl -o none.ppm --icc none.icc
+expect 1 'jxldec: whole.jxl: no Exif data' whole.jxl -o none.ppm --exif none.exif
+expect 1 'jxldec: whole.jxl: no XMP data' whole.jxl -o none.ppm --xmp none.xmp
+expect 1 'jxldec: data.jxl: no colour profile' data.jxl --exif none.exif --icc none.icc
+expect 1 'jxldec: lossy.jxl: not supported: a lossy picture (XYB)' lossy.jxl --icc none.icc
+expect 1 'jxldec: lossy.jxl: no Exif data' lossy.jxl --exif none.exif
+expect 1 'jxldec: other.jxl: not a JPEG XL file' other.jxl --xmp none.xmp
+for name in none.ppm none.icc none.exif none.xmp; do
+    absent $name
+done
+expect 1 'jxldec: folder: cannot write: Is a directory (os error 21)' profile.jxl --icc folder
+expect 2 'error: ' profile.jxl --icc
 
 # Files that cannot be read or decoded: an output that exists keeps its contents.
 printf 'kept' > b.pgm

@@ -4,6 +4,14 @@ use Rattle.std.specs.Option.{option_map}
 use Rattle.jxldec.specs.Reasons.{file_text}
 use Rattle.jxldec.specs.declared.failures.Failure.{Failure}
 use Rattle.jxldec.specs.declared.failures.Failure.TheVariants as failures
+use Rattle.jxldec.specs.declared.options.Extra.{Extra}
+use Rattle.jxldec.specs.declared.options.Extra.TheVariants as extras
+
+-- that a file does not have these data
+abbrev pub missing_text : Extra → List ℕ
+missing_text extras.Profile = codes "no colour profile"
+missing_text extras.Exif = codes "no Exif data"
+missing_text extras.Xmp = codes "no XMP data"
 
 -- why the output does not get what is asked for, in words where they are fixed: what the system says is not known, the
 -- words for a picture above the limits are left open, and of a closed pipe nothing is said
@@ -12,16 +20,19 @@ failure_text (failures.Unreadable error) = None
 failure_text (failures.File error) = Some (file_text error)
 failure_text (failures.TooLarge size extra most) = None
 failure_text failures.NoFormat = Some (codes "this format cannot hold the picture; --format text can")
+failure_text (failures.Missing extra) = Some (missing_text extra)
 failure_text failures.OutOfMemory = Some (codes "out of memory")
 failure_text failures.Ending = Some (codes "no format has this ending; there are .pgm, .ppm, .pnm, .pam, .pfm and .text")
 failure_text (failures.Unwritable error) = None
 failure_text failures.Closed = None
+failure_text (failures.Unsaved extra error) = None
 
--- the failure is one of the output, and not of the file
+-- the failure is one of an output, and not of the file
 abbrev pub is_of_output : Failure → Bool
 is_of_output failures.Ending = true
 is_of_output (failures.Unwritable error) = true
 is_of_output failures.Closed = true
+is_of_output (failures.Unsaved extra error) = true
 is_of_output failure = false
 
 -- the output cannot be written
@@ -29,6 +40,11 @@ abbrev pub IsOfWriting : Failure → Type 0
 IsOfWriting (failures.Unwritable error) = Unit {0}
 IsOfWriting failures.Closed = Unit {0}
 IsOfWriting failure = ⊥
+
+-- data beside the picture cannot be written
+abbrev pub IsOfSaving : Failure → Type 0
+IsOfSaving (failures.Unsaved extra error) = Unit {0}
+IsOfSaving failure = ⊥
 
 -- the output cannot be written, or it is out of memory for that
 abbrev pub IsOfContent : Failure → Type 0

@@ -1,8 +1,9 @@
 //! Why the output does not get what is asked for.
 
 ghost use Rattle.std.specs.Prelude.{◌≡◌};
-ghost use Rattle.jxldec.specs.Failures.{IsOfWriting, failure_text, is_of_output};
+ghost use Rattle.jxldec.specs.Failures.{IsOfWriting, failure_text, is_of_output, missing_text as the_missing_text};
 
+use crate::options::Extra;
 use crate::reason::Reason;
 use jxl_image_header::size::Size;
 use jxl_lossless::{FileError, Limits};
@@ -24,6 +25,8 @@ pub enum Failure {
     },
     /// The picture cannot be written in the format that is asked for, or in any.
     NoFormat,
+    /// The file does not have these data, which are asked for.
+    Missing(Extra),
     /// Out of memory for the text.
     OutOfMemory,
     /// The ending of the output's name is that of no format.
@@ -32,6 +35,8 @@ pub enum Failure {
     Unwritable(io::Error),
     /// The output is a pipe that was closed.
     Closed,
+    /// These data cannot be written, for this reason.
+    Unsaved(Extra, io::Error),
 }
 
 impl Failure {
@@ -51,9 +56,21 @@ impl Failure {
         ensures { result ≡ is_of_output self }
     {
         match self {
-            Failure::Ending | Failure::Unwritable(_) | Failure::Closed => true,
+            Failure::Ending | Failure::Unwritable(_) | Failure::Closed | Failure::Unsaved(_, _) =>
+                true,
             _ => false,
         }
+    }
+}
+
+// That a file does not have these data.
+fn missing_text(extra: Extra) -> &'static str
+    ensures { result.now ≡ the_missing_text extra }
+{
+    match extra {
+        Extra::Profile => "no colour profile",
+        Extra::Exif => "no Exif data",
+        Extra::Xmp => "no XMP data",
     }
 }
 
@@ -87,11 +104,14 @@ impl fmt::Display for Failure {
             Failure::NoFormat => {
                 f.write_str("this format cannot hold the picture; --format text can")
             }
+            Failure::Missing(extra) => f.write_str(missing_text(extra)),
             Failure::OutOfMemory => f.write_str("out of memory"),
             Failure::Ending => f.write_str(
                 "no format has this ending; there are .pgm, .ppm, .pnm, .pam, .pfm and .text",
             ),
-            Failure::Unwritable(error) => write!(f, "cannot write: {error}"),
+            Failure::Unwritable(error) | Failure::Unsaved(_, error) => {
+                write!(f, "cannot write: {error}")
+            }
             Failure::Closed => f.write_str("a pipe that was closed"),
         }
     }

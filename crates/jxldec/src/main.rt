@@ -13,9 +13,9 @@ mod warning;
 
 use crate::failures::Failure;
 use crate::meter::Meter;
-use crate::options::Options;
+use crate::options::{Extra, Options};
 use crate::output::OutputFile;
-use crate::run::{End, report, run};
+use crate::run::{End, Extras, report, run};
 use std::io::Read;
 use std::process::ExitCode;
 use std::{env, fs};
@@ -25,16 +25,30 @@ fn carry_out<R: Read>(rt: &HostRuntime, options: Options<'_>, input: &mut R) -> 
     let alloc = rt.alloc();
     let errors = &mut rt.stderr();
     let mut meter = Meter::new(rt, options.input, options.quiet);
+    let mut extras = Extras {
+        profile: OutputFile::new(rt, options.path_of(Extra::Profile)),
+        exif: OutputFile::new(rt, options.path_of(Extra::Exif)),
+        xmp: OutputFile::new(rt, options.path_of(Extra::Xmp)),
+    };
     match options.output {
         Some(path) => run(
             alloc,
             options,
             input,
             &mut OutputFile::new(rt, path),
+            &mut extras,
             errors,
             &mut meter,
         ),
-        None => run(alloc, options, input, &mut rt.stdout(), errors, &mut meter),
+        None => run(
+            alloc,
+            options,
+            input,
+            &mut rt.stdout(),
+            &mut extras,
+            errors,
+            &mut meter,
+        ),
     }
 }
 

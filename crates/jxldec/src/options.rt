@@ -3,13 +3,37 @@
 ghost use Rattle.std.specs.Prelude.{◌≡◌, ◌≢◌, MatchOption, Some, map};
 ghost use Rattle.std.specs.Option.{option_copied};
 ghost use Rattle.std.specs.Path.{path_extension};
+ghost use Rattle.jxldec.specs.Failures.{failure_line, subject};
 ghost use Rattle.jxldec.specs.Options.{IsNoFormat, IsWordOf, limits_of as the_limits};
 
+use crate::failures::Failure;
 use clap::{Arg, ArgAction, ArgMatches, Command};
 use jxl_netpbm::format::Format;
 use jxl_picture::limits::Limits;
 use std::alloc::{AllocError, Global};
 use std::path::Path;
+
+/// What is written to the output.
+#[derive(Clone, Copy)]
+pub enum Task {
+    /// What the headers tell.
+    Headers,
+    /// The picture.
+    Picture,
+    /// Nothing: only other data of the file are asked for.
+    Nothing,
+}
+
+/// Data that a file may have beside its picture.
+#[derive(Clone, Copy)]
+pub enum Extra {
+    /// The ICC profile.
+    Profile,
+    /// The Exif data.
+    Exif,
+    /// The XMP data.
+    Xmp,
+}
 
 /// What is asked for.
 #[derive(Clone, Copy)]
@@ -20,8 +44,14 @@ pub struct Options<'a> {
     pub output: Option<&'a str>,
     /// What the output is called in a line of an error: its path, or `standard output`.
     pub output_name: &'a str,
-    /// Whether what the headers tell is printed, and no picture.
-    pub info: bool,
+    /// What is written there.
+    pub task: Task,
+    /// The path of the profile, if that is asked for.
+    pub icc: Option<&'a str>,
+    /// The path of the Exif data, if these are asked for.
+    pub exif: Option<&'a str>,
+    /// The path of the XMP data, if these are asked for.
+    pub xmp: Option<&'a str>,
     /// The format of the picture; where there is none, that of its kind.
     pub format: Option<Format>,
     /// How large a picture may be.
@@ -51,6 +81,24 @@ fn info(alloc: Global) -> Result<Arg<'static>, AllocError> {
         .action(ArgAction::SetTrue)
         .help("Print what the headers tell, and decode nothing; not with --output")
         .conflicts_with("output")
+}
+
+fn icc(alloc: Global) -> Arg<'static> {
+    Arg::new(alloc, "icc").long("icc").value_name("OUT").help(
+        "Where to write the ICC profile; without --output, no picture is written",
+    )
+}
+
+fn exif(alloc: Global) -> Arg<'static> {
+    Arg::new(alloc, "exif").long("exif").value_name("OUT").help(
+        "Where to write the Exif data; without --output, no picture is written",
+    )
+}
+
+fn xmp(alloc: Global) -> Arg<'static> {
+    Arg::new(alloc, "xmp").long("xmp").value_name("OUT").help(
+        "Where to write the XMP data; without --output, no picture is written",
+    )
 }
 
 fn format(alloc: Global) -> Arg<'static> {
@@ -99,6 +147,9 @@ pub fn command<'a>(alloc: Global) -> Result<Command<'a>, AllocError> {
         input(alloc),
         output(alloc),
         info(alloc)?,
+        icc(alloc),
+        exif(alloc),
+        xmp(alloc),
         format(alloc),
         pixels(alloc),
         bytes(alloc),
@@ -151,17 +202,39 @@ fn limits_of(pixels: Option<u64>, bytes: Option<u64>, decisions: Option<u32>) ->
     }
 }
 
+// What is written to the output: the headers or the picture, unless only other data are asked for.
+fn task_of(info: bool, output: bool, others: bool) -> Task {
+    if info {
+        Task::Headers
+    } else if output || !others {
+        Task::Picture
+    } else {
+        Task::Nothing
+    }
+}
+
 impl<'a> Options<'a> {
     /// What a command line asks for: of the format by its name, else by the ending of the picture's path.
     pub fn of(matches: &ArgMatches<'a>) -> Options<'a> {
         let path = matches.get_str("output").unwrap_or("-");
         let output = if path == "-" { None } else { Some(path) };
+        let icc = matches.get_str("icc");
+        let exif = matches.get_str("exif");
+        let xmp = matches.get_str("xmp");
+        let others = icc.is_some() || exif.is_some() || xmp.is_some();
         let name = matches.get_str("format").or(output.and_then(ending));
         Options {
             input: matches.get_str("input").unwrap_or(""),
             output,
             output_name: output.unwrap_or("standard output"),
-            info: matches.get_flag("info"),
+            task: task_of(
+                matches.get_flag("info"),
+                matches.get_str("output").is_some(),
+                others,
+            ),
+            icc,
+            exif,
+            xmp,
             format: name.and_then(format_of),
             limits: limits_of(
                 matches.get_one("pixels"),
@@ -169,6 +242,33 @@ impl<'a> Options<'a> {
                 matches.get_one("decisions"),
             ),
             quiet: matches.get_flag("quiet"),
+        }
+    }
+
+    /// The path of these data, which is empty if they are not asked for.
+    pub fn path_of(&self, extra: Extra) -> &'a str {
+        let path = match extra {
+            Extra::Profile => self.icc,
+            Extra::Exif => self.exif,
+            Extra::Xmp => self.xmp,
+        };
+        path.unwrap_or("")
+    }
+
+    /// The name of what fails: of the file, of the output, or of where other data are written.
+    pub fn name_of(&self, failure: Failure) -> &'a str
+        ensures { failure_line result.now failure
+            ≡ failure_line (subject self.now.input.now self.now.output_name.now failure) failure }
+    {
+        match failure {
+            Failure::Unsaved(extra, _) => self.path_of(extra),
+            failure => {
+                if failure.is_of_output() {
+                    self.output_name
+                } else {
+                    self.input
+                }
+            }
         }
     }
 

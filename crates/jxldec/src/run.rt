@@ -1,26 +1,32 @@
 //! The program over a reader and two writers.
 
-ghost use Rattle.std.specs.Prelude.{◌≡◌, ◌≤◌, ℕ, List, [], length, true, false, IfErr, IfOk, IfSome, IsTrue, None, OnErr, OnOk, Some, string_bytes};
+ghost use Rattle.std.specs.Prelude.{◌≡◌, ◌≤◌, ℕ, List, [], length, true, false, is_some, IfErr, IfOk, IfSome, IsTrue, None, OnErr, OnOk, Some, string_bytes};
+ghost use Rattle.std.specs.Option.{option_copied};
 ghost use Rattle.std.specs.Io.KnownBytes.{Appends};
+ghost use Rattle.jxl_codestream.specs.FrontParts.{bytes_if};
 ghost use Rattle.jxl_container.specs.Files.{HasLaterError};
+ghost use Rattle.jxl_container.specs.Metadata.{HasExif, HasXmp};
 ghost use Rattle.jxl_image_header.specs.Images.{image_of};
-ghost use Rattle.jxl_lossless.specs.Files.{IsReadOf, header_of};
+ghost use Rattle.jxl_lossless.specs.Files.{IsReadOf, header_of, reason_of};
+ghost use Rattle.jxl_lossless.specs.Pictures.{ProfileOfFile};
 ghost use Rattle.jxl_netpbm.specs.Formats.{suits, text_of};
 ghost use Rattle.jxl_netpbm.specs.Output.{AppendsBeginning};
 ghost use Rattle.jxl_picture.specs.Pictures.{IsWhole};
+ghost use Rattle.jxl_picture.specs.declared.limits.Limits.{Limits as TheLimits};
 ghost use Rattle.jxldec.specs.Contents.{IsWritable, content_text};
-ghost use Rattle.jxldec.specs.Failures.{IsOfContent, failure_line, is_of_output};
-ghost use Rattle.jxldec.specs.Texts.{AskedFails, InfoFails, InputFails, IsAsked, IsDone, IsFailed, IsInfo, IsTextOfFile, IsReported, IsWritten, TextFails, chosen};
+ghost use Rattle.jxldec.specs.Failures.{IsOfContent, IsOfSaving, failure_line, is_of_output};
+ghost use Rattle.jxldec.specs.Texts.{AskedFails, InfoFails, InputFails, IsAsked, IsDone, IsFailed, IsFound, IsInfo, IsKept, IsReadWhole, IsReported, IsSaved, IsTextOfFile, IsWritten, TextFails, chosen};
 ghost use Rattle.jxldec.specs.Warnings.{kinds_left_out, warnings};
 
 use crate::failures::Failure;
 use crate::meter::Line;
-use crate::options::Options;
+use crate::options::{Extra, Options, Task};
 use crate::output::Flush;
 use crate::warning::{LeftOut, warn};
 use jxl_codestream::error::FrontError;
 use jxl_coding::decoder::EntropyDecoder;
 use jxl_container::error::FileError as BoxError;
+use jxl_container::metadata::{find_exif, find_xmp};
 use jxl_image_header::image::ImageHeader;
 use jxl_info::headers::{Headers, HeadersError, is_boxed};
 use jxl_info::text::info_text;
@@ -35,6 +41,8 @@ use std::io::{Read, Write};
 pub enum Content {
     /// What its headers tell.
     Headers(Vec<u8>),
+    /// Nothing.
+    Nothing,
     /// Its picture, in a format that suits it.
     Picture { picture: Picture, format: Format },
 }
@@ -44,6 +52,14 @@ pub enum Content {
 pub struct Output {
     pub content: Content,
     pub left_out: LeftOut,
+}
+
+/// Where the profile, the Exif data and the XMP data of a file are written, as far as they are asked for.
+#[derive(Drop)]
+pub struct Extras<F> {
+    pub profile: F,
+    pub exif: F,
+    pub xmp: F,
 }
 
 /// How the program ends.
@@ -100,6 +116,19 @@ fn above(limits: &Limits, header: &ImageHeader) -> Failure
         size: header.size,
         extra: header.ec_info.len(),
         limits: *limits,
+    }
+}
+
+// Whether a file that was read by these limits is supported, up to the sections of its frames, and within the limits.
+fn support(read: &JxlFile<'_>, limits: &Limits) -> Result<(), Failure>
+    ensures ok { OnOk result (reason_of read.now ≡ None) }
+    ensures err { (file : List ℕ) → IsReadOf limits.now file read.now
+        → IfErr result (InfoFails limits.now file) }
+{
+    match read.reason() {
+        None => Ok(()),
+        Some(FrontError::TooLarge) => Err(above(limits, read.header())),
+        Some(error) => Err(Failure::File(FileError::Front(error))),
     }
 }
 
@@ -180,23 +209,41 @@ pub fn picture_of_file<P: Line>(
     }
 }
 
-// What is asked of the file: what its headers tell, or its picture.
+// Nothing of a file, which is one of JPEG XL.
+fn nothing_of_file(alloc: Global, file: &[u8], limits: &Limits) -> Result<Output, Failure>
+    ensures text { IfOk result (λ o. content_text o.content ≡ []) }
+    ensures channels { IfOk result (λ o. string_bytes o.left_out.channels ≡ []) }
+    ensures profile { IfOk result (λ o. o.left_out.profile ≡ false) }
+    ensures writable { IfOk result (λ o. IsWritable o.content) }
+    ensures later { IfOk result (λ o. HasLaterError file.now o.left_out.later_error) }
+    ensures err { IfErr result (InfoFails limits.now file.now) }
+{
+    match JxlFile::read(alloc, file, limits) {
+        Ok(read) => Ok(Output {
+            content: Content::Nothing,
+            left_out: LeftOut::boxes(alloc, read.later_error()),
+        }),
+        Err(error) => Err(Failure::File(error)),
+    }
+}
+
+// What is asked of the file for the output: what its headers tell, its picture, or nothing.
 fn output_asked<P: Line>(
     alloc: Global,
     file: &[u8],
     options: &Options<'_>,
     progress: &mut P,
 ) -> Result<Output, Failure>
-    ensures ok { IfOk result (λ o. IsAsked options.now.info options.now.limits options.now.format file.now
+    ensures ok { IfOk result (λ o. IsAsked options.now.task options.now.limits options.now.format file.now
         (content_text o.content) (string_bytes o.left_out.channels) o.left_out.profile) }
     ensures writable { IfOk result (λ o. IsWritable o.content) }
     ensures later { IfOk result (λ o. HasLaterError file.now o.left_out.later_error) }
-    ensures err { IfErr result (AskedFails options.now.info options.now.limits options.now.format file.now) }
+    ensures err { IfErr result (AskedFails options.now.task options.now.limits options.now.format file.now) }
 {
-    if options.info {
-        info_of_file(alloc, file, &options.limits)
-    } else {
-        picture_of_file(alloc, file, options.format, &options.limits, progress)
+    match options.task {
+        Task::Headers => info_of_file(alloc, file, &options.limits),
+        Task::Picture => { picture_of_file(alloc, file, options.format, &options.limits, progress) }
+        Task::Nothing => nothing_of_file(alloc, file, &options.limits),
     }
 }
 
@@ -214,6 +261,7 @@ fn write_content<W: Flush>(alloc: Global, output: &mut W, content: &Content) -> 
             Ok(()) => Ok(()),
             Err(error) => Err(Failure::of_write(error)),
         },
+        Content::Nothing => Ok(()),
         Content::Picture { picture, format } => match format.write(alloc, picture, output) {
             Ok(()) => Ok(()),
             Err(WriteError::OutOfMemory) => Err(Failure::OutOfMemory),
@@ -239,33 +287,208 @@ fn pass_on<W: Flush>(alloc: Global, output: &mut W, content: &Content) -> Result
     }
 }
 
-// Reads the file, and writes what is asked of it. It returns what that leaves out.
-fn carry_out<R: Read, W: Flush, P: Line>(
+// What is asked for of a file beside its picture.
+#[derive(Drop)]
+struct Metadata<'a> {
+    profile: Option<Vec<u8>>,
+    exif: Option<&'a [u8]>,
+    xmp: Option<&'a [u8]>,
+}
+
+impl Metadata<'_> {
+    fn profile(&self) -> Option<&[u8]>
+        ensures { option_copied result ≡ bytes_if self.now.profile }
+    {
+        match &self.profile {
+            Some(profile) => Some(profile),
+            None => None,
+        }
+    }
+}
+
+// The profile of a file.
+fn profile_of_file(alloc: Global, file: &[u8], limits: &Limits) -> Result<Vec<u8>, Failure>
+    ensures ok { IfOk result (λ v. ProfileOfFile limits.now file.now (Some v.items)) }
+    ensures err { IfErr result (InfoFails limits.now file.now) }
+{
+    let read = match JxlFile::read(alloc, file, limits) {
+        Ok(read) => read,
+        Err(error) => return Err(Failure::File(error)),
+    };
+    support(&read, limits)?;
+    match read.into_profile() {
+        Some(profile) => Ok(profile),
+        None => Err(Failure::Missing(Extra::Profile)),
+    }
+}
+
+// The same, if it is wanted.
+fn profile_if(
+    alloc: Global,
+    file: &[u8],
+    limits: &Limits,
+    wanted: bool,
+) -> Result<Option<Vec<u8>>, Failure>
+    ensures ok { IfOk result (λ v. IsFound wanted (λ bytes. ProfileOfFile limits.now file.now (Some bytes))
+        (bytes_if v)) }
+    ensures err { IfErr result (InfoFails limits.now file.now) }
+{
+    if !wanted {
+        return Ok(None);
+    }
+    let profile = profile_of_file(alloc, file, limits)?;
+    Ok(Some(profile))
+}
+
+// The Exif data of a file, if they are wanted.
+fn exif_if(file: &[u8], wanted: bool) -> Result<Option<&[u8]>, Failure>
+    ensures ok { IfOk result (λ v. IsFound wanted (λ bytes. HasExif file.now (Some bytes)) (option_copied v)) }
+    ensures err { (limits : TheLimits) → IfErr result (InfoFails limits file.now) }
+{
+    if !wanted {
+        return Ok(None);
+    }
+    match find_exif(file) {
+        Some(bytes) => Ok(Some(bytes)),
+        None => Err(Failure::Missing(Extra::Exif)),
+    }
+}
+
+// The XMP data of a file, if they are wanted.
+fn xmp_if(file: &[u8], wanted: bool) -> Result<Option<&[u8]>, Failure>
+    ensures ok { IfOk result (λ v. IsFound wanted (λ bytes. HasXmp file.now (Some bytes)) (option_copied v)) }
+    ensures err { (limits : TheLimits) → IfErr result (InfoFails limits file.now) }
+{
+    if !wanted {
+        return Ok(None);
+    }
+    match find_xmp(file) {
+        Some(bytes) => Ok(Some(bytes)),
+        None => Err(Failure::Missing(Extra::Xmp)),
+    }
+}
+
+// What is asked for of a file beside its picture.
+fn metadata_asked<'a>(
+    alloc: Global,
+    file: &'a [u8],
+    options: &Options<'_>,
+) -> Result<Metadata<'a>, Failure>
+    ensures profile { IfOk result (λ m. IsFound (is_some options.now.icc)
+        (λ bytes. ProfileOfFile options.now.limits file.now (Some bytes)) (bytes_if m.profile)) }
+    ensures exif { IfOk result (λ m. IsFound (is_some options.now.exif) (λ bytes. HasExif file.now (Some bytes))
+        (option_copied m.exif)) }
+    ensures xmp { IfOk result (λ m. IsFound (is_some options.now.xmp) (λ bytes. HasXmp file.now (Some bytes))
+        (option_copied m.xmp)) }
+    ensures err { IfErr result (InfoFails options.now.limits file.now) }
+{
+    let profile = profile_if(alloc, file, &options.limits, options.icc.is_some())?;
+    let exif = exif_if(file, options.exif.is_some())?;
+    let xmp = xmp_if(file, options.xmp.is_some())?;
+    Ok(Metadata { profile, exif, xmp })
+}
+
+// Writes these data, if there are some, and passes them on.
+fn save<F: Flush>(output: &mut F, bytes: Option<&[u8]>, extra: Extra) -> Result<(), Failure>
+    ensures ok { OnOk result (IsKept (option_copied bytes.entry) (F.contents output.old) (F.contents output.new)
+        (F.is_flushed output.new) (output.new ≡ output.old)) }
+    ensures err { IfErr result IsOfSaving }
+{
+    let Some(bytes) = bytes else {
+        return Ok(());
+    };
+    if let Err(error) = write_whole(output, bytes) {
+        return Err(Failure::Unsaved(extra, error));
+    }
+    match output.flush_all() {
+        Ok(()) => Ok(()),
+        Err(error) => Err(Failure::Unsaved(extra, error)),
+    }
+}
+
+// Writes what is asked for of a file beside its picture.
+fn save_all<F: Flush>(extras: &mut Extras<F>, metadata: &Metadata<'_>) -> Result<(), Failure>
+    ensures profile { OnOk result (IsKept (bytes_if metadata.now.profile) (F.contents extras.old.profile)
+        (F.contents extras.new.profile) (F.is_flushed extras.new.profile) (extras.new.profile ≡ extras.old.profile)) }
+    ensures exif { OnOk result (IsKept (option_copied metadata.now.exif) (F.contents extras.old.exif)
+        (F.contents extras.new.exif) (F.is_flushed extras.new.exif) (extras.new.exif ≡ extras.old.exif)) }
+    ensures xmp { OnOk result (IsKept (option_copied metadata.now.xmp) (F.contents extras.old.xmp)
+        (F.contents extras.new.xmp) (F.is_flushed extras.new.xmp) (extras.new.xmp ≡ extras.old.xmp)) }
+    ensures err { IfErr result IsOfSaving }
+{
+    save(&mut extras.profile, metadata.profile(), Extra::Profile)?;
+    save(&mut extras.exif, metadata.exif, Extra::Exif)?;
+    save(&mut extras.xmp, metadata.xmp, Extra::Xmp)?;
+    Ok(())
+}
+
+// What is asked of a file that was read: the output, and what is asked for beside it.
+#[derive(Drop)]
+struct Asked<'a> {
+    output: Output,
+    metadata: Metadata<'a>,
+}
+
+// What is asked of the file, before anything is written.
+fn asked_of_file<'a, P: Line>(
+    alloc: Global,
+    file: &'a [u8],
+    options: &Options<'_>,
+    progress: &mut P,
+) -> Result<Asked<'a>, Failure>
+    ensures ok { IfOk result (λ a. IsAsked options.now.task options.now.limits options.now.format file.now
+        (content_text a.output.content) (string_bytes a.output.left_out.channels) a.output.left_out.profile) }
+    ensures writable { IfOk result (λ a. IsWritable a.output.content) }
+    ensures later { IfOk result (λ a. HasLaterError file.now a.output.left_out.later_error) }
+    ensures profile { IfOk result (λ a. IsFound (is_some options.now.icc)
+        (λ bytes. ProfileOfFile options.now.limits file.now (Some bytes)) (bytes_if a.metadata.profile)) }
+    ensures exif { IfOk result (λ a. IsFound (is_some options.now.exif) (λ bytes. HasExif file.now (Some bytes))
+        (option_copied a.metadata.exif)) }
+    ensures xmp { IfOk result (λ a. IsFound (is_some options.now.xmp) (λ bytes. HasXmp file.now (Some bytes))
+        (option_copied a.metadata.xmp)) }
+    ensures err { IfErr result (AskedFails options.now.task options.now.limits options.now.format file.now) }
+{
+    let metadata = metadata_asked(alloc, file, options)?;
+    let made = output_asked(alloc, file, options, progress);
+    progress.clear();
+    let output = made?;
+    Ok(Asked { output, metadata })
+}
+
+// Reads the file, and writes what is asked of it. It returns what the output leaves out.
+fn carry_out<R: Read, W: Flush, F: Flush, P: Line>(
     alloc: Global,
     options: &Options<'_>,
     input: &mut R,
     output: &mut W,
+    extras: &mut Extras<F>,
     progress: &mut P,
 ) -> Result<LeftOut, Failure>
-    ensures done { IfOk result (λ l. IsWritten options.now.info options.now.limits options.now.format
+    ensures done { IfOk result (λ l. IsWritten options.now.task options.now.limits options.now.format
         (R.remaining input.old) (R.remaining input.new) (W.contents output.old) (W.contents output.new)
         (string_bytes l.channels) l.profile l.later_error) }
-    ensures failed { IfErr result (InputFails options.now.info options.now.limits options.now.format
+    ensures saved { OnOk result (IsReadWhole (R.remaining input.old) (R.remaining input.new) (λ file.
+        IsSaved (is_some options.now.icc) (λ bytes. ProfileOfFile options.now.limits file (Some bytes))
+        (F.contents extras.old.profile) (F.contents extras.new.profile) (F.is_flushed extras.new.profile)
+        (extras.new.profile ≡ extras.old.profile)
+        × IsSaved (is_some options.now.exif) (λ bytes. HasExif file (Some bytes)) (F.contents extras.old.exif)
+        (F.contents extras.new.exif) (F.is_flushed extras.new.exif) (extras.new.exif ≡ extras.old.exif)
+        × IsSaved (is_some options.now.xmp) (λ bytes. HasXmp file (Some bytes)) (F.contents extras.old.xmp)
+        (F.contents extras.new.xmp) (F.is_flushed extras.new.xmp) (extras.new.xmp ≡ extras.old.xmp))) }
+    ensures failed { IfErr result (InputFails options.now.task options.now.limits options.now.format
         (R.remaining input.old) (R.remaining input.new) (W.contents output.old) (W.contents output.new)) }
     ensures flushed { OnOk result (W.is_flushed output.new) }
     ensures kept { IfErr result (λ failure. is_of_output failure ≡ false → output.new ≡ output.old) }
+    ensures extras { IfErr result (λ failure. is_of_output failure ≡ false → extras.new ≡ extras.old) }
 {
     let mut file = Vec::new(alloc);
     if let Err(error) = input.read_to_end(&mut file) {
         return Err(Failure::Unreadable(error));
     }
-    let made = output_asked(alloc, &file, options, progress);
-    progress.clear();
-    let asked = made?;
-    match pass_on(alloc, output, &asked.content) {
-        Ok(()) => Ok(asked.left_out),
-        Err(failure) => Err(failure),
-    }
+    let asked = asked_of_file(alloc, &file, options, progress)?;
+    pass_on(alloc, output, &asked.output.content)?;
+    save_all(extras, &asked.metadata)?;
+    Ok(asked.output.left_out)
 }
 
 /// Writes the line of a failure about what has this name, as far as it can be written, and ends with status 1. Of a
@@ -305,39 +528,45 @@ fn succeed<E: Write>(errors: &mut E, options: &Options<'_>, left_out: &LeftOut) 
 }
 
 /// Reads a file from `input`, and writes to `output` what its headers tell, or its picture in a netpbm format or in
-/// decimal numbers. It returns the status to end with: 0 where the output got that text, alone and whole; else 1, and
-/// `errors` got the line of a failure that holds of the file, unless the output is a pipe that was closed. Nothing is
-/// written to the output unless the whole picture was decoded, and after a failed write it holds a beginning of that
-/// text. With status 0 `errors` got nothing but the lines that warn of what is left out, and of the error of the boxes
-/// after the codestream. `progress` is called after each section.
-pub fn run<R: Read, W: Flush, E: Write, P: Line>(
+/// decimal numbers, or nothing; and to `extras` its profile, its Exif data and its XMP data, those that are asked for. It
+/// returns the status to end with: 0 where each got that, alone and whole; else 1, and `errors` got the line of a failure
+/// that holds of the file, unless the output is a pipe that was closed. Nothing is written unless the whole picture was
+/// decoded, and the file has all that is asked for; after a failed write the output holds a beginning of its text. With
+/// status 0 `errors` got nothing but the lines that warn of what is left out, and of the error of the boxes after the
+/// codestream; a profile that is saved is not left out. `progress` is called after each section.
+pub fn run<R: Read, W: Flush, F: Flush, E: Write, P: Line>(
     alloc: Global,
     options: Options<'_>,
     input: &mut R,
     output: &mut W,
+    extras: &mut Extras<F>,
     errors: &mut E,
     progress: &mut P,
 ) -> End
     ensures status { result.status ≤ 1 }
-    ensures done { result.status ≡ 0 → IsDone options.entry.info options.entry.quiet options.entry.limits
-        options.entry.format options.entry.input.now (R.remaining input.old) (R.remaining input.new)
-        (W.contents output.old) (W.contents output.new)
+    ensures done { result.status ≡ 0 → IsDone options.entry.task options.entry.quiet (is_some options.entry.icc)
+        options.entry.limits options.entry.format options.entry.input.now (R.remaining input.old)
+        (R.remaining input.new) (W.contents output.old) (W.contents output.new)
         (IsReported result.reported (E.contents errors.old) (E.contents errors.new)) (errors.new ≡ errors.old) }
+    ensures saved { result.status ≡ 0 → IsReadWhole (R.remaining input.old) (R.remaining input.new) (λ file.
+        IsSaved (is_some options.entry.icc) (λ bytes. ProfileOfFile options.entry.limits file (Some bytes))
+        (F.contents extras.old.profile) (F.contents extras.new.profile) (F.is_flushed extras.new.profile)
+        (extras.new.profile ≡ extras.old.profile)
+        × IsSaved (is_some options.entry.exif) (λ bytes. HasExif file (Some bytes)) (F.contents extras.old.exif)
+        (F.contents extras.new.exif) (F.is_flushed extras.new.exif) (extras.new.exif ≡ extras.old.exif)
+        × IsSaved (is_some options.entry.xmp) (λ bytes. HasXmp file (Some bytes)) (F.contents extras.old.xmp)
+        (F.contents extras.new.xmp) (F.is_flushed extras.new.xmp) (extras.new.xmp ≡ extras.old.xmp)) }
     ensures flushed { result.status ≡ 0 → W.is_flushed output.new }
-    ensures failed { result.status ≡ 1 → IsFailed options.entry.info options.entry.limits options.entry.format
+    ensures failed { result.status ≡ 1 → IsFailed options.entry.task options.entry.limits options.entry.format
         options.entry.input.now options.entry.output_name.now (R.remaining input.old) (R.remaining input.new)
-        (W.contents output.old) (W.contents output.new) (output.new ≡ output.old)
+        (W.contents output.old) (W.contents output.new) ((output.new ≡ output.old) × (extras.new ≡ extras.old))
         (λ line. IfSome line (IsReported result.reported (E.contents errors.old) (E.contents errors.new))) }
 {
-    match carry_out(alloc, &options, input, output, progress) {
-        Ok(left_out) => succeed(errors, &options, &left_out),
-        Err(failure) => {
-            let name = if failure.is_of_output() {
-                options.output_name
-            } else {
-                options.input
-            };
-            report(errors, name, failure)
+    match carry_out(alloc, &options, input, output, extras, progress) {
+        Ok(left_out) => {
+            let warned = left_out.but_saved(options.icc.is_some());
+            succeed(errors, &options, &warned)
         }
+        Err(failure) => report(errors, options.name_of(failure), failure),
     }
 }

@@ -1,6 +1,6 @@
 //! What the output leaves out of a file.
 
-ghost use Rattle.std.specs.Prelude.{◌≡◌, ◌++◌, IfOk, None, OnOk, IsTrue, false, [], string_bytes};
+ghost use Rattle.std.specs.Prelude.{◌≡◌, ◌++◌, ◌&&◌, IfOk, None, OnOk, IsTrue, false, not, [], string_bytes};
 ghost use Rattle.std.specs.Io.KnownBytes.{Appends};
 ghost use Rattle.jxl_image_header.specs.Images.{image_of};
 ghost use Rattle.jxl_picture.specs.Pictures.{is_full_alpha as the_full_alpha};
@@ -76,6 +76,19 @@ impl LeftOut {
             profile: header.colour_encoding.want_icc,
             later_error,
         })
+    }
+
+    /// The same, but for the profile if that is saved.
+    pub fn but_saved(self, saved: bool) -> LeftOut
+        ensures channels { string_bytes result.channels ≡ string_bytes self.channels }
+        ensures profile { result.profile ≡ (self.profile && not saved) }
+        ensures later { result.later_error ≡ self.later_error }
+    {
+        LeftOut {
+            channels: self.channels,
+            profile: self.profile && !saved,
+            later_error: self.later_error,
+        }
     }
 
     /// Nothing of a picture, and the boxes from this error on.

@@ -1,0 +1,32 @@
+use Rattle.std.proofs.Common.{rules}
+use Rattle.std.proofs.lemmas.Result.{err_from_is_err_and}
+use Rattle.jxldec.proofs.Saving.{saved, saving_fails, whole_begins}
+use Rattle.jxldec.proofs.run.carry_out.Goals as goal
+
+pub returns-clause-saved : goal.returns-clause-saved
+returns-clause-saved g c = record {
+  file = c.deref.result.now;
+  read = search rules;
+  ended = search rules;
+  held = (
+    saved _ _ _ _ _ _ _ c.in_ok-asked.ensures.profile c.in_ok-save_all.ensures.profile,
+    saved _ _ _ _ _ _ _ c.in_ok-asked.ensures.exif c.in_ok-save_all.ensures.exif,
+    saved _ _ _ _ _ _ _ c.in_ok-asked.ensures.xmp c.in_ok-save_all.ensures.xmp,
+  );
+}
+
+pub returns-in_err-save_all-clause-failed : goal.returns-in_err-save_all-clause-failed
+returns-in_err-save_all-clause-failed g c =
+    let p = err_from_is_err_and c.from_residual-in_err-save_all.result c.from_residual-in_err-save_all.ensures.1 in
+    rw (p.1, p.2) (saving_fails _ _ _ _ _ _ _ _ c.in_err-save_all.ensures.err (record {
+      file = c.deref.result.now;
+      read = search rules;
+      ended = search rules;
+      held = record {
+        text = _;
+        others = _;
+        profile = _;
+        is = c.in_ok-asked.ensures.ok;
+        begun = whole_begins _ _ _ c.in_ok-pass_on.ensures.ok;
+      };
+    }))
