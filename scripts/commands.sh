@@ -215,7 +215,7 @@ expect 1 'jxldec: whole.jxl: no XMP data' whole.jxl -o none.ppm --xmp none.xmp
 expect 1 'jxldec: data.jxl: no colour profile' data.jxl --exif none.exif --icc none.icc
 expect 1 'jxldec: lossy.jxl: not supported: a lossy picture (XYB)' lossy.jxl --icc none.icc
 expect 1 'jxldec: lossy.jxl: no Exif data' lossy.jxl --exif none.exif
-expect 1 'jxldec: other.jxl: not a JPEG XL file' other.jxl --xmp none.xmp
+expect 1 'jxldec: other.jxl: no XMP data' other.jxl --xmp none.xmp
 for name in none.ppm none.icc none.exif none.xmp; do
     absent $name
 done
