@@ -12,7 +12,7 @@ use crate::fields::{are_spelled, write_field_if, write_fields};
 use jxl_frame_header::passes::Passes;
 use jxlm_bit_writer::spelled::is_spelled;
 use jxlm_bit_writer::writer::BitWriter;
-use jxlm_bits::bits::U32Spec;
+use jxlm_bits::bits::U32Spec::{self, Const, Offset};
 use std::alloc::AllocError;
 
 // Whether each value is less than the one before it.
@@ -151,45 +151,38 @@ pub fn write_passes_if(
         bits,
         present,
         count,
-        U32Spec::Const(1),
-        U32Spec::Const(2),
-        U32Spec::Const(3),
-        U32Spec::Offset(4, 3),
+        Const(1),
+        Const(2),
+        Const(3),
+        Offset(4, 3),
         1,
     )?;
     write_field_if(
         bits,
         count != 1,
         resolutions,
-        U32Spec::Const(0),
-        U32Spec::Const(1),
-        U32Spec::Const(2),
-        U32Spec::Offset(3, 1),
+        Const(0),
+        Const(1),
+        Const(2),
+        Offset(3, 1),
         0,
     )?;
-    write_fields(
-        bits,
-        &passes.shift,
-        U32Spec::Const(0),
-        U32Spec::Const(1),
-        U32Spec::Const(2),
-        U32Spec::Const(3),
-    )?;
+    write_fields(bits, &passes.shift, Const(0), Const(1), Const(2), Const(3))?;
     write_fields(
         bits,
         &passes.downsample,
-        U32Spec::Const(1),
-        U32Spec::Const(2),
-        U32Spec::Const(4),
-        U32Spec::Const(8),
+        Const(1),
+        Const(2),
+        Const(4),
+        Const(8),
     )?;
     write_fields(
         bits,
         &passes.last_pass,
-        U32Spec::Const(0),
-        U32Spec::Const(1),
-        U32Spec::Const(2),
-        U32Spec::Offset(0, 3),
+        Const(0),
+        Const(1),
+        Const(2),
+        Offset(0, 3),
     )?;
     Ok(())
 }
