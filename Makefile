@@ -1,4 +1,4 @@
-.PHONY: help jxldec jxlmod demo demo-plain demo-triangle demo-groups bench compare-djxl check-docs check-alloc check-commands test
+.PHONY: help jxldec jxlenc jxlmod demo demo-encode demo-plain demo-triangle demo-groups bench compare-djxl compare-encode check-docs check-alloc check-commands test
 
 help: ## this list
 	@awk -F ':.*## ' '/^[a-z-]+:.*## / { printf "make %-14s %s\n", $$1, $$2 }' Makefile
@@ -6,11 +6,20 @@ help: ## this list
 jxldec: ## prove and build the decoder of .jxl files: crates/jxldec/out/jxldec
 	@python3 scripts/build.py jxldec --version
 
+jxlenc: ## prove and build the encoder of .jxl files: crates/jxlenc/out/jxlenc
+	@python3 scripts/build.py jxlenc --version
+
 jxlmod: ## prove and build the program of the plain formats: crates/jxlmod/out/jxlmod
 	@python3 scripts/build.py jxlmod $$(cat crates/jxlmod/args)
 
 demo: ## decode examples/ball.jxl and draw it in the terminal, without any proof
 	@(cd crates/jxldec && rt try -- $(CURDIR)/examples/ball.jxl --format pgm) | python3 examples/pgm_to_text.py
+
+demo-encode: ## decode examples/ball.jxl, encode the picture again, decode that file and draw it, without any proof
+	@folder=$$(mktemp -d) && trap 'rm -rf "$$folder"' EXIT && \
+	    (cd crates/jxldec && rt try -- - --format pgm) < examples/ball.jxl > "$$folder/a.pgm" && \
+	    (cd crates/jxlenc && rt try -- - -o -) < "$$folder/a.pgm" > "$$folder/a.jxl" && \
+	    (cd crates/jxldec && rt try -- - --format pgm) < "$$folder/a.jxl" | python3 examples/pgm_to_text.py
 
 demo-plain: ## decode the ten bytes of crates/jxlmod/stdin, without any proof
 	@cd crates/jxlmod && rt try -- $$(cat args) < stdin
@@ -29,15 +38,18 @@ bench: jxldec ## time jxldec beside djxl, which must be installed: docs/SPEED.md
 compare-djxl: jxldec ## decode what cjxl encodes, and compare with djxl, which must both be installed
 	@sh scripts/compare_djxl.sh crates/jxldec/out/jxldec
 
+compare-encode: jxlenc jxldec ## encode drawn pictures, decode them with jxldec and djxl, which must be installed, and compare
+	@sh scripts/compare_encode.sh crates/jxlenc/out/jxlenc crates/jxldec/out/jxldec
+
 check-docs: ## look up the names and the code that the documents cite
 	@sh scripts/check_docs.sh
 
 check-alloc: ## refuse each request for memory of each call that takes memory, in turn; it proves nothing
 	@python3 scripts/check_alloc.py
 
-check-commands: ## run jxldec, as it was last built, by its command line, and compare statuses, outputs and standard error
-	@sh scripts/commands.sh crates/jxldec/out/jxldec
+check-commands: ## run jxldec and jxlenc, as they were last built, by their command lines, and compare what they do
+	@sh scripts/commands.sh crates/jxldec/out/jxldec crates/jxlenc/out/jxlenc
 
 test: check-docs check-alloc ## check-docs, check-alloc, every proof, must-fail edit and test, the programs' runs, and check-commands
 	rt ci
-	@sh scripts/commands.sh crates/jxldec/out/jxldec
+	@sh scripts/commands.sh crates/jxldec/out/jxldec crates/jxlenc/out/jxlenc

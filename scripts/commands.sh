@@ -1,10 +1,12 @@
 #!/bin/sh
-# Runs jxldec by its command line, and compares statuses, outputs and standard error: commands.sh PROGRAM
+# Runs jxldec and jxlenc by their command lines, and compares statuses, outputs and standard error: commands.sh JXLDEC [JXLENC]
 #
-# PROGRAM is jxldec, built. A line tells each command that ends otherwise than docs/JXLDEC.md says; the last line counts
-# them. The status is 1 if one does. After "cannot read" and "cannot write" comes what the C library says of the error.
+# JXLDEC and JXLENC are the programs, built. A line tells each command that ends otherwise than docs/JXLDEC.md and
+# docs/JXLENC.md say; the last line counts them. The status is 1 if one does. After "cannot read" and "cannot write" comes
+# what the C library says of the error.
 set -u
 program=$(realpath "$1")
+encoder=${2:+$(realpath "$2")}
 here=$(cd "$(dirname "$0")" && pwd)
 ball=$here/../examples/ball.jxl
 folder=$(mktemp -d)
@@ -288,6 +290,157 @@ fi
 } | true
 test "$(cat status)$(cat err)" = 1
 judge $? "a closed pipe -> $(cat status): $(cat err)"
+
+# The encoder.
+encode_rows() {
+    decoder=$program
+    program=$encoder
+    printf 'P5\n3 2\n255\n\001\002\003\004\005\006' > grey.pgm
+    printf 'P6\n2 1\n255\n\001\002\003\004\005\006' > rgb.ppm
+    printf 'P7\nWIDTH 2\nHEIGHT 1\nDEPTH 2\nMAXVAL 65535\nTUPLTYPE GRAYSCALE_ALPHA\nENDHDR\n\001\002\003\004\005\006\007\010' > alpha.pam
+    printf 'Pf\n1 2\n-1.0\n\000\000\200\077\000\000\300\177' > float.pfm
+
+    # Round trips, at each effort, by files and by standard input and output.
+    for name in grey.pgm rgb.ppm alpha.pam float.pfm; do
+        for effort in fast usual best; do
+            expect 0 - $name -e $effort -o a.jxl
+            "$decoder" a.jxl -o "again.$name" && cmp -s $name "again.$name"
+            judge $? "$name at effort $effort is not decoded to what it was"
+        done
+    done
+    expect 0 - grey.pgm -o b.jxl
+    cp b.jxl grey.jxl
+    expect 0 - grey.pgm --output b.other -q
+    cmp -s b.other grey.jxl
+    judge $? 'the ending of the output changes the file'
+    expect 0 - grey.pgm --effort usual
+    cmp -s out grey.jxl
+    judge $? 'usual is not the default effort'
+    expect 0 - grey.pgm -o -
+    cmp -s out grey.jxl
+    judge $? 'standard output gets another file'
+    absent ./-
+    input=grey.pgm
+    expect 0 - - -o c.jxl
+    cmp -s c.jxl grey.jxl
+    judge $? 'standard input is encoded otherwise'
+    input=/dev/null
+    cp grey.pgm ./-x.pgm
+    expect 0 - -o c.jxl -- -x.pgm
+    expect 0 - -h
+    begins out 'Encodes a netpbm picture'
+    expect 0 - --help
+    begins out 'Encodes a netpbm picture'
+    expect 0 - -V
+    begins out 'jxlenc '
+    expect 0 - --version
+    { cat grey.pgm; printf 'more'; } > more.pgm
+    expect 0 - more.pgm -o c.jxl
+    cmp -s c.jxl grey.jxl
+    judge $? 'bytes after the samples change the file'
+
+    # Boxes, Exif data and XMP data.
+    expect 0 - grey.pgm --container -o c.jxl
+    test "$(head -c 8 c.jxl | tail -c 4)" = 'JXL '
+    judge $? '--container does not write boxes'
+    "$decoder" c.jxl -o again.pgm && cmp -s grey.pgm again.pgm
+    judge $? 'the picture in boxes is another one'
+    printf 'II*\0\0' > in.exif
+    printf '<x/>' > in.xmp
+    : > none.data
+    expect 0 - grey.pgm --exif in.exif --xmp in.xmp -o c.jxl
+    "$decoder" c.jxl -o again.pgm --exif out.exif --xmp out.xmp && cmp -s grey.pgm again.pgm && cmp -s in.exif out.exif &&
+        cmp -s in.xmp out.xmp
+    judge $? 'the picture or its Exif or XMP data are not what they were'
+    expect 0 - grey.pgm --xmp none.data -o c.jxl
+    rm -f out.xmp
+    "$decoder" c.jxl --xmp out.xmp && test ! -s out.xmp
+    judge $? 'XMP data without a byte are not what they were'
+    expect 1 'jxlenc: none.exif: cannot read: No such file or directory (os error 2)' grey.pgm --exif none.exif -o d.jxl
+    expect 1 'jxlenc: folder: cannot read: Is a directory (os error 21)' grey.pgm --exif in.exif --xmp folder -o d.jxl
+    absent d.jxl
+    expect 2 'error: ' grey.pgm -o d.jxl --exif
+
+    # Pictures that cannot be read: an output that exists keeps its contents.
+    printf 'kept' > b.jxl
+    printf 'P5\n3 2\n255\n\001\002\003\004\005' > short.pgm
+    printf 'P5\n3 2\n' > header.pgm
+    printf 'P5\n1073741824 1073741824\n255\n' > huge.pgm
+    printf 'P5\n1073741825 1\n255\n' > wide.pgm
+    printf 'P5\n99999999999999999999 1\n255\n' > wider.pgm
+    printf 'P5\n0 1\n255\n' > narrow.pgm
+    printf 'P5\n3 2\n200\n\001\002\003\004\005\006' > maximum.pgm
+    printf 'P5\n1 1\n65536\n\001\002' > deep.pgm
+    printf 'P5\n2 1\n127\n\177\200' > above.pgm
+    printf 'P5\nx 1\n255\n\001' > word.pgm
+    printf 'P4\n8 1\n\001' > bits.pbm
+    printf 'P2\n1 1\n255\n1\n' > plain.pgm
+    printf 'P7\nWIDTH 1\nHEIGHT 1\nDEPTH 1\nENDHDR\n\001' > lines.pam
+    printf 'P7\nWIDTH 1\nHEIGHT 1\nDEPTH 4\nMAXVAL 255\nTUPLTYPE CMYK\nENDHDR\n\001\002\003\004' > cmyk.pam
+    printf 'P7\nWIDTH 1\nHEIGHT 1\nDEPTH 5\nMAXVAL 255\nENDHDR\n\001\002\003\004\005' > five.pam
+    printf 'P7\nWIDTH 1\nHEIGHT 1\nDEPTH 3\nMAXVAL 255\nTUPLTYPE GRAYSCALE\nENDHDR\n\001\002\003' > depth.pam
+    printf 'Pf\n1 1\none\n\001\002\003\004' > scale.pfm
+    expect 1 'jxlenc: none.pgm: cannot read: No such file or directory (os error 2)' none.pgm -o b.jxl
+    expect 1 'jxlenc: folder: cannot read: Is a directory (os error 21)' folder -o b.jxl
+    for name in other.jxl empty.jxl grey.jxl bits.pbm plain.pgm; do
+        expect 1 "jxlenc: $name: not a PGM, PPM, PAM or PFM file" $name -o b.jxl
+    done
+    for name in short.pgm header.pgm huge.pgm; do
+        expect 1 "jxlenc: $name: truncated" $name -o b.jxl
+    done
+    for name in wide.pgm wider.pgm narrow.pgm; do
+        expect 1 "jxlenc: $name: a width or height of 0 or above 1073741824" $name -o b.jxl
+    done
+    for name in maximum.pgm deep.pgm; do
+        expect 1 "jxlenc: $name: not supported: a maximum that is not 2^n - 1 with n from 1 to 16" $name -o b.jxl
+    done
+    for name in cmyk.pam five.pam depth.pam; do
+        expect 1 "jxlenc: $name: not supported: channels of this type or number" $name -o b.jxl
+    done
+    for name in word.pgm scale.pfm; do
+        expect 1 "jxlenc: $name: invalid header" $name -o b.jxl
+    done
+    expect 1 'jxlenc: lines.pam: invalid header: a line is missing' lines.pam -o b.jxl
+    expect 1 'jxlenc: above.pgm: a sample above the maximum' above.pgm -o b.jxl
+    expect 1 'jxlenc: above.pgm: a sample above the maximum' above.pgm -q -o b.jxl
+    expect 1 'jxlenc: above.pgm: a sample above the maximum' above.pgm --exif none.exif -o b.jxl
+    expect 1 'jxlenc: -: not a PGM, PPM, PAM or PFM file' - -o b.jxl
+    begins b.jxl kept
+    expect 2 'error: ' -o b.jxl
+    expect 2 'error: ' grey.pgm rgb.ppm -o b.jxl
+    expect 2 "error: invalid value '9'" grey.pgm -e 9 -o b.jxl
+    expect 2 "error: invalid value 'Fast'" grey.pgm -e Fast -o b.jxl
+    expect 2 'error: ' grey.pgm --lossy -o b.jxl
+    begins b.jxl kept
+
+    # Outputs that cannot be written.
+    expect 1 'jxlenc: folder: cannot write: Is a directory (os error 21)' grey.pgm -o folder
+    expect 1 'jxlenc: none/b.jxl: cannot write: No such file or directory (os error 2)' grey.pgm -o none/b.jxl
+    if [ -e /dev/full ]; then
+        expect 1 'jxlenc: /dev/full: cannot write: No space left on device (os error 28)' grey.pgm -o /dev/full
+        "$program" grey.pgm > /dev/full 2> err
+        test "$?$(cat err)" = '1jxlenc: standard output: cannot write: No space left on device (os error 28)'
+        judge $? "standard output that is full -> $(cat err)"
+    fi
+    {
+        sleep 1
+        "$program" grey.pgm 2> err
+        echo $? > status
+    } | true
+    test "$(cat status)$(cat err)" = 1
+    judge $? "a closed pipe -> $(cat status): $(cat err)"
+
+    # A terminal as standard output, which `script` makes.
+    if command -v script > err; then
+        script -qec "'$program' grey.pgm 2> err" /dev/null > out < /dev/null
+        seen=$?
+        test "$seen$(cat err)" = '1jxlenc: standard output: a terminal; -o OUT writes to a file, -o - to standard output' && test ! -s out
+        judge $? "a terminal -> $seen: $(cat err)"
+    fi
+}
+if [ -n "$encoder" ]; then
+    encode_rows
+fi
 
 echo "commands: $right right, $wrong wrong"
 test "$wrong" -eq 0

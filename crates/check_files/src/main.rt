@@ -2,18 +2,13 @@
 //! each row says what is asked, and what is expected of it. A line that begins with # says what the rows after it are.
 #![tactic(auto)]
 
-mod answers;
 mod command;
-mod damaged;
 mod example;
 mod files;
-mod frames;
-mod images;
-mod names;
+mod netpbm;
 mod pictures;
 mod printing;
 mod profiles;
-mod spelled;
 mod streams;
 mod told;
 mod words;
@@ -24,7 +19,7 @@ use std::alloc::Global;
 use std::io;
 use std::process::ExitCode;
 
-/// What comes of a row of a file, or of a decoder of entropy codes.
+/// What comes of a row of a file.
 fn seen_of_files(alloc: Global, row: &Row<'_>) -> Option<String> {
     match row.kind {
         "file" => files::seen(alloc, row.asked),
@@ -32,15 +27,6 @@ fn seen_of_files(alloc: Global, row: &Row<'_>) -> Option<String> {
         "written" => writing::seen(alloc, row.asked),
         "small" => writing::seen_of_small_writer(alloc, row.asked),
         "info" => told::seen(alloc, row.asked),
-        "image" => images::seen(alloc, row.asked),
-        "frame" => frames::seen(alloc, row.asked),
-        "image_bits" => spelled::seen_of_image(alloc, row.asked),
-        "image_again" => spelled::seen_of_image_again(alloc, row.asked),
-        "frame_bits" => spelled::seen_of_frame(alloc, row.asked),
-        "frame_again" => spelled::seen_of_frame_again(alloc, row.asked),
-        "entropy" => answers::seen(alloc, row.asked, row.expected.starts_with('#')),
-        "entropy_cuts" => damaged::seen_of_cuts(alloc, row.asked),
-        "damaged" => damaged::sum_of_damaged(alloc, row.asked),
         "decoded" => pictures::seen(alloc, row.asked),
         "decided" => pictures::seen_of_decisions(alloc, row.asked),
         "sections" => pictures::seen_of_sections(alloc, row.asked),
@@ -49,6 +35,7 @@ fn seen_of_files(alloc: Global, row: &Row<'_>) -> Option<String> {
         "maximum" => pictures::seen_of_maximum(alloc, row.asked),
         "profile" => profiles::seen(alloc, row.asked),
         "metadata" => profiles::seen_of_metadata(alloc, row.asked),
+        "profile_again" => profiles::seen_again(alloc, row.asked),
         _ => None,
     }
 }
@@ -65,6 +52,7 @@ fn seen_of_commands(alloc: Global, row: &Row<'_>) -> Option<String> {
         "number" => words::seen_of_number(alloc, row.asked),
         "words" => words::seen(alloc, row.asked),
         "print" => printing::seen(alloc, row.asked),
+        "netpbm" => netpbm::seen(alloc, row.asked),
         _ => None,
     }
 }
@@ -74,6 +62,15 @@ struct FileRows;
 
 impl Kinds for FileRows {
     fn seen(alloc: Global, row: &Row<'_>) -> Option<String> {
+        if let Some(seen) = check_streams::seen(alloc, row) {
+            return Some(seen);
+        }
+        if let Some(seen) = check_headers::seen(alloc, row) {
+            return Some(seen);
+        }
+        if let Some(seen) = check_encoder::seen(alloc, row) {
+            return Some(seen);
+        }
         if let Some(seen) = seen_of_files(alloc, row) {
             return Some(seen);
         }

@@ -2,7 +2,12 @@
 
 use crate::files::digits;
 use check_rows::bytes;
+use jxl_codestream::profile::read_profile;
+use jxl_coding::decoder::EntropyDecoder;
 use jxl_lossless::{JxlFile, Limits, Steps, decode_lossless};
+use jxl_profile_write::profile::write_profile;
+use jxlm_bit_writer::writer::BitWriter;
+use jxlm_bits::bits::Bitstream;
 use std::alloc::Global;
 
 /// Adds the digits of bytes, if there are some, or `none`.
@@ -42,6 +47,32 @@ pub fn seen_of_metadata(alloc: Global, asked: &str) -> Option<String> {
             tell(&mut text, read.xmp())?;
         }
         Err(error) => write!(text, "error: {error}").ok()?,
+    }
+    Some(text)
+}
+
+/// The profile that is read from the bits of the one that is written.
+fn again(alloc: Global, icc: &[u8]) -> Option<Vec<u8>> {
+    if icc.is_empty() || icc.len() >= 1 << 30 {
+        return None;
+    }
+    let mut bits = BitWriter::new(alloc);
+    write_profile(alloc, &mut bits, icc).ok()?;
+    let written = bits.into_bytes().ok()?;
+    let mut reader = Bitstream::new(&written);
+    read_profile::<EntropyDecoder>(alloc, &mut reader, icc.len() as u64 + 16).ok()
+}
+
+/// A row asks with the bytes of a profile. It gives `same` if the profile that is read from the one that is written is
+/// the same, and else the bytes of that.
+pub fn seen_again(alloc: Global, asked: &str) -> Option<String> {
+    let icc = bytes(alloc, asked)?;
+    let read = again(alloc, &icc)?;
+    let mut text = String::new(alloc);
+    if read.as_slice() == icc.as_slice() {
+        write!(text, "same").ok()?;
+    } else {
+        digits(&mut text, &read)?;
     }
     Some(text)
 }

@@ -6,12 +6,11 @@ use Rattle.std.proofs.lemmas.List.{length-append, drop_all, drop_more}
 use Rattle.jxlm_bits.specs.Decoding.{Asked}
 use Rattle.jxlm_bit_writer.specs.Written.{digits, HasBits}
 use Rattle.jxlm_bit_writer.proofs.BitLists.{has_first, has_rest, length-digits, has_moved}
-use Rattle.jxl_coding_write.specs.declared.piece.BitPiece.{BitPiece}
 use Rattle.jxl_coding_write.proofs.NumberReads.{number_read}
 use Rattle.jxl_coding.specs.Symbols.{Codes}
 use Rattle.jxl_coding.specs.Tokens.{Entropy, begin_at, end_state, read_at}
 use Rattle.jxl_coding_stream_write.specs.Codes.{codes_of}
-use Rattle.jxl_coding_stream_write.specs.Pieces.{bits_back}
+use Rattle.jxl_coding_stream_write.specs.Inner.Backward.{words_back}
 use Rattle.jxl_coding_stream_write.specs.Streams.{in_stream, AreAsked, Reads, IsStream, StreamsAreRead}
 use Rattle.jxl_coding_stream_write.specs.declared.stream.StreamWriter.{StreamWriter}
 use Rattle.jxlm_bit_writer.specs.declared.token.Token.{Token}
@@ -66,9 +65,9 @@ module _ (w : StreamWriter) (first : ℕ) (tokens : List Token) (bits : List ℕ
   }
 
 -- before any token
-pub start_read : (codes : Codes) (tokens : List Token) (pieces : List BitPiece) → pieces ≡ [] → Reads codes end_state (drop (length tokens - 0) tokens) (bits_back pieces)
-start_read codes tokens pieces none =
-    subst (λ (xs : List BitPiece). Reads codes end_state (drop (length tokens - 0) tokens) (bits_back xs)) (sym none)
+pub start_read : (codes : Codes) (tokens : List Token) (words : List ℕ) → words ≡ [] → Reads codes end_state (drop (length tokens - 0) tokens) (words_back words)
+start_read codes tokens words none =
+    subst (λ (xs : List ℕ). Reads codes end_state (drop (length tokens - 0) tokens) (words_back xs)) (sym none)
     (subst (λ (xs : List Token). Reads codes end_state xs []) (sym (drop_all (length tokens - 0) tokens (omega arith))) (none_read codes))
 
 -- from the end on

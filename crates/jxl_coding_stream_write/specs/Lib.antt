@@ -1,4 +1,4 @@
-pub mod Pieces
+pub mod Inner
 pub mod Tokens
 pub mod Codes
 pub mod Streams

@@ -1,13 +1,13 @@
 //! The code of a cluster, and its tokens written.
 
-ghost use Rattle.std.specs.Prelude.{◌≡◌, ◌<◌, ◌≤◌, ◌^◌, ◌↔◌, IfOk, IsTrue, length, sum};
+ghost use Rattle.std.specs.Prelude.{◌≡◌, ◌<◌, ◌≤◌, ◌^◌, ◌↔◌, IfOk, IsTrue, length, slice_index, sum};
 ghost use Rattle.jxl_coding_codes.specs.Alias.{only_from};
 ghost use Rattle.jxl_coding_codes.specs.IntegerConfigs.{IsConfig};
 
 use jxl_coding_codes::alias::only;
 use jxl_coding_codes::config::IntegerConfig;
 use jxl_coding_write::piece::BitPiece;
-use jxl_coding_write::slot_table::SlotTable;
+use jxl_coding_write::slot_table::{SlotTable, SymbolBits};
 use jxl_coding_write::spelling::spell;
 use std::alloc::{AllocError, Global};
 
@@ -35,7 +35,7 @@ pub struct TokenBits {
 }
 
 impl ClusterWriter {
-    ghost use Rattle.jxl_coding_stream_write.specs.Tokens.{Occurs, TokenWrites};
+    ghost use Rattle.jxl_coding_stream_write.specs.Tokens.{Occurs, SymbolLeads, TokenWrites};
 
     /// The code of this configuration, and a distribution of at most 2^log symbols.
     pub fn new(
@@ -68,6 +68,25 @@ impl ClusterWriter {
         self.slots.occurs(spell(&self.config, token).symbol)
     }
 
+    /// Writes a symbol that occurs: the decoder reads it from the state of the result, and goes on in `state`.
+    #[inline(always)]
+    pub(crate) fn write_symbol(&self, state: u32, symbol: u32) -> SymbolBits
+        requires state { 2 ^ 16 ≤ state }
+        requires occurs { 0 < slice_index self.now.slots.counts.items symbol }
+        ensures leads { SymbolLeads self.now.slots self.now.only symbol result.state state
+            result.bits.count result.bits.value }
+        ensures least { 2 ^ 16 ≤ result.state }
+        ensures below { result.state < 2 ^ 32 }
+    {
+        if self.only.is_some() {
+            return SymbolBits {
+                state,
+                bits: BitPiece { value: 0, count: 0 },
+            };
+        }
+        self.slots.write(state, symbol)
+    }
+
     /// Writes a token whose symbol occurs: the decoder reads it from the state of the result, and goes on in `state`.
     pub fn write(&self, state: u32, token: u32) -> TokenBits
         requires state { 2 ^ 16 ≤ state }
@@ -77,14 +96,7 @@ impl ClusterWriter {
         ensures below { result.state < 2 ^ 32 }
     {
         let spelling = spell(&self.config, token);
-        if self.only.is_some() {
-            return TokenBits {
-                state,
-                word: BitPiece { value: 0, count: 0 },
-                rest: spelling.rest,
-            };
-        }
-        let written = self.slots.write(state, spelling.symbol);
+        let written = self.write_symbol(state, spelling.symbol);
         TokenBits {
             state: written.state,
             word: written.bits,

@@ -2,7 +2,9 @@
 //! 18181-1, entropy decoding).
 #![tactic(auto)]
 
+mod back;
 pub mod cluster;
+mod first_bits;
 pub mod head;
 pub mod head_limits;
 pub mod laws;

@@ -144,7 +144,7 @@ colour_few None = omega arith
 colour_few (Some t) = omega arith
 
 -- it keeps the list of channels that it suits
-colour_list : (colour : Option Rct) (l : ChannelList) (c : CodedList) → IfSome colour (λ t. list_after (RctStep t) l ≡ Ok l) → coded_list (colour_transforms colour) l ≡ Ok c → c.list ≡ l
+pub colour_list : (colour : Option Rct) (l : ChannelList) (c : CodedList) → IfSome colour (λ t. list_after (RctStep t) l ≡ Ok l) → coded_list (colour_transforms colour) l ≡ Ok c → c.list ≡ l
 colour_list None l c suits e = sym (ap (λ (x : CodedList). x.list) (same_coded (record { steps = []; list = l }) c e))
 colour_list (Some t) l c suits e =
     let made : coded_list (OfRct t ∷ []) l ≡ Ok (record { steps = RctStep t ∷ []; list = l }) = rw suits refl in

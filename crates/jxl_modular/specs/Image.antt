@@ -1,7 +1,7 @@
 -- An image: what it was read with, and its buffers.
-use Rattle.std.specs.Prelude.{◌+◌, ℕ, List, length, take, Bool, ℤ}
+use Rattle.std.specs.Prelude.{◌+◌, ℕ, List, length, map, take, Bool, ℤ}
 use Rattle.std.specs.Int.{Width}
-use Rattle.jxlm_base.specs.Grid.{Grid}
+use Rattle.jxlm_base.specs.Grid.{Grid, meanings}
 use Rattle.jxlm_base.specs.Regions.{store_meanings}
 use Rattle.jxlm_base.specs.declared.subgrid.Region.{Region}
 use Rattle.jxlm_chain.specs.Chain as chain
@@ -27,6 +27,10 @@ pub record Image (S D : Type 0) : Type 0 where
   pub store : List (Grid S)
   pub coded : List Region
 
+-- the image's own channels, the first of its buffers, of the numbers that the samples stand for
+abbrev pub image_grids : {S D : Type 0} → (S → ℤ) → Image S D → List (Grid ℤ)
+image_grids to_int x = map (meanings to_int) (take (length x.given) x.store)
+
 module _ {S D : Type 0} where
   -- the image's own channels, none of which is a meta channel
   abbrev pub given_list : Image S D → ChannelList
@@ -47,10 +51,6 @@ module _ {S D : Type 0} where
   -- the part of these, read with this stream index
   abbrev pub front_part : ℕ → Image S D → ℕ → Part
   front_part n x stream = record { channels = front_channels n x; weights = x.weights; tree = x.config.tree; stream = stream }
-
-  -- the image's own channels, the first of its buffers, of the numbers that the samples stand for
-  abbrev pub image_grids : (S → ℤ) → Image S D → List (Grid ℤ)
-  image_grids to_int x = store_meanings to_int (take (length x.given) x.store)
 
   -- the grids of the coded channels, of the numbers that the samples stand for
   abbrev pub coded_grids : (S → ℤ) → Image S D → List (Grid ℤ)

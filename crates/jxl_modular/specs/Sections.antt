@@ -21,7 +21,7 @@ use Rattle.jxlm_samples.specs.Part.{Part, cell_count}
 use Rattle.jxlm_nested.specs.Nested.{NestedTurn, NotBegun, PartTurn}
 use Rattle.jxlm_nested.specs.Starts.{Start, coded_part}
 use Rattle.jxl_modular.specs.Groups.{Exists, IsCut, channels_in, held_in, part_in, pieces_of}
-use Rattle.jxl_modular.specs.Image.{Image, IsOnlyImage, coded_list}
+use Rattle.jxl_modular.specs.Image.{Image, coded_list, given_list}
 pub use Rattle.jxlm_nested.specs.Nested.{Turn, most}
 pub use Rattle.jxl_modular.specs.declared.sections.Section.{Section}
 
@@ -84,7 +84,7 @@ module _ {S D : Type 0} (d : Meaning D) (w : Width) (to_int : S → ℤ) (zero :
     pub complete : IsComplete x passes sections
     pub costs : List ℕ
     pub parts : AllZip (λ s n. CodesPart s (map (grid_of coded) (pieces_of x passes s.part)) n) sections costs
-    pub only : IsOnlyImage w x image coded
+    pub only : chain.IsOnlyImage w x.bit_depth x.steps (given_list x) image coded
     pub counted : MovesWithin before after (sum costs)
 
   -- a section's turn, with a header of its own or not: what decoding it returns and leaves; samples of other parts stay
@@ -108,7 +108,8 @@ module _ {S D : Type 0} (d : Meaning D) (w : Width) (to_int : S → ℤ) (zero :
     pub turns : List Turn
     pub between : List (Grid S)
     pub left : AllTurn partly sections turns old between
-    pub only : IsOnlyImage w x image (grids_in x.coded (store_meanings to_int between))
+    pub only : chain.IsOnlyImage w x.bit_depth x.steps (given_list x) image
+        (grids_in x.coded (store_meanings to_int between))
     pub says : IsTrue whole ↔ (All (λ t. t.partial ≡ false) turns × IsComplete x passes sections)
     pub counted : MovesWithin before after (sum (map most turns))
 

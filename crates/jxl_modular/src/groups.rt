@@ -17,6 +17,7 @@ use jxlm_bits::decoder::Decoder;
 use jxlm_bits::error::Result;
 use jxlm_groups::part::{Kind, SectionPart};
 use jxlm_groups::pass::{Pass, passes};
+use jxlm_nested::stream::Stream;
 use jxlm_tree::flat::Steps;
 use jxlm_tree::ma::MaConfig;
 use std::alloc::Global;
@@ -314,13 +315,16 @@ impl<'dest, S: Sample, D: Decoder> TransformedGlobalModular<'dest, S, D> {
             return Ok(());
         }
         let mut state = self.progress.take(part)?;
+        let stream = Stream {
+            index: stream_index,
+            allow_partial,
+        };
         let result = self.image.decode_part(
             alloc,
             bits,
             &self.progress.passes,
             part.into(),
-            stream_index,
-            allow_partial,
+            stream,
             &mut state.partial,
             &mut state.steps,
         );
@@ -446,14 +450,17 @@ impl<'dest, S: Sample, D: Decoder> TransformedGlobalModular<'dest, S, D> {
         ensures bytes { bytes_of bits.new ≡ bytes_of bits.old }
     {
         let mut state = self.progress.take(part)?;
+        let stream = Stream {
+            index: stream_index,
+            allow_partial,
+        };
         let result = self.image.decode_nested(
             alloc,
             bits,
             &self.progress.passes,
             part.into(),
-            stream_index,
+            stream,
             global,
-            allow_partial,
             &mut state.steps,
         );
         state.note(&result);

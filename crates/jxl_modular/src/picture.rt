@@ -18,6 +18,7 @@ use jxlm_base::sample::Sample;
 use jxlm_bits::bits::Bitstream;
 use jxlm_bits::decoder::Decoder;
 use jxlm_bits::error::Result;
+use jxlm_nested::stream::Stream;
 use jxlm_transform::param::ModularParams;
 use jxlm_tree::flat::Steps;
 use std::alloc::Global;
@@ -41,7 +42,11 @@ fn fill<S: Sample, D: Decoder>(
 {
     let count = image.channel_count();
     let mut partial = image.has_samples(count);
-    image.decode_front(alloc, bits, count, stream_index, false, &mut partial, steps)?;
+    let stream = Stream {
+        index: stream_index,
+        allow_partial: false,
+    };
+    image.decode_front(alloc, bits, count, stream, &mut partial, steps)?;
     image.undo_transforms(alloc)
 }
 

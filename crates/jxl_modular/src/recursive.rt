@@ -14,6 +14,7 @@ use jxlm_bits::bits::Bitstream;
 use jxlm_bits::decoder::Decoder;
 use jxlm_bits::error::Result;
 use jxlm_nested::nested::NestedPart;
+use jxlm_nested::stream::Stream;
 use jxlm_samples::channels::have_samples;
 use jxlm_transform::channels::PlacedChannel;
 use jxlm_tree::flat::Steps;
@@ -210,12 +211,15 @@ impl<'dest, S: Sample, D: Decoder> NestedSubimage<'dest, S, D> {
         ensures same_reference { loan self.new ≡ loan self.old }
         ensures bytes { bytes_of bits.new ≡ bytes_of bits.old }
     {
+        let stream = Stream {
+            index: stream_index,
+            allow_partial,
+        };
         self.image.decode_layer(
             alloc,
             bits,
             &mut self.header,
-            stream_index,
-            allow_partial,
+            stream,
             &mut self.partial,
             &mut self.steps,
         )

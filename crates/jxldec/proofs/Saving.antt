@@ -5,8 +5,9 @@ use Rattle.std.proofs.lemmas.List.{append-nil}
 use Rattle.jxl_netpbm.specs.Output.{AppendsBeginning}
 use Rattle.jxl_netpbm.specs.declared.format.Format.{Format}
 use Rattle.jxl_picture.specs.declared.limits.Limits.{Limits}
+use Rattle.jxl_command.specs.Streams.{IsKept, IsReadWhole}
 use Rattle.jxldec.specs.Failures.{IsOfSaving}
-use Rattle.jxldec.specs.Texts.{AskedFails, InfoFails, InputFails, IsAsked, IsBegun, IsFound, IsKept, IsReadWhole, IsSaved}
+use Rattle.jxldec.specs.Texts.{AskedFails, InfoFails, InputFails, IsAsked, IsBegun, IsFound, IsSaved}
 use Rattle.jxldec.specs.declared.failures.Failure.{Failure}
 use Rattle.jxldec.specs.declared.failures.Failure.TheVariants as failures
 use Rattle.jxldec.specs.declared.options.Task.{Task}

@@ -1,11 +1,12 @@
 -- What the program writes of a file: its picture, or what its headers tell.
-use Rattle.std.specs.Prelude.{◌≡◌, ℕ, List, [], length, Bool, true, false, not, ◌&&◌, MatchBool, IsTrue, Option, Some, None, if◌then◌else◌}
+use Rattle.std.specs.Prelude.{◌≡◌, ℕ, List, [], length, Bool, true, false, not, ◌&&◌, MatchBool, Option, Some, None, if◌then◌else◌}
 use Rattle.std.specs.Io.KnownBytes.{Appends, Consumes, IsAtEnd}
 use Rattle.jxl_coding.specs.Parse.{decoder_at}
 use Rattle.jxl_coding.specs.Tokens.{entropy}
 use Rattle.jxl_container.specs.Files.{HasLaterError}
 use Rattle.jxl_container.specs.Metadata.{HasExif, HasXmp}
 use Rattle.jxl_container.specs.declared.error.FileError.{FileError as BoxError}
+use Rattle.jxl_command.specs.Streams.{IsReadWhole}
 use Rattle.jxl_image_header.specs.Images.{Image, image_of}
 use Rattle.jxl_netpbm.specs.Formats.{suits, text_of, usual}
 use Rattle.jxl_netpbm.specs.Output.{AppendsBeginning}
@@ -93,13 +94,6 @@ abbrev pub AskedFails : Task → Limits → Option Format → List ℕ → Failu
 AskedFails tasks.Picture limits asked file failure = TextFails limits file asked failure
 AskedFails task limits asked file failure = InfoFails limits file failure
 
--- The input was read to its end, from left to rest, and what was read has this property.
-pub record IsReadWhole (left rest : Option (List ℕ)) (holds : List ℕ → Type 0) : Type 0 where
-  pub file : List ℕ
-  pub read : Consumes left rest file
-  pub ended : IsAtEnd rest
-  pub held : holds file
-
 -- The text is what is asked of a file, and the output, which held `held`, holds after it a beginning of the text.
 pub record IsBegun (task : Task) (limits : Limits) (asked : Option Format) (held holds : Option (List ℕ)) (file : List ℕ) : Type 0 where
   pub text : List ℕ
@@ -133,19 +127,10 @@ pub record IsWritten (task : Task) (limits : Limits) (asked : Option Format) (le
 abbrev pub IsFound : Bool → (List ℕ → Type 0) → Option (List ℕ) → Type 0
 IsFound wanted Has found = MatchBool wanted ((bytes : List ℕ) × Has bytes × (found ≡ Some bytes)) (found ≡ None)
 
--- an output, which held `held`, holds these bytes after that, and has passed them on; without bytes it stays as it was
-abbrev pub IsKept : Option (List ℕ) → Option (List ℕ) → Option (List ℕ) → Type 0 → Type 0 → Type 0
-IsKept (Some bytes) held holds Flushed Stays = Appends held holds bytes × Flushed
-IsKept None held holds Flushed Stays = Stays
-
 -- If these data of a file are asked for, it has them, and their output, which held `held`, holds them after that, and has passed
 -- them on; else their output stays as it was.
 abbrev pub IsSaved : Bool → (List ℕ → Type 0) → Option (List ℕ) → Option (List ℕ) → Type 0 → Type 0 → Type 0
 IsSaved wanted Has held holds Flushed Stays = MatchBool wanted ((bytes : List ℕ) × Has bytes × Appends held holds bytes × Flushed) Stays
-
--- if standard error, which held `held`, took the text, it holds that after it
-abbrev pub IsReported : Bool → Option (List ℕ) → Option (List ℕ) → List ℕ → Type 0
-IsReported reported held holds text = IsTrue reported → Appends held holds text
 
 -- So it is, and standard error gets the lines that warn of what is left out, and of the error after the codestream, unless
 -- nothing but errors is to be printed; it gets nothing then, nor where there is nothing to warn of. A profile that is saved is

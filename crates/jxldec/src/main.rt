@@ -6,7 +6,6 @@ mod codes;
 mod failures;
 mod meter;
 mod options;
-mod output;
 mod reason;
 mod run;
 mod warning;
@@ -14,11 +13,13 @@ mod warning;
 use crate::failures::Failure;
 use crate::meter::Meter;
 use crate::options::{Extra, Options};
-use crate::output::OutputFile;
-use crate::run::{End, Extras, report, run};
+use crate::run::{Extras, report, run};
+use jxl_command::end::End;
+use jxl_command::input::InputFile;
+use jxl_command::output::OutputFile;
+use std::env;
 use std::io::Read;
 use std::process::ExitCode;
-use std::{env, fs};
 
 // Does what the options ask with the file that the reader gives.
 fn carry_out<R: Read>(rt: &HostRuntime, options: Options<'_>, input: &mut R) -> End {
@@ -60,10 +61,7 @@ fn decode(rt: &HostRuntime, options: Options<'_>) -> End {
     if options.input == "-" {
         return carry_out(rt, options, &mut rt.stdin());
     }
-    match fs::open(rt, options.input) {
-        Ok(mut file) => carry_out(rt, options, &mut file),
-        Err(error) => report(&mut rt.stderr(), options.input, Failure::Unreadable(error)),
-    }
+    carry_out(rt, options, &mut InputFile::new(rt, options.input))
 }
 
 fn main(rt: HostRuntime) -> anyhow::Result<ExitCode> {

@@ -4,6 +4,7 @@ ghost use Rattle.std.specs.Prelude.{◌≡◌, ◌≤◌, ℕ, List, [], length,
 ghost use Rattle.std.specs.Option.{option_copied};
 ghost use Rattle.std.specs.Io.KnownBytes.{Appends};
 ghost use Rattle.jxl_codestream.specs.FrontParts.{bytes_if};
+ghost use Rattle.jxl_command.specs.Streams.{IsKept, IsReadWhole, IsReported};
 ghost use Rattle.jxl_container.specs.Files.{HasLaterError};
 ghost use Rattle.jxl_container.specs.Metadata.{HasExif, HasXmp};
 ghost use Rattle.jxl_image_header.specs.Images.{image_of};
@@ -15,16 +16,18 @@ ghost use Rattle.jxl_picture.specs.Pictures.{IsWhole};
 ghost use Rattle.jxl_picture.specs.declared.limits.Limits.{Limits as TheLimits};
 ghost use Rattle.jxldec.specs.Contents.{IsWritable, content_text};
 ghost use Rattle.jxldec.specs.Failures.{IsOfContent, IsOfSaving, failure_line, is_of_output};
-ghost use Rattle.jxldec.specs.Texts.{AskedFails, InfoFails, InputFails, IsAsked, IsDone, IsFailed, IsFound, IsInfo, IsKept, IsReadWhole, IsReported, IsSaved, IsTextOfFile, IsWritten, TextFails, chosen};
+ghost use Rattle.jxldec.specs.Texts.{AskedFails, InfoFails, InputFails, IsAsked, IsDone, IsFailed, IsFound, IsInfo, IsSaved, IsTextOfFile, IsWritten, TextFails, chosen};
 ghost use Rattle.jxldec.specs.Warnings.{kinds_left_out, warnings};
 
 use crate::failures::Failure;
 use crate::meter::Line;
 use crate::options::{Extra, Options, Task};
-use crate::output::Flush;
 use crate::warning::{LeftOut, warn};
 use jxl_codestream::error::FrontError;
 use jxl_coding::decoder::EntropyDecoder;
+use jxl_command::end::End;
+use jxl_command::input::read_whole;
+use jxl_command::output::{Flush, write_flushed};
 use jxl_container::error::FileError as BoxError;
 use jxl_container::metadata::{find_exif, find_xmp};
 use jxl_image_header::image::ImageHeader;
@@ -60,15 +63,6 @@ pub struct Extras<F> {
     pub profile: F,
     pub exif: F,
     pub xmp: F,
-}
-
-/// How the program ends.
-#[derive(Clone, Copy)]
-pub struct End {
-    /// The status.
-    pub status: u8,
-    /// Whether lines were written on standard error, all of them.
-    pub reported: bool,
 }
 
 // The format in which a picture is written: the one that is asked for, where it suits the picture, or that of its kind.
@@ -397,10 +391,7 @@ fn save<F: Flush>(output: &mut F, bytes: Option<&[u8]>, extra: Extra) -> Result<
     let Some(bytes) = bytes else {
         return Ok(());
     };
-    if let Err(error) = write_whole(output, bytes) {
-        return Err(Failure::Unsaved(extra, error));
-    }
-    match output.flush_all() {
+    match write_flushed(output, bytes) {
         Ok(()) => Ok(()),
         Err(error) => Err(Failure::Unsaved(extra, error)),
     }
@@ -481,10 +472,10 @@ fn carry_out<R: Read, W: Flush, F: Flush, P: Line>(
     ensures kept { IfErr result (λ failure. is_of_output failure ≡ false → output.new ≡ output.old) }
     ensures extras { IfErr result (λ failure. is_of_output failure ≡ false → extras.new ≡ extras.old) }
 {
-    let mut file = Vec::new(alloc);
-    if let Err(error) = input.read_to_end(&mut file) {
-        return Err(Failure::Unreadable(error));
-    }
+    let file = match read_whole(alloc, input) {
+        Ok(file) => file,
+        Err(error) => return Err(Failure::Unreadable(error)),
+    };
     let asked = asked_of_file(alloc, &file, options, progress)?;
     pass_on(alloc, output, &asked.output.content)?;
     save_all(extras, &asked.metadata)?;

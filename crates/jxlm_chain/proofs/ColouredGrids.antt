@@ -9,7 +9,8 @@ use Rattle.jxlm_base.specs.Grid.{Grid, grid_by, at}
 use Rattle.jxlm_lanes.proofs.ColourLaws.{colour_is_one_to_one, triple_same}
 use Rattle.jxlm_transform.specs.Channels.{Channel}
 use Rattle.jxlm_transform.specs.ChannelSteps.{one_size}
-use Rattle.jxlm_inverse.specs.Recoloured.{recolour, triple_in}
+use Rattle.jxlm_inverse.specs.Recoloured.{recolour}
+use Rattle.jxlm_inverse.proofs.Triples.{triple_in}
 use Rattle.jxlm_chain.proofs.ListLaws.{heads, tails}
 use Rattle.jxlm_chain.proofs.SampleGrids.{IsGridOf}
 use Rattle.jxlm_chain.proofs.SqueezedGrids.{fits_at, grids_same, made_at}

@@ -4,3 +4,4 @@ pub mod OnePicture
 pub mod OwnParams
 pub mod SameSamples
 pub mod TwoPictures
+pub mod WithoutErrors

@@ -64,7 +64,7 @@ none_of (x ∷ xs) h = absurd (omega (arith, h))
 
 module _ {D : Type 0} (d : Meaning D) (w : Width) (part : Part) (bytes : List ℕ) (decoder : D) (p : ℕ) where
   -- samples that are coded from one position on
-  one_coded : (gs hs : List (Grid ℤ)) (q r : ℕ) → AreGridsOf part.channels gs → AreGridsOf part.channels hs → IsCodedWhole d w part bytes decoder p gs q → IsCodedWhole d w part bytes decoder p hs r → (gs ≡ hs) × (q ≡ r)
+  pub one_coded : (gs hs : List (Grid ℤ)) (q r : ℕ) → AreGridsOf part.channels gs → AreGridsOf part.channels hs → IsCodedWhole d w part bytes decoder p gs q → IsCodedWhole d w part bytes decoder p hs r → (gs ≡ hs) × (q ≡ r)
   one_coded gs hs q r a b (inl x) (inl y) =
       let start = same_found _ _ (d.begin decoder bytes p) x.1.coded.begins y.1.coded.begins in
       let one = prefix_one (part_rule d w part bytes) x.1.coded.start.value x.1.coded.start.position (cells_of gs) (cells_of hs) (cell_count part.channels) x.1.state y.1.state q r x.1.coded.joined (rw start y.1.coded.joined) in
@@ -98,7 +98,7 @@ module _ {D : Type 0} (d : Meaning D) (global : Option (Config D)) (bytes : List
   abbrev TreeAfter : Found Opening → Config D → ℕ → Type 0
   TreeAfter found config q = MatchBool found.value.uses_global ((global ≡ Some config) × (q ≡ found.position)) (IsTreeAt d bytes (node_limit found.value.coded.list.channels) depth_limit found.position config q)
 
-  one_tree : (b : Bool) (limit place : ℕ) (x y : Config D) (q r : ℕ) → MatchBool b ((global ≡ Some x) × (q ≡ place)) (IsTreeAt d bytes limit depth_limit place x q) → MatchBool b ((global ≡ Some y) × (r ≡ place)) (IsTreeAt d bytes limit depth_limit place y r) →
+  pub one_tree : (b : Bool) (limit place : ℕ) (x y : Config D) (q r : ℕ) → MatchBool b ((global ≡ Some x) × (q ≡ place)) (IsTreeAt d bytes limit depth_limit place x q) → MatchBool b ((global ≡ Some y) × (r ≡ place)) (IsTreeAt d bytes limit depth_limit place y r) →
       (x ≡ y) × (q ≡ r)
   one_tree true limit place x y q r h k = (same_config x y global h.0 k.0, h.1 ∙ sym k.1)
   one_tree false limit place x y q r h k =

@@ -14,7 +14,8 @@ use Rattle.jxlm_base.proofs.Outside.{keeps_all, keeps_both, keeps_wider, lies_st
 use Rattle.jxlm_base.proofs.Regions.{AreApart_sym, HasCell_at, at-grid_of}
 use Rattle.jxlm_encode_transform.specs.Inner.ColourRows.{AreCoded, AreSampleRows, triple_in as triple_of_rows}
 use Rattle.jxlm_encode_transform.proofs.Numbers.{below_next}
-use Rattle.jxlm_inverse.specs.Recoloured.{HaveOneSize, UndoesColour, triple_in}
+use Rattle.jxlm_inverse.specs.Recoloured.{HaveOneSize, UndoesColour}
+use Rattle.jxlm_inverse.proofs.Triples.{triple_in}
 use Rattle.jxlm_encode_transform.specs.Inner.Coded.{AreThree, CodedUntil, CodesRow, rows_of, triple_of}
 use Rattle.jxlm_encode_transform.proofs.Squeezed.{other_row, row_inside}
 

@@ -16,7 +16,8 @@ use Rattle.jxlm_base.proofs.Outside.{keeps_all, keeps_both, keeps_wider, lies_st
 use Rattle.jxlm_base.proofs.Regions.{AreApart_sym, HasCell_at, at-grid_of}
 use Rattle.jxlm_base.specs.SqueezedGrids.{AreGridSamples}
 use Rattle.jxlm_inverse.specs.Inner.ColourRows.{AreThree, triple_of, rows_of, PutsRow, FinishesRow, FinishedUntil}
-use Rattle.jxlm_inverse.specs.Recoloured.{triple_in, HaveOneSize, UndoesColour}
+use Rattle.jxlm_inverse.specs.Recoloured.{HaveOneSize, UndoesColour}
+use Rattle.jxlm_inverse.proofs.Triples.{triple_in}
 
 -- ---- rows of regions that share no cell
 

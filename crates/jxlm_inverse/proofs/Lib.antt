@@ -6,3 +6,4 @@ pub mod PaletteLaws
 pub mod PaletteRows
 pub mod PaletteSteps
 pub mod SqueezedRegions
+pub mod Triples

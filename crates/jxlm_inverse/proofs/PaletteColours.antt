@@ -11,7 +11,7 @@ use Rattle.std.proofs.lemmas.List.{get_or_past}
 use Rattle.std.proofs.lemmas.Int.{to_z-of_z, fits_signed_from_abs, fits_signed_mul, unsigned_abs-mul, ints}
 use Rattle.jxlm_base.specs.Grid.{Grid, at}
 use Rattle.jxlm_transform.specs.declared.transform.Palette.{Palette}
-use Rattle.jxlm_inverse.specs.Palette.{colour_index, colour_of, deltas, listed_difference, difference, implicit_colour}
+use Rattle.jxlm_inverse.specs.Palette.{colour_index, colour_of, deltas, listed_difference, implicit_colour}
 
 -- a number below a power has no digit there
 pub no_digit : (b c n j : ℕ) → 0 < b → n ≤ c → j < b ^ n → j / b ^ c % b ≡ 0
@@ -94,7 +94,7 @@ listed_none : (k c : ℕ) → 3 ≤ c → listed_difference k c ≡ pos 0
 unfolding listed_difference
 listed_none k c h = rw (no_fourth ((k % 143 + 1) / 2) c h) (either (k % 143 % 2 == 0) (pos 0))
 
-pub difference_none : (depth k c : ℕ) → 3 ≤ c → pos 0 ≡ difference depth k c
+pub difference_none : (depth k c : ℕ) → 3 ≤ c → pos 0 ≡ listed_difference k c *ℤ pos (2 ^ (min depth 24 - 8))
 difference_none depth k c h = sym (ap (λ d. d *ℤ pos (2 ^ (min depth 24 - 8))) (listed_none k c h) ∙ nothing (2 ^ (min depth 24 - 8)))
 
 -- a product of a difference and a step
@@ -113,10 +113,10 @@ true_is_not_false : true ≡ false → ⊥
 true_is_not_false h = cc
 
 module _ (depth : ℕ) (t : Palette) (table : Grid ℤ) (c : ℕ) where
-  pub colour_negative : (index : ℤ) (k : ℕ) → lt_z index (pos 0) ≡ true → k ≡ unsigned_abs index - 1 → difference depth k c ≡ colour_of depth t table index c
+  pub colour_negative : (index : ℤ) (k : ℕ) → lt_z index (pos 0) ≡ true → k ≡ unsigned_abs index - 1 → listed_difference k c *ℤ pos (2 ^ (min depth 24 - 8)) ≡ colour_of depth t table index c
   unfolding colour_of
   colour_negative (pos i) k h e = let below : i < 0 = grind (arith, nat_tests) in absurd (omega arith)
-  colour_negative (negsuc i) k h e = let same : k ≡ i = omega arith in ap (λ j. difference depth j c) same
+  colour_negative (negsuc i) k h e = let same : k ≡ i = omega arith in ap (λ j. listed_difference j c *ℤ pos (2 ^ (min depth 24 - 8))) same
 
   pub colour_listed : (index : ℤ) (n : ℕ) → lt_z index (pos 0) ≡ false → n ≡ unsigned_abs index → n < t.nb_colours → at table n c ≡ colour_of depth t table index c
   unfolding colour_of

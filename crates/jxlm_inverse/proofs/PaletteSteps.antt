@@ -1,6 +1,6 @@
 -- The steps of a palette's inverse: one sample more.
 use Rattle.std.proofs.Common.{◌≡◌, inl, inr, ℕ, suc, ◌+◌, ◌*◌, ◌/◌, ◌^◌, ◌<◌, ◌≤◌, List, [], ◌∷◌, ◌++◌, length, sym, refl, ap, ◌∙◌, subst, arith, ℤ, pos, negsuc, ◌+ℤ◌}
-use Rattle.std.specs.Prelude.{get_or, take, slice_set, unsigned_abs, if◌then◌else◌}
+use Rattle.std.specs.Prelude.{get_or, take, slice_set, unsigned_abs, if◌then◌else◌, int_lt}
 use Rattle.std.specs.Int.{Width, int_wrap}
 use Rattle.std.proofs.lemmas.Bool.Decides.{nat_tests}
 use Rattle.std.proofs.lemmas.List.{take_more_set, get_or-set_other, length-append}
@@ -18,7 +18,7 @@ use Rattle.jxlm_transform.specs.declared.transform.Palette.{Palette}
 use Rattle.jxlm_inverse.specs.declared.palette.FinishedChannel.{FinishedChannel}
 use Rattle.jxlm_inverse.proofs.PaletteLaws.{is_finished}
 use Rattle.jxlm_predictor.specs.Predictions.{prediction}
-use Rattle.jxlm_inverse.specs.Palette.{finished_channel, finished_sample, finished_samples, is_delta, colour_index, colour_of}
+use Rattle.jxlm_inverse.specs.Palette.{finished_channel, finished_sample, finished_samples, colour_index, colour_of}
 use Rattle.jxlm_inverse.specs.Inner.PaletteSteps.{ChannelLies, SetsSample, StillToCome, Filled, FillsOn, FillsOnBy, IsSimpleIndex, StandsBefore, kept, looked_up, table_in, index_in}
 
 -- ---- indices of the table that are no deltas
@@ -236,8 +236,8 @@ is_ready t width height x y state store stands px py few =
 
 -- the finished sample of an index of this colour
 pub finished_is : (w : Width) (depth : ℕ) (t : Palette) (table : Grid ℤ) (i j : ℤ) (c : ℕ) (before : List ℤ) (width : ℕ) (colour : ℤ) → j ≡ colour_index t i → colour ≡ colour_of depth t table j c →
-    int_wrap w (if is_delta t j then colour +ℤ prediction t.wp_header before width t.d_pred else colour) ≡ finished_sample w depth t table i c before width
+    int_wrap w (if int_lt j (pos t.nb_deltas) then colour +ℤ prediction t.wp_header before width t.d_pred else colour) ≡ finished_sample w depth t table i c before width
 unfolding finished_sample
 finished_is w depth t table i j c before width colour f e =
-    ap (λ z. int_wrap w (if is_delta t j then z +ℤ prediction t.wp_header before width t.d_pred else z)) e
-    ∙ ap (λ k. int_wrap w (if is_delta t k then colour_of depth t table k c +ℤ prediction t.wp_header before width t.d_pred else colour_of depth t table k c)) f
+    ap (λ z. int_wrap w (if int_lt j (pos t.nb_deltas) then z +ℤ prediction t.wp_header before width t.d_pred else z)) e
+    ∙ ap (λ k. int_wrap w (if int_lt k (pos t.nb_deltas) then colour_of depth t table k c +ℤ prediction t.wp_header before width t.d_pred else colour_of depth t table k c)) f

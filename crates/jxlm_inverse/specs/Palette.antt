@@ -1,5 +1,5 @@
 -- Palettes (ISO/IEC 18181-1, Modular: inverse palette, its implicit colours and its table of deltas).
-use Rattle.std.specs.Prelude.{◌≡◌, ◌⊎◌, ℕ, zero, suc, ◌+◌, ◌-◌, ◌*◌, ◌/◌, ◌%◌, ◌^◌, ◌<◌, List, [], ◌∷◌, ◌++◌, length, take, map, get_or, Bool, nat_lt, min, ◌==◌, ◌&&◌, not, if◌then◌else◌, ℤ, pos, negsuc, ◌+ℤ◌, ◌-ℤ◌, ◌*ℤ◌, neg_ℤ, int_lt}
+use Rattle.std.specs.Prelude.{◌≡◌, ◌⊎◌, ℕ, zero, suc, ◌+◌, ◌-◌, ◌*◌, ◌/◌, ◌%◌, ◌^◌, ◌<◌, List, [], ◌∷◌, ◌++◌, length, take, map, get_or, nat_lt, min, ◌==◌, ◌&&◌, not, if◌then◌else◌, ℤ, pos, negsuc, ◌+ℤ◌, ◌-ℤ◌, ◌*ℤ◌, neg_ℤ, int_lt}
 use Rattle.std.specs.List.{All}
 use Rattle.std.specs.Int.{Width, int_wrap}
 use Rattle.jxlm_base.specs.Grid.{Grid, grid, at, place, below}
@@ -45,24 +45,16 @@ listed_difference k c =
     let d : ℤ = get_or (get_or deltas ((i + 1) / 2) []) c (pos 0) in
     if i % 2 == 0 then neg_ℤ d else d
 
--- the same at any depth: deeper samples, up to 24 bits, take larger steps
-abbrev pub difference : ℕ → ℕ → ℕ → ℤ
-difference depth k c = listed_difference k c *ℤ pos (2 ^ (min depth 24 - 8))
-
 -- implicit colour j in channel c, by a digit of j: 64 of 4 levels a channel, raised by an eighth, then others of 5
 unfoldable pub implicit_colour : ℕ → ℕ → ℕ → ℕ
 implicit_colour depth j c =
     let most : ℕ = 2 ^ depth - 1 in
     if nat_lt j 64 then (j / 4 ^ c % 4) * most / 4 + 2 ^ (depth - 3) else ((j - 64) / 5 ^ c % 5) * most / 4
 
--- the colour of an index in channel c: one of the table, an implicit one, or a difference
+-- the colour of an index in channel c: of the table, implicit, or a difference, whose step grows with depths 8 to 24
 unfoldable pub colour_of : ℕ → Palette → Grid ℤ → ℤ → ℕ → ℤ
 colour_of depth t table (pos i) c = if nat_lt i t.nb_colours then at table i c else pos (implicit_colour depth (i - t.nb_colours) c)
-colour_of depth t table (negsuc k) c = difference depth k c
-
--- an index that names a delta, to which the prediction is added
-abbrev pub is_delta : Palette → ℤ → Bool
-is_delta t i = int_lt i (pos t.nb_deltas)
+colour_of depth t table (negsuc k) c = listed_difference k c *ℤ pos (2 ^ (min depth 24 - 8))
 
 -- The index whose colour is taken. If the palette clamps indices, it is the nearest one from 0 to nb_colours - 1, and 0
 -- for a negative one, also if there are no colours.
@@ -72,12 +64,12 @@ colour_index t (negsuc k) = if t.clamps_indices then pos 0 else negsuc k
 
 -- w bits a sample in memory, depth bits in the picture
 module _ (w : Width) (depth : ℕ) (t : Palette) (table : Grid ℤ) where
-  -- the finished sample of index i in channel c, after these samples of the channel, which is so wide
+  -- the sample of index i in channel c of this width, after these: its colour, and below nb_deltas the prediction added
   unfoldable pub finished_sample : ℤ → ℕ → List ℤ → ℕ → ℤ
   finished_sample i c before width =
       let j : ℤ = colour_index t i in
       let colour : ℤ = colour_of depth t table j c in
-      int_wrap w (if is_delta t j then colour +ℤ prediction t.wp_header before width t.d_pred else colour)
+      int_wrap w (if int_lt j (pos t.nb_deltas) then colour +ℤ prediction t.wp_header before width t.d_pred else colour)
 
   -- the finished channels have the index channel's sides, and each cell the finished sample of its index, row by row
   pub record IsPaletteOf (index : Grid ℤ) (finished : List (Grid ℤ)) : Type 0 where

@@ -8,14 +8,11 @@ use Rattle.jxlm_base.specs.Regions.{grid_of}
 use Rattle.jxlm_base.specs.SqueezedGrids.{AreGridSamples}
 use Rattle.jxlm_base.specs.declared.subgrid.Region.{Region}
 
--- the triple in column x of row y of three grids
-abbrev pub triple_in : Grid ℤ → Grid ℤ → Grid ℤ → ℕ → ℕ → Triple
-triple_in f g h x y = triple (at f x y) (at g x y) (at h x y)
-
 -- three grids of one size, coded sample by sample
 abbrev pub recolour : Width → ℕ → List (Grid ℤ) → List (Grid ℤ)
 recolour w kind (f ∷ g ∷ h ∷ []) =
-    let part : (Triple → ℤ) → Grid ℤ = λ p. grid_by f.width f.height (λ x y. p (coded_triple w kind (triple_in f g h x y))) in
+    let coded : ℕ → ℕ → Triple = λ x y. coded_triple w kind (triple (at f x y) (at g x y) (at h x y)) in
+    let part : (Triple → ℤ) → Grid ℤ = λ p. grid_by f.width f.height (λ x y. p (coded x y)) in
     part (λ t. t.first) ∷ part (λ t. t.second) ∷ part (λ t. t.third) ∷ []
 recolour w kind gs = gs
 

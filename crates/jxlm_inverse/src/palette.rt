@@ -1,6 +1,6 @@
 //! The inverse of palettes: indices become colours again.
 
-ghost use Rattle.std.specs.Prelude.{◌≡◌, ◌+◌, ◌-◌, ◌*◌, ◌/◌, ◌%◌, ◌^◌, ◌<◌, ◌≤◌, ◌↔◌, IsTrue, ℕ, ℤ, pos, ◌+ℤ◌, if◌then◌else◌, unsigned_abs, List, [], ◌∷◌, ◌++◌, get_or, length, take, drop, map, min, FitsSigned, IfOk, IfErr};
+ghost use Rattle.std.specs.Prelude.{◌≡◌, ◌+◌, ◌-◌, ◌*◌, ◌/◌, ◌%◌, ◌^◌, ◌<◌, ◌≤◌, ◌↔◌, IsTrue, ℕ, ℤ, pos, int_lt, ◌+ℤ◌, ◌*ℤ◌, if◌then◌else◌, unsigned_abs, List, [], ◌∷◌, ◌++◌, get_or, length, take, drop, map, min, FitsSigned, IfOk, IfErr};
 ghost use Rattle.std.specs.Option.{ForSome};
 ghost use Rattle.jxlm_bits.specs.ErrorKind.{NoMemory, kind_of};
 ghost use Rattle.jxlm_predictor.specs.Holding.{IsCurrent};
@@ -11,7 +11,7 @@ ghost use Rattle.jxlm_base.specs.Regions.{Lies, grid_of, store_meanings};
 ghost use Rattle.jxlm_base.specs.Outside.{KeepsOutside, SetsRow};
 ghost use Rattle.jxlm_predictor.specs.Predictions.{prediction};
 ghost use Rattle.jxlm_predictor.specs.Standing.{Setting, StandsAt, IsReady, HasSameRoom, room_of, setting, weights_of};
-ghost use Rattle.jxlm_inverse.specs.Palette.{colour_index as the_colour_index, colour_of, deltas, difference, implicit_colour, is_delta, listed_difference, finished_channel, IsPaletteOf, PaletteHasOneImage, PaletteLies};
+ghost use Rattle.jxlm_inverse.specs.Palette.{colour_index as the_colour_index, colour_of, deltas, implicit_colour, listed_difference, finished_channel, IsPaletteOf, PaletteHasOneImage, PaletteLies};
 ghost use Rattle.jxlm_inverse.specs.Inner.PaletteSteps.{ChannelLies, ChannelsDone, channel_at, columns_of, FillsOn, FillsOnBy, AreSimple, IsSimple, IsSimpleIndex, IsSimpleRow, SetsNext, StandsBefore, StandsNext, index_in, kept, number_of, table_in};
 
 use jxlm_base::grid::{AlignedGrid, Region};
@@ -198,7 +198,7 @@ fn delta_step(depth: u32) -> i64
 
 /// The difference that index -k - 1 names in channel `c`.
 fn difference(depth: u32, k: u32, c: usize) -> i64
-    ensures value { result ≡ difference depth k c }
+    ensures value { result ≡ listed_difference k c *ℤ pos (2 ^ (min depth 24 - 8)) }
     ensures bound { unsigned_abs result < 2 ^ 24 }
 {
     if c >= 3 {
@@ -329,7 +329,7 @@ fn colour<S: Sample>(
 /// A colour, plus the prediction where its index is a delta.
 fn raised(palette: &Palette, index: i32, colour: i64, predicted: i32) -> i64
     requires { unsigned_abs colour < 2 ^ 34 }
-    ensures { result ≡ if is_delta palette.now index then colour +ℤ predicted else colour }
+    ensures { result ≡ if int_lt index (pos palette.now.nb_deltas) then colour +ℤ predicted else colour }
 {
     if (index as i64) < palette.nb_deltas as i64 {
         colour + predicted as i64
@@ -349,7 +349,7 @@ fn sampled<S: Sample>(
     requires current { IsCurrent properties }
     requires small { unsigned_abs colour < 2 ^ 34 }
     ensures value { (s : Setting) (samples : List ℤ) → StandsAt properties.entry.state.now s samples
-        → S.to_int result ≡ int_wrap S.width (if is_delta palette.now index then colour
+        → S.to_int result ≡ int_wrap S.width (if int_lt index (pos palette.now.nb_deltas) then colour
         +ℤ prediction s.weights samples s.width palette.now.d_pred else colour) }
     ensures stands { (s : Setting) (samples : List ℤ) → StandsAt properties.entry.state.now s samples
         → StandsAt properties.exit.0.now s (samples ++ S.to_int result ∷ []) }
@@ -372,7 +372,7 @@ fn next_sample<S: Sample>(
     requires ready { IsReady state.old store.now }
     requires small { unsigned_abs colour < 2 ^ 34 }
     ensures value { (s : Setting) (samples : List ℤ) → StandsAt state.old s samples → S.to_int result
-        ≡ int_wrap S.width (if is_delta palette.now index then colour +ℤ prediction s.weights samples s.width
+        ≡ int_wrap S.width (if int_lt index (pos palette.now.nb_deltas) then colour +ℤ prediction s.weights samples s.width
         palette.now.d_pred else colour) }
     ensures stands { (s : Setting) (samples : List ℤ) → StandsAt state.old s samples → StandsAt state.new s
         (samples ++ S.to_int result ∷ []) }

@@ -15,6 +15,7 @@ ghost use Rattle.jxlm_nested.specs.NestedParts.{CanFill, head_of, nested_channel
 ghost use Rattle.jxlm_nested.specs.Starts.{coded_part};
 
 use crate::nested::NestedPart;
+use crate::stream::Stream;
 use jxlm_base::grid::AlignedGrid;
 use jxlm_base::sample::Sample;
 use jxlm_bits::bits::Bitstream;
@@ -52,17 +53,17 @@ impl<D: Decoder> NestedPart<D> {
         alloc: Global,
         bits: &mut Bitstream<'_>,
         store: &mut [AlignedGrid<S>],
-        stream_index: u32,
-        allow_partial: bool,
+        stream: Stream,
         partial: &mut bool,
         steps: &mut Steps,
     ) -> Result<()>
         requires { CanFill self.now store.old }
         ensures answers { (tried : ℕ) × DecodeGives D.meaning S.width
-            (coded_part stream_index (head_of self.now) self.now.config) (bytes_of bits.old) self.now.config.decoder
+            (coded_part stream.index (head_of self.now) self.now.config) (bytes_of bits.old) self.now.config.decoder
             (standing_in S.to_int (regions_in self.now) store.old (position_of bits.old) partial.old)
             (standing_in S.to_int (regions_in self.now) store.new (position_of bits.new) partial.new)
-            allow_partial result tried × MovesWithin steps.old steps.new (tried * most_steps self.now.config.tree) }
+            stream.allow_partial result tried
+            × MovesWithin steps.old steps.new (tried * most_steps self.now.config.tree) }
         ensures keeps { KeepsOutside (regions_in self.now) store.old store.new }
         ensures bytes { bytes_of bits.new ≡ bytes_of bits.old }
     {
@@ -70,9 +71,9 @@ impl<D: Decoder> NestedPart<D> {
             channels: &self.placed.channels.placed,
             config: &self.config,
             weights: self.header.wp_params,
-            stream_index,
+            stream_index: stream.index,
         };
-        part.decode(alloc, bits, store, allow_partial, partial, steps)
+        part.decode(alloc, bits, store, stream.allow_partial, partial, steps)
     }
 
     /// Decodes all samples of its coded channels, whose tables, and those of headers around it, are moved to the end of
@@ -90,19 +91,19 @@ impl<D: Decoder> NestedPart<D> {
         bits: &mut Bitstream<'_>,
         store: &mut Vec<AlignedGrid<S>>,
         tables: &mut Vec<AlignedGrid<S>>,
-        stream_index: u32,
-        allow_partial: bool,
+        stream: Stream,
         partial: &mut bool,
         steps: &mut Steps,
     ) -> Result<()>
         requires { CanFill self.now (store.old.items ++ tables.old.items) }
         ensures answers { (tried : ℕ) × DecodeGives D.meaning S.width
-            (coded_part stream_index (head_of self.now) self.now.config) (bytes_of bits.old) self.now.config.decoder
+            (coded_part stream.index (head_of self.now) self.now.config) (bytes_of bits.old) self.now.config.decoder
             (standing_in S.to_int (regions_in self.now) (store.old.items ++ tables.old.items) (position_of bits.old)
             partial.old)
             (standing_in S.to_int (regions_in self.now) (store.new.items ++ tables.new.items) (position_of bits.new)
             partial.new)
-            allow_partial result tried × MovesWithin steps.old steps.new (tried * most_steps self.now.config.tree) }
+            stream.allow_partial result tried
+            × MovesWithin steps.old steps.new (tried * most_steps self.now.config.tree) }
         ensures empty { cell_count (nested_channels self.now) ≡ 0 → IsOk result }
         ensures keeps { KeepsOutside (regions_in self.now) (store.old.items ++ tables.old.items)
             (store.new.items ++ tables.new.items) }
@@ -115,15 +116,7 @@ impl<D: Decoder> NestedPart<D> {
         }
         let own = store.len();
         store.append(tables)?;
-        let result = self.decode_placed(
-            alloc,
-            bits,
-            store,
-            stream_index,
-            allow_partial,
-            partial,
-            steps,
-        );
+        let result = self.decode_placed(alloc, bits, store, stream, partial, steps);
         move_back(store, tables, own);
         result
     }

@@ -5,3 +5,4 @@
 mod held;
 pub mod nested;
 pub mod opening;
+pub mod stream;

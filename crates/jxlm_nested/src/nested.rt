@@ -16,6 +16,7 @@ ghost use Rattle.jxlm_nested.specs.NestedParts.{CanFill, DecodesTo, Fills, Fills
 ghost use Rattle.jxlm_nested.specs.Starts.{IsTreeErrorAt, opening_at};
 
 use crate::opening::{open, tree_of};
+use crate::stream::Stream;
 use jxlm_base::grid::{AlignedGrid, Region};
 use jxlm_base::sample::Sample;
 use jxlm_bits::bits::Bitstream;
@@ -110,13 +111,12 @@ impl<D: Decoder> NestedPart<D> {
         alloc: Global,
         bits: &mut Bitstream<'_>,
         store: &mut [AlignedGrid<S>],
-        stream_index: u32,
-        allow_partial: bool,
+        stream: Stream,
         steps: &mut Steps,
     ) -> Result<bool>
         requires { CanFill self.now store.old }
-        ensures gives { WithSteps (λ t. DecodesTo D.meaning S.width S.to_int (bytes_of bits.old) stream_index
-            (position_of bits.old) self.now allow_partial result t store.old store.new) (position_of bits.new)
+        ensures gives { WithSteps (λ t. DecodesTo D.meaning S.width S.to_int (bytes_of bits.old) stream.index
+            (position_of bits.old) self.now stream.allow_partial result t store.old store.new) (position_of bits.new)
             steps.old steps.new }
         ensures bytes { bytes_of bits.new ≡ bytes_of bits.old }
     {
@@ -124,10 +124,17 @@ impl<D: Decoder> NestedPart<D> {
             channels: &self.placed.channels.placed,
             config: &self.config,
             weights: self.header.wp_params,
-            stream_index,
+            stream_index: stream.index,
         };
         let mut partial = part.has_samples();
-        part.decode(alloc, bits, store, allow_partial, &mut partial, steps)?;
+        part.decode(
+            alloc,
+            bits,
+            store,
+            stream.allow_partial,
+            &mut partial,
+            steps,
+        )?;
         Ok(!partial)
     }
 
@@ -159,18 +166,17 @@ impl<D: Decoder> NestedPart<D> {
         bits: &mut Bitstream<'_>,
         store: &mut [AlignedGrid<S>],
         bit_depth: u32,
-        stream_index: u32,
-        allow_partial: bool,
+        stream: Stream,
         steps: &mut Steps,
     ) -> Result<bool>
         requires can { CanFill self.now store.old }
         requires deep { bit_depth ≤ 32 }
-        ensures gives { WithSteps (λ t. Fills D.meaning S.width S.to_int (bytes_of bits.old) stream_index
-            (position_of bits.old) self.now allow_partial bit_depth result t store.old store.new)
+        ensures gives { WithSteps (λ t. Fills D.meaning S.width S.to_int (bytes_of bits.old) stream.index
+            (position_of bits.old) self.now stream.allow_partial bit_depth result t store.old store.new)
             (position_of bits.new) steps.old steps.new }
         ensures bytes { bytes_of bits.new ≡ bytes_of bits.old }
     {
-        let whole = self.decode_samples(alloc, bits, store, stream_index, allow_partial, steps)?;
+        let whole = self.decode_samples(alloc, bits, store, stream, steps)?;
         self.undo(alloc, store, bit_depth)?;
         Ok(whole)
     }
@@ -188,28 +194,19 @@ impl<D: Decoder> NestedPart<D> {
         bits: &mut Bitstream<'_>,
         store: &mut Vec<AlignedGrid<S>>,
         bit_depth: u32,
-        stream_index: u32,
-        allow_partial: bool,
+        stream: Stream,
         steps: &mut Steps,
     ) -> Result<bool>
         requires can { CanFill self.now (with_own_tables (S.from_int (pos 0)) self.now store.old.items) }
         requires deep { bit_depth ≤ 32 }
-        ensures gives { WithSteps (λ t. FillsIn D.meaning S.width S.to_int (bytes_of bits.old) stream_index
-            (position_of bits.old) self.now allow_partial (S.from_int (pos 0)) bit_depth result t
+        ensures gives { WithSteps (λ t. FillsIn D.meaning S.width S.to_int (bytes_of bits.old) stream.index
+            (position_of bits.old) self.now stream.allow_partial (S.from_int (pos 0)) bit_depth result t
             store.old.items store.new.items) (position_of bits.new) steps.old steps.new }
         ensures bytes { bytes_of bits.new ≡ bytes_of bits.old }
     {
         let own = store.len();
         let result = match add_tables(alloc, store, &self.placed.tables) {
-            Ok(()) => self.fill(
-                alloc,
-                bits,
-                store,
-                bit_depth,
-                stream_index,
-                allow_partial,
-                steps,
-            ),
+            Ok(()) => self.fill(alloc, bits, store, bit_depth, stream, steps),
             Err(e) => Err(e),
         };
         store.truncate(own);

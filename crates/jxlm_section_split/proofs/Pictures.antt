@@ -32,11 +32,11 @@ use Rattle.jxl_modular.specs.Sections.{AllTurn, AreDecoded, IsComplete, Sections
 use Rattle.jxl_modular.specs.declared.sections.Section.{Section}
 use Rattle.jxl_modular.specs.declared.root.Modular.{Modular}
 use Rattle.jxlm_section_split.specs.CutErrors.{CutPictureFails, EndsEarly, FirstTruncated, GroupTruncated, HeaderStands, IsSplit, IsTruncated, NoGroups, NoHeader, NoSamples, begun}
-use Rattle.jxlm_section_split.specs.CutPicture.{AreNumbered, IsCutPicture, IsCutPictureLeft, IsCutPictureRead, StandBefore, groups_in_order, in_a_row, one_pass, with_length}
+use Rattle.jxlm_section_split.specs.CutPicture.{AreNumbered, IsCutPicture, IsCutPictureLeft, IsCutPictureRead, StandBefore, groups_in_order, one_pass, with_length}
 use Rattle.jxlm_section_split.specs.Splitting.{AreRead, ReadingFails}
 use Rattle.jxlm_section_split.proofs.OnePass.{complete, exist, unlike}
 use Rattle.jxlm_section_split.proofs.Openings.{StepsOf, opened_steps}
-use Rattle.jxlm_section_split.proofs.SectionRows.{all_numbered}
+use Rattle.jxlm_section_split.proofs.SectionRows.{all_numbered, in_a_row}
 use Rattle.jxlm_section_split.proofs.Whole.{all_whole}
 use Rattle.jxlm_section_split.proofs.WithoutStore.{decoded_alone}
 use Rattle.std.proofs.Common.{append_assoc}

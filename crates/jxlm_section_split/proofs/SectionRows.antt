@@ -1,7 +1,7 @@
 -- Sections in a row: one that is split off, and one more behind others.
 use Rattle.std.proofs.Common.{◌≡◌, ℕ, zero, suc, ◌+◌, ◌-◌, ◌<◌, ◌≤◌, ◌^◌, ◌⊎◌, inl, inr, List, [], ◌∷◌, ◌++◌, length, map, take, drop, get_or, Bool, true, false, cond, nat_lt, IsTrue, refl, sym, ap, ◌∙◌, subst, arith, append_assoc, length-append}
 use Rattle.std.specs.Int.{w32, to_le_bytes, from_le_bytes}
-use Rattle.std.specs.List.{All, IsSplitAt, filter, range_with_len}
+use Rattle.std.specs.List.{All, IsSplitAt, filter, flat_map, range_with_len}
 use Rattle.std.proofs.lemmas.List.{append-nil, length-take-le, map-append, get_or_append_left, get_or-append_right}
 use Rattle.std.proofs.lemmas.List.Concat.{flat_map-append}
 use Rattle.std.proofs.lemmas.List.Elements.{All-append}
@@ -15,7 +15,7 @@ use Rattle.jxlm_groups.specs.declared.part.SectionPart.{SectionPart}
 use Rattle.jxlm_groups.specs.declared.pass.Pass.{Pass}
 use Rattle.jxl_modular.specs.Image.{Image, coded_list}
 use Rattle.jxl_modular.specs.declared.sections.Section.{Section}
-use Rattle.jxlm_section_split.specs.CutPicture.{AreNumbered, StandBefore, groups_in_order, in_a_row, lf_groups, one_pass, pass_groups, with_length, with_samples}
+use Rattle.jxlm_section_split.specs.CutPicture.{AreNumbered, StandBefore, groups_in_order, lf_groups, one_pass, pass_groups, with_length, with_samples}
 use Rattle.std.specs.Prelude.{IsFalse}
 use Rattle.std.proofs.lemmas.List.{length-map}
 use Rattle.jxlm_bits.specs.ErrorKind.{BadSqueeze, Eof, kind_of}
@@ -25,6 +25,10 @@ use Rattle.jxlm_transform.proofs.Failures.{unless_so}
 use Rattle.jxlm_section_split.specs.CutErrors.{EndsEarly, IsSplit, IsTruncated}
 use Rattle.jxlm_section_split.specs.Splitting.{AreAdded, AreOfGroups, IsOfGlobal, IsOfGroup, ReadingFails}
 use Rattle.jxlm_section_split.specs.Inner.Added.{AddingFails}
+
+-- the bytes of sections in a row
+abbrev pub in_a_row : List Section → List ℕ
+in_a_row sections = flat_map (λ s. with_length (bytes_of s.bits)) sections
 
 -- ---- one section
 

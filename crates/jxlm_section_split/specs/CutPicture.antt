@@ -51,12 +51,9 @@ groups_in_order x =
 abbrev pub with_length : List ℕ → List ℕ
 with_length bytes = to_le_bytes w32 (length bytes) ++ bytes
 
-abbrev pub in_a_row : List Section → List ℕ
-in_a_row sections = flat_map (λ s. with_length (bytes_of s.bits)) sections
-
 -- The sections stand at the start of the bytes, and these others come after them.
 pub record StandBefore (bytes : List ℕ) (sections : List Section) (rest : List ℕ) : Type 0 where
-  pub row : bytes ≡ in_a_row sections ++ rest
+  pub row : bytes ≡ flat_map (λ s. with_length (bytes_of s.bits)) sections ++ rest
   pub fit : All (λ s. length (bytes_of s.bits) < 2 ^ 32) sections
 
 -- Section n has the stream index n; the first has no header of its own, and each other begins with one.

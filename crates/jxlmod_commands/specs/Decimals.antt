@@ -2,13 +2,9 @@
 use Rattle.std.specs.Prelude.{◌≡◌, ℕ, ◌+◌, ◌-◌, ◌*◌, ◌^◌, ◌<◌, List, [], ◌∷◌, length, slice_index, EachIndex}
 use Rattle.std.specs.Int.{IsInRange}
 
--- each byte is one of the digits 0 to 9
-abbrev pub IsOfDigits : List ℕ → Type 0
-IsOfDigits text = EachIndex text (λ k. IsInRange 48 57 (slice_index text k))
-
--- one digit or more, and nothing else
+-- one digit from 0 to 9 or more, and nothing else
 abbrev pub IsDecimal : List ℕ → Type 0
-IsDecimal text = (0 < length text) × IsOfDigits text
+IsDecimal text = (0 < length text) × EachIndex text (λ k. IsInRange 48 57 (slice_index text k))
 
 -- what digits write together: the sum of each digit times ten to the power of how many digits come after it
 abbrev pub decimal_value : List ℕ → ℕ

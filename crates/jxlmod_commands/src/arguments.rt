@@ -1,9 +1,10 @@
 //! What the arguments ask for.
-ghost use Rattle.std.specs.Prelude.{◌≡◌, ◌<◌, ◌↔◌, ◌^◌, IsTrue, MatchOption, codes, map, string_bytes};
+ghost use Rattle.std.specs.Prelude.{◌≡◌, ◌<◌, ◌↔◌, ◌^◌, EachIndex, IsTrue, MatchOption, codes, map, slice_index, string_bytes};
+ghost use Rattle.std.specs.Int.{IsInRange};
 ghost use Rattle.std.specs.Option.{SomeIff};
 ghost use Rattle.jxlm_transform.specs.Params.{IsGroupDim};
 ghost use Rattle.jxlmod_commands.specs.Arguments.{ArePossible};
-ghost use Rattle.jxlmod_commands.specs.Decimals.{IsDecimal, IsOfDigits, decimal_value};
+ghost use Rattle.jxlmod_commands.specs.Decimals.{IsDecimal, decimal_value};
 
 /// What is printed for wrong arguments.
 pub const USAGE: &str = "usage: jxlmod decode W H N BITS i16|i32 | \
@@ -96,7 +97,7 @@ pub fn number(text: &str) -> Option<u32>
 }
 
 fn has_only_digits(text: &str) -> bool
-    ensures { IsTrue result ↔ IsOfDigits text.now }
+    ensures { IsTrue result ↔ EachIndex text.now (λ k. IsInRange 48 57 (slice_index text.now k)) }
 {
     text.bytes().all(|c| c.is_ascii_digit())
 }

@@ -16,6 +16,7 @@ use jxlm_groups::part::{Kind, SectionPart};
 use jxlm_groups::pass::{Pass, passes};
 use jxlm_groups::pieces::{has_pieces, pieces};
 use jxlm_nested::nested::NestedPart;
+use jxlm_nested::stream::Stream;
 use jxlm_samples::part::PlacedPart;
 use jxlm_tree::flat::Steps;
 use jxlm_tree::ma::MaConfig;
@@ -113,14 +114,13 @@ impl<S: Sample, D: Decoder> ModularImageDestination<S, D> {
         bits: &mut Bitstream<'_>,
         passes: &[Pass],
         part: SectionPart,
-        stream_index: u32,
-        allow_partial: bool,
+        stream: Stream,
         partial: &mut bool,
         steps: &mut Steps,
     ) -> Result<()>
-        ensures gives { PartOfGives D.meaning S.width S.to_int (bytes_of bits.old) stream_index passes.now part
+        ensures gives { PartOfGives D.meaning S.width S.to_int (bytes_of bits.old) stream.index passes.now part
             self.old (position_of bits.old) partial.old steps.old
-            self.new (position_of bits.new) partial.new steps.new allow_partial result }
+            self.new (position_of bits.new) partial.new steps.new stream.allow_partial result }
         ensures same { SameButIn (held_in self.old passes.now part) self.old self.new }
         ensures laid { IsLaidOut self.old }
         ensures bytes { bytes_of bits.new ≡ bytes_of bits.old }
@@ -130,9 +130,16 @@ impl<S: Sample, D: Decoder> ModularImageDestination<S, D> {
             channels: &pieces,
             config: &self.ma_ctx,
             weights: self.header.wp_params,
-            stream_index,
+            stream_index: stream.index,
         };
-        placed.decode(alloc, bits, &mut self.store, allow_partial, partial, steps)
+        placed.decode(
+            alloc,
+            bits,
+            &mut self.store,
+            stream.allow_partial,
+            partial,
+            steps,
+        )
     }
 
     /// Reads a part's own header and tree, decodes its samples and undoes its transforms. It returns whether all
@@ -143,28 +150,19 @@ impl<S: Sample, D: Decoder> ModularImageDestination<S, D> {
         bits: &mut Bitstream<'_>,
         passes: &[Pass],
         part: SectionPart,
-        stream_index: u32,
+        stream: Stream,
         global: Option<&MaConfig<D>>,
-        allow_partial: bool,
         steps: &mut Steps,
     ) -> Result<bool>
         ensures gives { NestedGives D.meaning S.width S.to_int (S.from_int (pos 0)) self.old passes.now
-            (option_copied global.entry) (bytes_of bits.old) (position_of bits.old) part stream_index allow_partial
-            result self.old.store self.new.store (position_of bits.new) steps.old steps.new }
+            (option_copied global.entry) (bytes_of bits.old) (position_of bits.old) part stream.index
+            stream.allow_partial result self.old.store self.new.store (position_of bits.new) steps.old steps.new }
         ensures bytes { bytes_of bits.new ≡ bytes_of bits.old }
         ensures same { SameButIn (held_in self.old passes.now part) self.old self.new }
         ensures laid { IsLaidOut self.old }
     {
         let pieces = pieces(alloc, &self.coded, self.group_dim, passes, part)?;
         let nested = NestedPart::parse(alloc, bits, pieces, self.store.len(), global)?;
-        nested.decode(
-            alloc,
-            bits,
-            &mut self.store,
-            self.bit_depth,
-            stream_index,
-            allow_partial,
-            steps,
-        )
+        nested.decode(alloc, bits, &mut self.store, self.bit_depth, stream, steps)
     }
 }

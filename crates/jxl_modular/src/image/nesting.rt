@@ -18,6 +18,7 @@ use jxlm_groups::part::SectionPart;
 use jxlm_groups::pass::Pass;
 use jxlm_groups::pieces::pieces;
 use jxlm_nested::nested::{NestedPart, add_tables};
+use jxlm_nested::stream::Stream;
 use jxlm_transform::channels::PlacedChannel;
 use jxlm_tree::flat::Steps;
 use jxlm_tree::ma::MaConfig;
@@ -134,15 +135,14 @@ impl<S: Sample, D: Decoder> ModularImageDestination<S, D> {
         alloc: Global,
         bits: &mut Bitstream<'_>,
         header: &mut NestedHeader<S, D>,
-        stream_index: u32,
-        allow_partial: bool,
+        stream: Stream,
         partial: &mut bool,
         steps: &mut Steps,
     ) -> Result<()>
         requires { StandsIn header.old self.old }
-        ensures gives { LayerGives D.meaning S.width S.to_int (bytes_of bits.old) stream_index header.old
+        ensures gives { LayerGives D.meaning S.width S.to_int (bytes_of bits.old) stream.index header.old
             self.old (position_of bits.old) partial.old steps.old header.new
-            self.new (position_of bits.new) partial.new steps.new allow_partial result }
+            self.new (position_of bits.new) partial.new steps.new stream.allow_partial result }
         ensures empty { cell_count (coded_channels header.old) ≡ 0 → IsOk result }
         ensures same { SameButPart header.old header.new self.old self.new }
         ensures stands { StandsIn header.new self.new }
@@ -154,8 +154,7 @@ impl<S: Sample, D: Decoder> ModularImageDestination<S, D> {
             bits,
             &mut self.store,
             &mut header.tables,
-            stream_index,
-            allow_partial,
+            stream,
             partial,
             steps,
         )

@@ -10,6 +10,7 @@ use jxlm_base::sample::Sample;
 use jxlm_bits::decoder::Decoder;
 use jxlm_bits::error::Result;
 use jxlm_groups::pass::Pass;
+use jxlm_nested::stream::Stream;
 use jxlm_tree::flat::Steps;
 use jxlm_tree::ma::MaConfig;
 use std::alloc::Global;
@@ -34,13 +35,16 @@ impl<S: Sample, D: Decoder> ModularImageDestination<S, D> {
     {
         let mut bits = section.bits;
         let mut partial = self.part_has_samples(passes, section.part);
+        let stream = Stream {
+            index: section.stream_index,
+            allow_partial,
+        };
         self.decode_part(
             alloc,
             &mut bits,
             passes,
             section.part,
-            section.stream_index,
-            allow_partial,
+            stream,
             &mut partial,
             steps,
         )?;
@@ -64,14 +68,17 @@ impl<S: Sample, D: Decoder> ModularImageDestination<S, D> {
     {
         if section.nested {
             let mut bits = section.bits;
+            let stream = Stream {
+                index: section.stream_index,
+                allow_partial,
+            };
             self.decode_nested(
                 alloc,
                 &mut bits,
                 passes,
                 section.part,
-                section.stream_index,
+                stream,
                 global,
-                allow_partial,
                 steps,
             )
         } else {

@@ -1,15 +1,16 @@
-use Rattle.std.proofs.Common.{◌≡◌, ◌++◌, List, ℕ, true, subst, sym}
+use Rattle.std.proofs.Common.{◌≡◌, ◌++◌, List, [], ℕ, true, subst, sym}
 use Rattle.jxlm_bit_writer.specs.Writes.{Writes}
 use Rattle.jxl_container.specs.Files.{is_bare}
 use Rattle.jxl_image_header.specs.Images.{image_header, image_of}
-use Rattle.jxl_codestream_write.specs.Inner.Parts.{IsImageFront}
+use Rattle.jxl_codestream_write.specs.Inner.Parts.{BeginsWith}
 use Rattle.jxl_codestream_write.proofs.Fronts.{image_front}
 use Rattle.jxl_codestream_write.proofs.front.write_image.Goals as goal
 
 pub begins_bare-requires : goal.begins_bare-requires
-begins_bare-requires c = subst (λ (v : List ℕ). IsImageFront (image_of c.args.image.now) v) (sym c.deref.ensures.value)
-    (image_front (image_of c.args.image.now) c.write_image_header.new.bits c.in_ok-bytes.bytes.items
-    (subst (λ (b : List ℕ). Writes b c.write_image_header.new.bits image_header.read (image_of c.args.image.now)) c.new-bits.ensures c.in_ok-write_image_header.ensures) c.in_ok-bytes.ensures)
+begins_bare-requires c =
+    let f = image_front (image_of c.args.image.now) c.write_image_header.new.bits c.in_ok-bytes.bytes.items
+    (subst (λ (b : List ℕ). Writes b c.write_image_header.new.bits image_header.read (image_of c.args.image.now)) c.new-bits.ensures c.in_ok-write_image_header.ensures) c.in_ok-bytes.ensures in
+    subst (λ (v : List ℕ). BeginsWith (image_of c.args.image.now) v) (sym c.deref.ensures.value) (f.end, f.header [])
 
 pub returns-clause-front : goal.returns-clause-front
 returns-clause-front c =

@@ -1,4 +1,4 @@
-use Rattle.std.proofs.Common.{◌≡◌, ◌<◌, ap, sym, ◌∙◌, arith, pos, true, false, ℤ, w32, to_z, of_z, FitsSigned}
+use Rattle.std.proofs.Common.{◌≡◌, ◌<◌, ap, sym, ◌∙◌, arith, pos, true, false, ℤ, w32, to_z, FitsSigned}
 use Rattle.std.specs.Prelude.{unsigned_abs, ◌-ℤ◌, ◌^◌}
 use Rattle.std.specs.Int.Signed.{lt_z}
 use Rattle.std.proofs.lemmas.Int.{to_z-of_z, to_z_pos, ints}

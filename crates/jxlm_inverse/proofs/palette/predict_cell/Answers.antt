@@ -1,11 +1,11 @@
 use Rattle.std.proofs.Common.{◌≡◌, [], ◌∷◌, ◌++◌, ◌+ℤ◌, ap, ◌∙◌, subst, arith, rules, w32, w64, FitsSigned}
-use Rattle.std.specs.Prelude.{if◌then◌else◌}
+use Rattle.std.specs.Prelude.{if◌then◌else◌, int_lt, pos}
 use Rattle.std.specs.Int.{int_wrap}
 use Rattle.std.proofs.lemmas.Int.{to_z-of_z, fits_signed_from_abs}
 use Rattle.jxlm_base.specs.Regions.{store_meanings}
 use Rattle.jxlm_predictor.specs.Standing.{StandsAt, setting}
 use Rattle.jxlm_predictor.specs.Predictions.{prediction}
-use Rattle.jxlm_inverse.specs.Palette.{colour_index, colour_of, finished_sample, is_delta}
+use Rattle.jxlm_inverse.specs.Palette.{colour_index, colour_of, finished_sample}
 use Rattle.jxlm_inverse.specs.Inner.PaletteSteps.{table_in}
 use Rattle.jxlm_inverse.proofs.PaletteSteps.{finished_is, is_ready}
 use Rattle.jxlm_inverse.proofs.palette.predict_cell.Goals as goal
@@ -27,7 +27,7 @@ returns-clause-sets g c = λ before stands.
     let small : FitsSigned w32 n = search rules in
     let same : i ≡ colour_index t n = cc (c.colour_index-index.ensures, to_z-of_z w32 n small) in
     let wide : FitsSigned w64 c.colour-colour.result = fits_signed_from_abs w64 c.colour-colour.result (omega arith) in
-    let value : to_int c.next_sample-sample.result ≡ int_wrap w (if is_delta t i then c.colour-colour.result +ℤ prediction t.wp_header before p.index.width t.d_pred else c.colour-colour.result) =
+    let value : to_int c.next_sample-sample.result ≡ int_wrap w (if int_lt i (pos t.nb_deltas) then c.colour-colour.result +ℤ prediction t.wp_header before p.index.width t.d_pred else c.colour-colour.result) =
     cc (c.next_sample-sample.ensures.value (setting p.index.width t.wp_header []) before stands, to_z-of_z w32 i narrow, to_z-of_z w64 c.colour-colour.result wide) in
     let colour : c.colour-colour.result ≡ colour_of c.args.bit_depth t (table_in p ints) i p.number = cc (c.colour-colour.ensures.value, to_z-of_z w32 i narrow) in
     record {

@@ -1,9 +1,8 @@
 use Rattle.std.proofs.Common.{◌≡◌, ap, ◌∙◌, ◌++◌, ◌∷◌, [], subst, ◌+ℤ◌, rules, w32, w64, FitsSigned}
-use Rattle.std.specs.Prelude.{if◌then◌else◌}
+use Rattle.std.specs.Prelude.{if◌then◌else◌, int_lt, pos}
 use Rattle.std.specs.Int.{int_wrap}
 use Rattle.std.proofs.lemmas.Int.{to_z-of_z}
 use Rattle.jxlm_predictor.specs.Standing.{StandsAt}
-use Rattle.jxlm_inverse.specs.Palette.{is_delta}
 use Rattle.jxlm_inverse.proofs.palette.sampled.Goals as goal
 
 pub returns-clause-value : goal.returns-clause-value
@@ -12,11 +11,11 @@ returns-clause-value g c = λ s samples stands.
     let w = g.S.Sealed.width in
     let narrow : FitsSigned w32 c.predict-predicted.result = search rules in
     let wide : FitsSigned w64 c.raised.result = search rules in
-    let sum : c.raised.result ≡ (if is_delta t c.args.index then c.args.colour +ℤ c.predict-predicted.result else c.args.colour) =
+    let sum : c.raised.result ≡ (if int_lt c.args.index (pos t.nb_deltas) then c.args.colour +ℤ c.predict-predicted.result else c.args.colour) =
     cc (c.raised.ensures, to_z-of_z w32 c.args.index c.ranges.index, to_z-of_z w64 c.args.colour c.ranges.colour, to_z-of_z w32 c.predict-predicted.result narrow) in
     let value : c.sample_of-sample.result ≡ g.S.Sealed.from_int (int_wrap w c.raised.result) = cc (c.sample_of-sample.ensures, to_z-of_z w64 c.raised.result wide) in
     ap g.S.Sealed.to_int value ∙ g.met.S.Sealed.to_int_from_int (int_wrap w c.raised.result)
-    ∙ ap (int_wrap w) (sum ∙ ap (λ z. if is_delta t c.args.index then c.args.colour +ℤ z else c.args.colour) (c.predict-predicted.ensures s samples stands))
+    ∙ ap (int_wrap w) (sum ∙ ap (λ z. if int_lt c.args.index (pos t.nb_deltas) then c.args.colour +ℤ z else c.args.colour) (c.predict-predicted.ensures s samples stands))
 
 pub returns-clause-stands : goal.returns-clause-stands
 returns-clause-stands g c = λ s samples stands.

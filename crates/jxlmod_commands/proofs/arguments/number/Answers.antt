@@ -1,10 +1,16 @@
 -- `parse` reads the digits as a number of 32 bits; what they are worth by weight is what it reads.
 use Rattle.std.proofs.Common.{ℕ, List, length, ◌<◌, ◌^◌, Result, Ok, Err, rules}
+use Rattle.std.specs.Int.{IsInRange}
 use Rattle.std.specs.Option.{SomeIff}
+use Rattle.std.specs.Prelude.{EachIndex, slice_index}
 use Rattle.std.specs.Result.{OkIff, result_ok}
 use Rattle.std.proofs.lemmas.Str.Parse.{IsNumeralModel, numerals_by_weight, tells_by_index, parse_digits}
-use Rattle.jxlmod_commands.specs.Decimals.{IsDecimal, IsOfDigits, decimal_value}
+use Rattle.jxlmod_commands.specs.Decimals.{IsDecimal, decimal_value}
 use Rattle.jxlmod_commands.proofs.arguments.number.Goals as goal
+
+-- each byte is a digit
+abbrev IsOfDigits : List ℕ → Type 0
+IsOfDigits text = EachIndex text (λ k. IsInRange 48 57 (slice_index text k))
 
 own : IsNumeralModel IsOfDigits decimal_value
 own = numerals_by_weight IsOfDigits tells_by_index decimal_value (search rules)

@@ -16,7 +16,7 @@ returns-in_err-pieces-clause-gives g c =
     let p = err_from_is_err_and c.from_residual.result c.from_residual.ensures.1 in
     rw (p.1, p.2, ← c.self.view_is)
     (not_begun _ c.self.invariant.laid c.args.passes.now c.args.part g.D.Decoder.meaning g.S.Sealed.width g.S.Sealed.to_int (g.S.Sealed.from_int (pos 0)) (option_copied c.args.global) (bytes_of c.args.bits.now) (position_of c.args.bits.now)
-    c.args.stream_index c.args.allow_partial _ (position_of c.args.bits.now) c.args.steps.now tt)
+    c.args.stream.index c.args.stream.allow_partial _ (position_of c.args.bits.now) c.args.steps.now tt)
 
 pub parse-requires-clause-narrow : goal.parse-requires-clause-narrow
 parse-requires-clause-narrow g c =
@@ -34,7 +34,7 @@ returns-in_err-nested-clause-gives g c =
     let are = c.in_ok-pieces.ensures in
     rw (p.1, p.2, ← c.self.view_is)
     (not_begun _ c.self.invariant.laid c.args.passes.now c.args.part g.D.Decoder.meaning g.S.Sealed.width g.S.Sealed.to_int (g.S.Sealed.from_int (pos 0)) (option_copied c.args.global) (bytes_of c.args.bits.now) (position_of c.args.bits.now)
-    c.args.stream_index c.args.allow_partial _ (position_of c.parse.new.bits) c.args.steps.now (rw are.channels at c.in_err-nested.ensures.err))
+    c.args.stream.index c.args.stream.allow_partial _ (position_of c.parse.new.bits) c.args.steps.now (rw are.channels at c.in_err-nested.ensures.err))
 
 pub decode-requires-clause-can : goal.decode-requires-clause-can
 decode-requires-clause-can g c κs within =
@@ -42,7 +42,7 @@ decode-requires-clause-can g c κs within =
     let buffers : c.len.result ≡ length c.self.inside.store.items = c.len.ensures ∙ c.self.inside.store.ok.0 in
     let is = rw (are.channels, are.regions, buffers) at c.in_ok-nested.ensures.ok in
     nested_fills _ c.self.invariant.laid c.args.passes.now c.args.part g.D.Decoder.meaning g.S.Sealed.width g.S.Sealed.to_int (g.S.Sealed.from_int (pos 0)) (option_copied c.args.global) (bytes_of c.args.bits.now) (position_of c.args.bits.now)
-    c.args.stream_index c.args.allow_partial c.in_ok-nested.nested (position_of c.parse.new.bits) is
+    c.args.stream.index c.args.stream.allow_partial c.in_ok-nested.nested (position_of c.parse.new.bits) is
 
 pub invariant_of-self : goal.invariant_of-self
 invariant_of-self g c =
@@ -50,9 +50,9 @@ invariant_of-self g c =
     let buffers : c.len.result ≡ length c.self.inside.store.items = c.len.ensures ∙ c.self.inside.store.ok.0 in
     let is = rw (are.channels, are.regions, buffers) at c.in_ok-nested.ensures.ok in
     let gives = nested_gives _ c.self.invariant.laid c.args.passes.now c.args.part g.D.Decoder.meaning g.S.Sealed.width g.S.Sealed.to_int (g.S.Sealed.from_int (pos 0)) (option_copied c.args.global) (bytes_of c.args.bits.now) (position_of c.args.bits.now)
-    c.args.stream_index c.args.allow_partial c.in_ok-nested.nested (position_of c.parse.new.bits) is c.decode.result c.decode.new.store.items (position_of c.decode.new.bits) c.args.steps.now c.decode.new.steps (rw c.in_ok-nested.ensures.bytes at c.decode.ensures.gives) in
+    c.args.stream.index c.args.stream.allow_partial c.in_ok-nested.nested (position_of c.parse.new.bits) is c.decode.result c.decode.new.store.items (position_of c.decode.new.bits) c.args.steps.now c.decode.new.steps (rw c.in_ok-nested.ensures.bytes at c.decode.ensures.gives) in
     let outside = nested_outside _ c.self.invariant.laid c.args.passes.now c.args.part g.D.Decoder.meaning g.S.Sealed.width g.S.Sealed.to_int (g.S.Sealed.from_int (pos 0)) (option_copied c.args.global) (bytes_of c.args.bits.now) (position_of c.args.bits.now)
-    c.args.stream_index c.args.allow_partial c.decode.result c.decode.new.store.items (position_of c.decode.new.bits) c.args.steps.now c.decode.new.steps gives in
+    c.args.stream.index c.args.stream.allow_partial c.decode.result c.decode.new.store.items (position_of c.decode.new.bits) c.args.steps.now c.decode.new.steps gives in
     record {
       laid = still_laid _ _ c.self.invariant.laid (same_but_store _ _ (shape_kept _ c.self.inside.store.items c.decode.new.store.items outside));
       undos = c.self.invariant.undos;
@@ -65,7 +65,7 @@ returns-clause-gives g c =
     let is = rw (are.channels, are.regions, buffers) at c.in_ok-nested.ensures.ok in
     rw (← c.self.view_is)
     (nested_gives _ c.self.invariant.laid c.args.passes.now c.args.part g.D.Decoder.meaning g.S.Sealed.width g.S.Sealed.to_int (g.S.Sealed.from_int (pos 0)) (option_copied c.args.global) (bytes_of c.args.bits.now) (position_of c.args.bits.now)
-    c.args.stream_index c.args.allow_partial c.in_ok-nested.nested (position_of c.parse.new.bits) is c.decode.result c.decode.new.store.items (position_of c.decode.new.bits) c.args.steps.now c.decode.new.steps (rw c.in_ok-nested.ensures.bytes at c.decode.ensures.gives))
+    c.args.stream.index c.args.stream.allow_partial c.in_ok-nested.nested (position_of c.parse.new.bits) is c.decode.result c.decode.new.store.items (position_of c.decode.new.bits) c.args.steps.now c.decode.new.steps (rw c.in_ok-nested.ensures.bytes at c.decode.ensures.gives))
 
 pub returns-clause-same : goal.returns-clause-same
 returns-clause-same g c =
@@ -73,9 +73,9 @@ returns-clause-same g c =
     let buffers : c.len.result ≡ length c.self.inside.store.items = c.len.ensures ∙ c.self.inside.store.ok.0 in
     let is = rw (are.channels, are.regions, buffers) at c.in_ok-nested.ensures.ok in
     let gives = nested_gives _ c.self.invariant.laid c.args.passes.now c.args.part g.D.Decoder.meaning g.S.Sealed.width g.S.Sealed.to_int (g.S.Sealed.from_int (pos 0)) (option_copied c.args.global) (bytes_of c.args.bits.now) (position_of c.args.bits.now)
-    c.args.stream_index c.args.allow_partial c.in_ok-nested.nested (position_of c.parse.new.bits) is c.decode.result c.decode.new.store.items (position_of c.decode.new.bits) c.args.steps.now c.decode.new.steps (rw c.in_ok-nested.ensures.bytes at c.decode.ensures.gives) in
+    c.args.stream.index c.args.stream.allow_partial c.in_ok-nested.nested (position_of c.parse.new.bits) is c.decode.result c.decode.new.store.items (position_of c.decode.new.bits) c.args.steps.now c.decode.new.steps (rw c.in_ok-nested.ensures.bytes at c.decode.ensures.gives) in
     let outside = nested_outside _ c.self.invariant.laid c.args.passes.now c.args.part g.D.Decoder.meaning g.S.Sealed.width g.S.Sealed.to_int (g.S.Sealed.from_int (pos 0)) (option_copied c.args.global) (bytes_of c.args.bits.now) (position_of c.args.bits.now)
-    c.args.stream_index c.args.allow_partial c.decode.result c.decode.new.store.items (position_of c.decode.new.bits) c.args.steps.now c.decode.new.steps gives in
+    c.args.stream.index c.args.stream.allow_partial c.decode.result c.decode.new.store.items (position_of c.decode.new.bits) c.args.steps.now c.decode.new.steps gives in
     rw (← c.self.view_is)
     (record {
       cells = same_but_store _ _ (shape_kept _ c.self.inside.store.items c.decode.new.store.items outside);

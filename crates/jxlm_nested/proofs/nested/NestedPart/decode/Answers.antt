@@ -21,12 +21,12 @@ returns-clause-gives g c =
           let same : c.match-add_tables.store.items ≡ b.fill-result.new.store =
           rw b.store-is (with_items_is c.add_tables.new.store b.fill-result.new.store (b.fill-result.auto.store ∙ b.deref_mut.ensures.len)) in
           rw (b.result-is, b.steps-is, b.bits-is)
-          (filled_in g.D.Decoder.meaning g.S.Sealed.width g.S.Sealed.to_int (bytes_of c.args.bits.now) c.args.stream_index (position_of c.args.bits.now) c.args.self.now c.args.allow_partial (position_of b.fill-result.new.bits) c.args.steps.now
+          (filled_in g.D.Decoder.meaning g.S.Sealed.width g.S.Sealed.to_int (bytes_of c.args.bits.now) c.args.stream.index (position_of c.args.bits.now) c.args.self.now c.args.stream.allow_partial (position_of b.fill-result.new.bits) c.args.steps.now
           b.fill-result.new.steps zero c.args.bit_depth old c.truncate.new.self.items b.fill-result.result b.deref_mut.result.now b.fill-result.new.store c.match-add_tables.store.items tables
           b.fill-result.ensures.gives same cut)
       | in-Err b ↦
           let same : c.match-add_tables.store.items ≡ c.add_tables.new.store.items = rw b.store-is refl in
           rw (b.result-is, b.steps-is, b.bits-is)
-          (no_tables g.D.Decoder.meaning g.S.Sealed.width g.S.Sealed.to_int (bytes_of c.args.bits.now) c.args.stream_index (position_of c.args.bits.now) c.args.self.now c.args.allow_partial (position_of c.args.bits.now) c.args.steps.now
+          (no_tables g.D.Decoder.meaning g.S.Sealed.width g.S.Sealed.to_int (bytes_of c.args.bits.now) c.args.stream.index (position_of c.args.bits.now) c.args.self.now c.args.stream.allow_partial (position_of c.args.bits.now) c.args.steps.now
           c.args.steps.now zero c.args.bit_depth old c.truncate.new.self.items b.in-Err.e b.in-Err.ensures.err (cut ∙ ap (λ gs. take (length old) gs) same ∙ c.add_tables.ensures.cut) refl)
     ]

@@ -12,8 +12,8 @@ use Rattle.jxlm_nested.proofs.nested.NestedPart.decode_with.Goals as goal
 
 pub returns-then-not-have_samples-clause-answers : goal.returns-then-not-have_samples-clause-answers
 returns-then-not-have_samples-clause-answers g c =
-    answers_empty g.D.Decoder.meaning g.S.Sealed.width g.S.Sealed.to_int (bytes_of c.args.bits.now) (coded_part c.args.stream_index (head_of c.args.self.now) c.args.self.now.config) (regions_in c.args.self.now)
-    c.args.self.now.config.decoder (c.args.store.now.items ++ c.args.tables.now.items) (position_of c.args.bits.now) c.args.partial.now c.args.allow_partial c.args.steps.now c.requires.sizes
+    answers_empty g.D.Decoder.meaning g.S.Sealed.width g.S.Sealed.to_int (bytes_of c.args.bits.now) (coded_part c.args.stream.index (head_of c.args.self.now) c.args.self.now.config) (regions_in c.args.self.now)
+    c.args.self.now.config.decoder (c.args.store.now.items ++ c.args.tables.now.items) (position_of c.args.bits.now) c.args.partial.now c.args.stream.allow_partial c.args.steps.now c.requires.sizes
     (λ h. let t = c.if-not-have_samples.ensures.1 (subst (λ (ps : List PlacedChannel). 0 < cell_count (infos ps)) (sym c.deref.ensures.value) h) in cc)
 
 pub returns-clause-answers : goal.returns-clause-answers

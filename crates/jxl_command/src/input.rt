@@ -1,0 +1,52 @@
+//! What a program reads: a file that is opened when it is first read.
+
+ghost use Rattle.std.specs.Prelude.{◌≡◌, IfOk, None, OnOk};
+ghost use Rattle.std.specs.Io.KnownBytes.{Consumes, IsAtEnd};
+
+use std::alloc::Global;
+use std::fs;
+use std::io::{self, Read};
+use std::rt::Files;
+
+/// A file that is opened at the first read: a file that cannot be opened is an error of that read.
+#[derive(Drop)]
+pub struct InputFile<'a, R: Files> {
+    rt: &'a R,
+    path: &'a str,
+    file: Option<R::File>,
+}
+
+impl<'a, R: Files> InputFile<'a, R> {
+    /// The file of this path, which is not opened yet.
+    pub fn new(rt: &'a R, path: &'a str) -> InputFile<'a, R>
+        ensures { result.file ≡ None }
+    {
+        InputFile {
+            rt,
+            path,
+            file: None,
+        }
+    }
+}
+
+impl<'a, R: Files> Read for InputFile<'a, R> {
+    fn read(&mut self, buf: &mut [u8]) -> io::Result<usize> {
+        if self.file.is_none() {
+            self.file = Some(fs::open(self.rt, self.path)?);
+        }
+        match &mut self.file {
+            Some(file) => file.read(buf),
+            None => Ok(0),
+        }
+    }
+}
+
+/// Reads all bytes that are left.
+pub fn read_whole<R: Read>(alloc: Global, input: &mut R) -> io::Result<Vec<u8>>
+    ensures read { IfOk result (λ v. Consumes (R.remaining input.old) (R.remaining input.new) v.items) }
+    ensures ended { OnOk result (IsAtEnd (R.remaining input.new)) }
+{
+    let mut bytes = Vec::new(alloc);
+    input.read_to_end(&mut bytes)?;
+    Ok(bytes)
+}

@@ -1,0 +1,96 @@
+//! What a program writes to: standard output, or a file that is made when it is first written to.
+
+ghost use Rattle.std.specs.Prelude.{◌≡◌, None, OnErr, OnOk, false};
+ghost use Rattle.std.specs.Io.KnownBytes.{Appends, Keeps};
+ghost use Rattle.jxl_netpbm.specs.Output.{AppendsBeginning};
+
+use jxl_netpbm::output::write_whole;
+use std::fs;
+use std::io::{self, Stdout, Write};
+use std::rt::Files;
+
+/// A writer that says whether it is flushed.
+pub trait Flush: Write {
+    /// It passed on all that was written.
+    ghost is_flushed: { Self → Type 0 };
+
+    /// Passes on all that was written.
+    fn flush_all(&mut self) -> io::Result<()>
+        ensures bytes { Keeps (Self.contents self.old) (Self.contents self.new) }
+        ensures flushed { OnOk result (is_flushed self.new) };
+}
+
+/// A file that is made, or emptied, at the first write: where nothing is written, nothing of it changes.
+#[derive(Drop)]
+pub struct OutputFile<'a, R: Files> {
+    rt: &'a R,
+    path: &'a str,
+    file: Option<R::File>,
+    /// Whether a write was begun since the file was last flushed.
+    waits: bool,
+}
+
+impl<'a, R: Files> OutputFile<'a, R> {
+    /// The file of this path, which is not made yet.
+    pub fn new(rt: &'a R, path: &'a str) -> OutputFile<'a, R>
+        ensures { result.file ≡ None }
+    {
+        OutputFile {
+            rt,
+            path,
+            file: None,
+            waits: false,
+        }
+    }
+}
+
+impl<'a, R: Files> Write for OutputFile<'a, R> {
+    fn write(&mut self, buf: &[u8]) -> io::Result<usize> {
+        if self.file.is_none() {
+            self.file = Some(fs::create(self.rt, self.path)?);
+        }
+        self.waits = true;
+        match &mut self.file {
+            Some(file) => file.write(buf),
+            None => Ok(0),
+        }
+    }
+
+    fn flush(&mut self) -> io::Result<()> {
+        match &mut self.file {
+            Some(file) => file.flush(),
+            None => Ok(()),
+        }
+    }
+}
+
+impl<'a, R: Files> Flush for OutputFile<'a, R> {
+    ghost is_flushed = { λ output. output.waits ≡ false };
+
+    fn flush_all(&mut self) -> io::Result<()> {
+        self.flush()?;
+        self.waits = false;
+        Ok(())
+    }
+}
+
+impl Flush for Stdout {
+    ghost use Rattle.std.specs.Prelude.{⊤};
+
+    ghost is_flushed = { λ _. ⊤ };
+
+    fn flush_all(&mut self) -> io::Result<()> {
+        self.flush()
+    }
+}
+
+/// Writes all bytes, and passes them on.
+pub fn write_flushed<W: Flush>(output: &mut W, bytes: &[u8]) -> io::Result<()>
+    ensures ok { OnOk result (Appends (W.contents output.old) (W.contents output.new) bytes.now) }
+    ensures flushed { OnOk result (W.is_flushed output.new) }
+    ensures begun { OnErr result (AppendsBeginning (W.contents output.old) (W.contents output.new) bytes.now) }
+{
+    write_whole(output, bytes)?;
+    output.flush_all()?;
+    Ok(())
+}

@@ -1,0 +1,5 @@
+pub mod Given
+pub mod Cells
+pub mod Codings
+pub mod Codestreams
+pub mod PlainTrees

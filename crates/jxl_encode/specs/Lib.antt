@@ -1,0 +1,3 @@
+pub mod Codable
+pub mod Files
+pub mod Inner

@@ -1,0 +1,71 @@
+//! The shortest of the codestreams that a picture has by different advice.
+
+ghost use Rattle.std.specs.Prelude.{◌≡◌, ◌⊎◌, IfOk, Some};
+ghost use Rattle.std.specs.Option.{IfSome};
+ghost use Rattle.jxl_image_header.specs.Images.{image_of};
+ghost use Rattle.jxl_picture.specs.Pictures.{IsWhole};
+ghost use Rattle.jxl_encode.specs.Codable.{IsCodable};
+ghost use Rattle.jxl_encode.specs.Files.{IsCodestreamOf};
+
+use crate::advice::{Advice, advices_for};
+use crate::codestream::codestream_by;
+use crate::effort::Effort;
+use jxl_picture::picture::Picture;
+use jxlm_base::grid::OutOfMemory;
+use std::alloc::Global;
+
+/// The shorter of two codestreams, the first of which may be absent.
+fn shorter(best: Option<Vec<u8>>, other: Vec<u8>) -> Vec<u8>
+    ensures { (best ≡ Some result) ⊎ (result ≡ other) }
+{
+    match best {
+        Some(bytes) => {
+            if bytes.len() <= other.len() {
+                bytes
+            } else {
+                other
+            }
+        }
+        None => other,
+    }
+}
+
+/// The shortest codestream of the picture by one of these; none, if there is none of them.
+fn shortest(
+    alloc: Global,
+    picture: &Picture,
+    advices: &[Advice],
+) -> Result<Option<Vec<u8>>, OutOfMemory>
+    requires whole { IsWhole (image_of picture.now.header) picture.now.channels.items }
+    requires codable { IsCodable picture.now }
+    ensures { IfOk result (λ best. IfSome best (λ v. IsCodestreamOf picture.now v.items)) }
+{
+    let mut best = None;
+    for advice in advices {
+        let bytes = codestream_by(alloc, picture, advice)?;
+        best = Some(shorter(best, bytes));
+    }
+    Ok(best)
+}
+
+/// A codestream of the picture. By what its samples are coded is a heuristic.
+pub(crate) fn encode_codestream(
+    alloc: Global,
+    picture: &Picture,
+    effort: Effort,
+) -> Result<Vec<u8>, OutOfMemory>
+    requires whole { IsWhole (image_of picture.now.header) picture.now.channels.items }
+    requires codable { IsCodable picture.now }
+    ensures { IfOk result (λ v. IsCodestreamOf picture.now v.items) }
+{
+    let advices = advices_for(alloc, picture, effort)?;
+    if let Some(bytes) = shortest(alloc, picture, &advices)? {
+        return Ok(bytes);
+    }
+    let plain = Advice {
+        nodes: Vec::new(alloc),
+        clusters: Vec::new(alloc),
+        colour: None,
+    };
+    codestream_by(alloc, picture, &plain)
+}

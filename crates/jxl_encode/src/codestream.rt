@@ -1,0 +1,63 @@
+//! A codestream of a picture: one frame, whose sections follow in their own order.
+
+ghost use Rattle.std.specs.Prelude.{◌≡◌, IfOk};
+ghost use Rattle.std.specs.Option.{option_map};
+ghost use Rattle.jxl_codestream.specs.FrontParts.{bytes_if};
+ghost use Rattle.jxl_image_header.specs.Images.{image_of};
+ghost use Rattle.jxl_picture.specs.Pictures.{IsWhole};
+ghost use Rattle.jxl_encode.specs.Codable.{IsCodable};
+ghost use Rattle.jxl_encode.specs.Files.{IsCodestreamOf};
+
+use crate::advice::Advice;
+use crate::channels::channels_of;
+use crate::frame::{FrameInput, GROUP_DIM, GROUP_SHIFT, frame_sections};
+use crate::sizes::{add_sections, sizes_of};
+use jxl_codestream::layout::Layout;
+use jxl_codestream_write::front::write_front_with_profile;
+use jxl_picture::picture::Picture;
+use jxlm_base::grid::OutOfMemory;
+use std::alloc::Global;
+
+// The bytes of the picture's profile, if there is one.
+fn profile_of(picture: &Picture) -> Option<&[u8]>
+    ensures { option_map (λ s. s.now) result ≡ bytes_if picture.now.profile }
+{
+    match &picture.profile {
+        Some(icc) => Some(icc),
+        None => None,
+    }
+}
+
+/// A codestream of the picture by this advice.
+///
+/// # Errors
+///
+/// `OutOfMemory`; also where a section would have 2^30 + 4,211,712 bytes or more, or where there would be more than
+/// 16,777,216 sections.
+pub(crate) fn codestream_by(
+    alloc: Global,
+    picture: &Picture,
+    advice: &Advice,
+) -> Result<Vec<u8>, OutOfMemory>
+    requires whole { IsWhole (image_of picture.now.header) picture.now.channels.items }
+    requires codable { IsCodable picture.now }
+    ensures { IfOk result (λ v. IsCodestreamOf picture.now v.items) }
+{
+    let Some(layout) = Layout::new(picture.header.size, GROUP_DIM, 1) else {
+        return Err(OutOfMemory);
+    };
+    let given = channels_of(alloc, &picture.header)?;
+    let input = FrameInput {
+        picture,
+        given: &given,
+        layout: &layout,
+    };
+    let Ok(sections) = frame_sections(alloc, &input, advice) else {
+        return Err(OutOfMemory);
+    };
+    let sizes = sizes_of(alloc, &sections)?;
+    let profile = profile_of(picture);
+    let mut bytes = write_front_with_profile(alloc, &picture.header, profile, GROUP_SHIFT, &sizes)?;
+    add_sections(&mut bytes, &sections)?;
+    Ok(bytes)
+}

@@ -1,0 +1,61 @@
+//! A file of a picture: a codestream, or boxes with one.
+
+ghost use Rattle.std.specs.Prelude.{IfOk};
+ghost use Rattle.std.specs.Option.{option_map};
+ghost use Rattle.jxl_image_header.specs.Images.{image_of};
+ghost use Rattle.jxl_picture.specs.Pictures.{IsWhole};
+ghost use Rattle.jxl_encode.specs.Codable.{IsCodable};
+ghost use Rattle.jxl_encode.specs.Files.{IsFileOf, IsWrittenFile};
+
+use crate::choice::encode_codestream;
+use crate::effort::Effort;
+use crate::level::{is_boxed, level_of};
+use jxl_container_write::container::write_container;
+use jxl_picture::picture::Picture;
+use jxlm_base::grid::OutOfMemory;
+use std::alloc::Global;
+
+/// A lossless .jxl file of the picture: [`encode_with`] without Exif and XMP data.
+pub fn encode_lossless(
+    alloc: Global,
+    picture: &Picture,
+    effort: Effort,
+) -> Result<Vec<u8>, OutOfMemory>
+    requires whole { IsWhole (image_of picture.now.header) picture.now.channels.items }
+    requires codable { IsCodable picture.now }
+    ensures { IfOk result (λ v. IsFileOf picture.now v.items) }
+{
+    encode_with(alloc, picture, effort, false, None, None)
+}
+
+/// A lossless .jxl file of the picture, which is whole and can be coded (`is_codable`), with these Exif and XMP data,
+/// if present: the Exif data from the TIFF header on. `decode_lossless` returns the picture within all limits that
+/// allow it, its profile with 16 bytes more, and 128 decisions for a sample. The file is a codestream, or boxes with one: if `boxed` says so, if there are
+/// such data, or if level 5 does not hold the picture.
+///
+/// # Errors
+///
+/// `OutOfMemory` at any time; also where a section would have 2^30 + 4,211,712 bytes or more, where there would be 2^31
+/// samples or more, or more than 16,777,216 sections.
+pub fn encode_with(
+    alloc: Global,
+    picture: &Picture,
+    effort: Effort,
+    boxed: bool,
+    exif: Option<&[u8]>,
+    xmp: Option<&[u8]>,
+) -> Result<Vec<u8>, OutOfMemory>
+    requires whole { IsWhole (image_of picture.now.header) picture.now.channels.items }
+    requires codable { IsCodable picture.now }
+    ensures picture { IfOk result (λ v. IsFileOf picture.now v.items) }
+    ensures written { IfOk result (λ v. IsWrittenFile picture.now boxed (option_map (λ s. s.now) exif.entry)
+        (option_map (λ s. s.now) xmp.entry) v.items) }
+{
+    let codestream = encode_codestream(alloc, picture, effort)?;
+    if !is_boxed(&picture.header, boxed, exif, xmp) {
+        return Ok(codestream);
+    }
+    let level = level_of(&picture.header);
+    let file = write_container(alloc, &codestream, level, exif, xmp)?;
+    Ok(file)
+}

@@ -1,0 +1,15 @@
+//! Lossless .jxl files, written of pictures (ISO/IEC 18181-1, 18181-2).
+#![tactic(auto)]
+
+mod advice;
+mod channels;
+mod choice;
+pub mod codable;
+mod codestream;
+pub mod effort;
+pub mod file;
+mod frame;
+mod level;
+mod sizes;
+mod trees;
+mod values;

@@ -1,0 +1,99 @@
+//! A picture encoded to a .jxl file, and decoded again.
+
+ghost use Rattle.std.specs.Prelude.{◌≡◌, IfErr, IfOk};
+ghost use Rattle.std.specs.List.{All};
+ghost use Rattle.jxlm_base.specs.Grid.{IsFull};
+ghost use Rattle.jxl_image_header.specs.Images.{image_of};
+ghost use Rattle.jxl_picture.specs.Pictures.{IsWhole};
+ghost use Rattle.jxl_codestream.specs.FrontParts.{bytes_if};
+ghost use Rattle.jxl_encode.specs.Codable.{IsCodable};
+ghost use Rattle.jxl_encode.specs.Files.{AllowFile};
+ghost use Rattle.jxl_lossless_laws.specs.Same.{IsSamePicture};
+ghost use Rattle.jxl_encode_roundtrip.specs.RoundTrip.{RoundTripFails};
+
+use jxl_encode::effort::Effort;
+use jxl_encode::file::encode_lossless;
+use jxl_lossless::{FileError, Limits, Picture, Steps, decode_lossless};
+use jxl_lossless_laws::laws::{
+    a_file_has_one_picture, a_file_with_a_picture_is_decoded, same_channels_are_equal,
+};
+use jxlm_base::grid::{AlignedGrid, OutOfMemory};
+use std::alloc::Global;
+
+/// Why a picture did not come back.
+#[derive(Clone, Copy, Debug, PartialEq, Eq, thiserror::Error)]
+pub enum RoundTripError {
+    /// It is not encoded: out of memory.
+    #[error("{0}")]
+    Encode(OutOfMemory),
+    /// What was encoded is not decoded: for want of memory, or because it has 2^61 bytes or more.
+    #[error("{0}")]
+    Decode(FileError),
+}
+
+impl From<OutOfMemory> for RoundTripError {
+    ghost use Rattle.jxl_encode_roundtrip.specs.declared.roundtrip.RoundTripError.TheVariants.{Encode};
+
+    ghost from_gives = { λ error e. e ≡ Encode error };
+
+    fn from(error: OutOfMemory) -> RoundTripError {
+        RoundTripError::Encode(error)
+    }
+}
+
+/// Each of the grids has one sample in each column of each row.
+fn all_are_full(grids: &[AlignedGrid<i32>])
+    ensures { All IsFull grids.now }
+{
+    for grid in grids {
+        let _columns = grid.width();
+    }
+}
+
+/// Encodes the picture, and decodes the file.
+fn encoded_and_decoded(
+    alloc: Global,
+    picture: &Picture,
+    effort: Effort,
+    limits: &Limits,
+) -> Result<Picture, RoundTripError>
+    requires whole { IsWhole (image_of picture.now.header) picture.now.channels.items }
+    requires codable { IsCodable picture.now }
+    requires allowed { AllowFile limits.now (image_of picture.now.header) (bytes_if picture.now.profile) }
+    ensures same { IfOk result (IsSamePicture picture.now) }
+    ensures err { IfErr result (RoundTripFails picture.now) }
+{
+    let file = encode_lossless(alloc, picture, effort)?;
+    a_file_has_one_picture();
+    a_file_with_a_picture_is_decoded();
+    match decode_lossless(alloc, &file, limits, &mut Steps::new()) {
+        Ok(decoded) => Ok(decoded),
+        Err(error) => Err(RoundTripError::Decode(error)),
+    }
+}
+
+/// Encodes a picture by [`encode_lossless`], decodes the file by [`decode_lossless`], and returns the picture: the
+/// same header, the same samples, the same profile, whatever the effort.
+///
+/// # Errors
+///
+/// Out of memory, or a file of 2^61 bytes or more.
+pub fn encode_and_decode(
+    alloc: Global,
+    picture: &Picture,
+    effort: Effort,
+    limits: &Limits,
+) -> Result<Picture, RoundTripError>
+    requires whole { IsWhole (image_of picture.now.header) picture.now.channels.items }
+    requires codable { IsCodable picture.now }
+    requires allowed { AllowFile limits.now (image_of picture.now.header) (bytes_if picture.now.profile) }
+    ensures same { IfOk result (IsSamePicture picture.now) }
+    ensures channels { IfOk result (λ p. p.channels.items ≡ picture.now.channels.items) }
+    ensures err { IfErr result (RoundTripFails picture.now) }
+{
+    let decoded = encoded_and_decoded(alloc, picture, effort, limits)?;
+    all_are_full(&picture.channels);
+    all_are_full(&decoded.channels);
+    same_channels_are_equal();
+    Ok(decoded)
+}

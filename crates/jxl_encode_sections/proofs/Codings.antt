@@ -1,0 +1,62 @@
+-- Sections that were written, in a frame of a codestream.
+use Rattle.std.proofs.Common.{◌≡◌, ◌≤◌, ℕ, ℤ, List, [], ◌∷◌, get_or, Some, refl, sym, subst, arith}
+use Rattle.std.specs.Int.{w32}
+use Rattle.std.specs.Prelude.{slice_get}
+use Rattle.jxlm_base.specs.Grid.{Grid}
+use Rattle.jxlm_groups.specs.Passes.{passes_of}
+use Rattle.jxlm_groups.specs.declared.pass.Pass.{Pass}
+use Rattle.jxlm_section_split.specs.CutPicture.{one_pass}
+use Rattle.jxlm_transform.specs.Channels.{ChannelList}
+use Rattle.jxl_codestream.specs.Fronts.{FrameAt, layout_in}
+use Rattle.jxl_codestream.specs.Layouts.{Layout}
+use Rattle.jxl_codestream.specs.Starts.{tree_limit}
+use Rattle.jxl_coding.specs.Parse.{decoder_at}
+use Rattle.jxl_coding.specs.Tokens.{entropy}
+use Rattle.jxl_encode_frame.specs.Codings.{AreSections, FrameCoding}
+use Rattle.jxl_encode_sections.specs.Laws.{SectionsAreCoding}
+use Rattle.jxl_encode_sections.specs.Sections.{AreFrameSections}
+use Rattle.jxl_frame_header.specs.Frames.{frame_size}
+use Rattle.jxl_frame_header.specs.Passes.{pass_shifts}
+use Rattle.jxl_image_header.specs.Images.{Image}
+use Rattle.jxl_image_header.specs.declared.size.Size.{Size}
+use Rattle.jxl_lossless.specs.Frames.{channels_given}
+use Rattle.jxl_lossless.specs.Sections.{section_of, sections_in}
+use Rattle.jxl_picture.specs.Limits.{channel_count}
+
+-- the first of all
+got : (sections : List (List ℕ)) (first : List ℕ) → slice_get sections 0 ≡ Some first → first ≡ get_or sections 0 []
+got [] first e = cc
+got (x ∷ xs) first e = cc
+
+module _ (image : Image) (bytes : List ℕ) (frame : FrameAt) (deepest : ℕ) (grids : List (Grid ℤ)) where
+  abbrev size : Size
+  size = frame_size image.size frame.header
+
+  -- in the frame's own words
+  in_frame : passes_of (pass_shifts frame.header.passes) ≡ one_pass → deepest ≤ frame.deepest →
+      AreFrameSections w32 (channels_given image size) (layout_in image frame.header) frame.header.group_dim (tree_limit size (channel_count image)) deepest (sections_in bytes frame) grids →
+      FrameCoding (entropy decoder_at) image bytes frame grids
+  in_frame passes most made = record {
+    size = size;
+    size_is = refl;
+    first = made.first;
+    first_is = got (sections_in bytes frame) made.first made.first_is;
+    tree_at = made.tree_at;
+    start = made.start;
+    config = made.config;
+    end = made.end;
+    tree = made.tree;
+    within = let below = made.within in omega (arith, below, most);
+    sections = subst (λ (ps : List Pass). AreSections (entropy decoder_at) w32 made.config (channels_given image size) frame.header.group_dim ps made.first made.end (section_of (layout_in image frame.header) (sections_in bytes frame)) grids)
+        (sym passes) made.sections_are;
+  }
+
+pub written_are_coding : SectionsAreCoding
+written_are_coding image bytes frame given l group_dim node_limit deepest sections grids cut are made =
+    let size : Size = frame_size image.size frame.header in
+    let by_given = subst (λ (g : ChannelList). AreFrameSections w32 g l group_dim node_limit deepest sections grids) (sym cut.channels) made in
+    let by_layout = subst (λ (k : Layout). AreFrameSections w32 (channels_given image size) k group_dim node_limit deepest sections grids) (sym cut.layout) by_given in
+    let by_dim = subst (λ (n : ℕ). AreFrameSections w32 (channels_given image size) (layout_in image frame.header) n node_limit deepest sections grids) (sym cut.dim) by_layout in
+    let by_nodes = subst (λ (n : ℕ). AreFrameSections w32 (channels_given image size) (layout_in image frame.header) frame.header.group_dim n deepest sections grids) (sym cut.nodes) by_dim in
+    in_frame image bytes frame deepest grids cut.passes cut.depth
+    (subst (λ (ss : List (List ℕ)). AreFrameSections w32 (channels_given image size) (layout_in image frame.header) frame.header.group_dim (tree_limit size (channel_count image)) deepest ss grids) (sym are) by_nodes)

@@ -1,0 +1,12 @@
+pub mod PartCells
+pub mod Writings
+pub mod Joined
+pub mod PutGroups
+pub mod Frames
+pub mod TokenParts
+pub mod GroupLists
+pub mod FirstSections
+pub mod LeafClusters
+pub mod OneGroup
+pub mod EncodedFrames
+pub mod Codings

@@ -1,0 +1,32 @@
+-- The tokens of all parts of a frame, and the sections that have them (ISO/IEC 18181-1, frame: sections).
+use Rattle.std.specs.Prelude.{◌≡◌, ℕ, List, length, map, slice_get, Some}
+use Rattle.std.specs.Global.{Vec}
+use Rattle.std.specs.Int.{Width}
+use Rattle.std.specs.List.{All}
+use Rattle.jxlm_encode_write.specs.declared.tree.EncodeNode.{EncodeNode}
+use Rattle.jxlm_groups.specs.declared.part.SectionPart.TheVariants as parts
+use Rattle.jxlm_section_split.specs.CutPicture.{one_pass}
+use Rattle.jxlm_transform.specs.Transforms.{Transform}
+use Rattle.jxlm_tree.specs.Tree.{Shape}
+use Rattle.jxlm_tree.specs.declared.flat.Leaf.{Leaf}
+use Rattle.jxl_codestream.specs.Layouts.{Layout, section_count_of}
+use Rattle.jxl_coding_stream_write.specs.declared.stream.StreamWriter.{StreamWriter}
+use Rattle.jxl_encode_sections.specs.Sections.{IsFirstSection}
+use Rattle.jxl_encode_sections.specs.Inner.Groups.{AreGroupsOf, HasSection, HaveTokens}
+use Rattle.jxl_encode_sections.specs.Inner.Parts.{AreTokensIn, CodedSamples}
+use Rattle.jxl_encode_sections.specs.declared.frame.FrameTokens.{FrameTokens}
+
+-- These are the tokens of the global part, and of each group with samples.
+pub record AreTokensOfFrame (w : Width) (group_dim : ℕ) (coded : CodedSamples) (tree : Shape Leaf) (l : Layout) (t : FrameTokens) : Type 0 where
+  pub global : AreTokensIn w group_dim one_pass coded tree parts.Global 0 t.global.items
+  pub groups : AreGroupsOf group_dim one_pass coded.list l (map (λ p. p.part) t.groups.items)
+  pub tokens : All (HaveTokens w group_dim one_pass coded tree l) t.groups.items
+
+-- The first section has the tree and the global part, and each group has its section.
+pub record AreWrittenSections (nodes : List EncodeNode) (codes : StreamWriter) (ts : List Transform) (l : Layout) (t : FrameTokens) (sections : List (Vec ℕ)) : Type 0 where
+  pub count : length sections ≡ section_count_of l
+  pub first : List ℕ
+  pub first_is : slice_get (map (λ v. v.items) sections) 0 ≡ Some first
+  pub end : ℕ
+  pub is_first : IsFirstSection nodes codes ts t.global.items first 0 end
+  pub groups : All (λ p. HasSection codes l t.groups.items sections p.part) t.groups.items

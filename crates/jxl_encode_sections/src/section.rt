@@ -1,0 +1,84 @@
+//! The bytes of one section.
+
+ghost use Rattle.std.specs.Prelude.{◌≡◌, ◌≤◌, ◌^◌, ℕ, true, None, length, IfOk};
+ghost use Rattle.std.specs.List.{All};
+ghost use Rattle.std.specs.Option.{IfSome};
+ghost use Rattle.jxlm_bit_writer.specs.Writes.{Adds};
+ghost use Rattle.jxlm_encode_write.specs.Nodes.{has_token};
+ghost use Rattle.jxlm_encode_write.specs.Trees.{leaves_in};
+ghost use Rattle.jxlm_transform.specs.Transforms.{IsRct};
+ghost use Rattle.jxl_coding_stream_write.specs.Heads.{IsHead};
+ghost use Rattle.jxl_coding_stream_write.specs.Tokens.{HasSlot};
+ghost use Rattle.jxl_encode_image.specs.Preparations.{colour_transforms};
+ghost use Rattle.jxl_encode_sections.specs.Sections.{AreBehindHeader, IsFirstSection};
+
+use jxl_codestream_write::start::write_section_start;
+use jxl_coding_stream_write::stream::StreamWriter;
+use jxl_encode_image::header::write_shared_header;
+use jxl_encode_tree::samples::write_samples;
+use jxl_encode_tree::tree::write_tree;
+use jxlm_bit_writer::token::Token;
+use jxlm_bit_writer::writer::BitWriter;
+use jxlm_encode_write::tree::EncodeNode;
+use jxlm_transform::transform::Rct;
+use std::alloc::{AllocError, Global};
+
+/// Adds the header of a part, with this colour transform, if there is one, and the samples of the part by their tokens.
+fn write_part(
+    alloc: Global,
+    bits: &mut BitWriter,
+    codes: &StreamWriter,
+    colour: Option<Rct>,
+    tokens: &[Token],
+) -> Result<(), AllocError>
+    requires spelled { IfSome colour (λ t. IsRct t) }
+    requires slots { All (HasSlot codes.now.codes.items) tokens.now }
+    ensures { IfOk result (λ _. Adds bits.old bits.new
+        (AreBehindHeader codes.now (colour_transforms colour) tokens.now)) }
+{
+    write_shared_header(bits, colour)?;
+    write_samples(alloc, bits, codes, tokens)?;
+    Ok(())
+}
+
+/// The section of a group: a header without transforms, and the samples of the group by their tokens.
+pub(crate) fn group_section(
+    alloc: Global,
+    codes: &StreamWriter,
+    tokens: &[Token],
+) -> Result<Vec<u8>, AllocError>
+    requires slots { All (HasSlot codes.now.codes.items) tokens.now }
+    ensures { IfOk result (λ v. (end : ℕ)
+        × AreBehindHeader codes.now (colour_transforms None) tokens.now v.items 0 end) }
+{
+    let mut bits = BitWriter::new(alloc);
+    write_part(alloc, &mut bits, codes, None, tokens)?;
+    let bytes = bits.into_bytes()?;
+    Ok(bytes)
+}
+
+/// The first section of a frame: the default factors, the tree that all sections share, the header of the image with
+/// this colour transform, if there is one, and the samples of the global part by their tokens.
+pub(crate) fn first_section(
+    alloc: Global,
+    nodes: &[EncodeNode],
+    codes: &StreamWriter,
+    colour: Option<Rct>,
+    tokens: &[Token],
+) -> Result<Vec<u8>, AllocError>
+    requires properties { All (λ n. has_token n ≡ true) nodes.now }
+    requires few { length nodes.now ≤ 2 ^ 26 }
+    requires head { IsHead codes.now }
+    requires contexts { length codes.now.clusters.items ≡ leaves_in nodes.now }
+    requires spelled { IfSome colour (λ t. IsRct t) }
+    requires slots { All (HasSlot codes.now.codes.items) tokens.now }
+    ensures { IfOk result (λ v. (end : ℕ) × IsFirstSection nodes.now codes.now (colour_transforms colour) tokens.now
+        v.items 0 end) }
+{
+    let mut bits = BitWriter::new(alloc);
+    write_section_start(&mut bits, true)?;
+    write_tree(alloc, &mut bits, nodes, codes)?;
+    write_part(alloc, &mut bits, codes, colour, tokens)?;
+    let bytes = bits.into_bytes()?;
+    Ok(bytes)
+}

@@ -1,0 +1,3 @@
+pub mod NumberBytes
+pub mod Headers
+pub mod Literals

@@ -1,0 +1,13 @@
+pub mod Reading
+pub mod OneFront
+pub mod FrontErrors
+pub mod OnePart
+pub mod OneStill
+pub mod StillErrors
+pub mod Holds
+pub mod Patching
+pub mod OneFrame
+pub mod FrameErrors
+pub mod OneDecoding
+pub mod OneFile
+pub mod FullChannels

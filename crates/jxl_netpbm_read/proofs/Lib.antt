@@ -1,0 +1,3 @@
+pub mod Described
+pub mod OnePicture
+pub mod Places

@@ -1,0 +1,4 @@
+pub mod Longs
+pub mod TokenLists
+pub mod TokenReads
+pub mod Written

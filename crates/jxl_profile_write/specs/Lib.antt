@@ -1,0 +1,2 @@
+pub mod Profiles
+pub mod Inner

@@ -1,0 +1,61 @@
+//! Encodes a picture in a netpbm format to a lossless JPEG XL file.
+#![tactic(auto)]
+
+mod failures;
+mod options;
+mod run;
+
+use crate::failures::Failure;
+use crate::options::{Extra, Options};
+use crate::run::{Extras, report, run};
+use jxl_command::end::End;
+use jxl_command::input::InputFile;
+use jxl_command::output::OutputFile;
+use std::env;
+use std::io::{IsTerminal, Read};
+use std::process::ExitCode;
+
+// Encodes the picture that the reader gives.
+fn carry_out<R: Read>(rt: &HostRuntime, options: Options<'_>, input: &mut R) -> End {
+    let alloc = rt.alloc();
+    let errors = &mut rt.stderr();
+    let mut extras = Extras {
+        exif: InputFile::new(rt, options.path_of(Extra::Exif)),
+        xmp: InputFile::new(rt, options.path_of(Extra::Xmp)),
+    };
+    match options.output {
+        Some(path) => run(
+            alloc,
+            options,
+            input,
+            &mut extras,
+            &mut OutputFile::new(rt, path),
+            errors,
+        ),
+        None => run(alloc, options, input, &mut extras, &mut rt.stdout(), errors),
+    }
+}
+
+// Does what the options ask.
+fn encode(rt: &HostRuntime, options: Options<'_>) -> End {
+    if !options.has_output && rt.stdout().is_terminal() {
+        return report(&mut rt.stderr(), options.output_name, Failure::Terminal);
+    }
+    if options.input == "-" {
+        return carry_out(rt, options, &mut rt.stdin());
+    }
+    carry_out(rt, options, &mut InputFile::new(rt, options.input))
+}
+
+fn main(rt: HostRuntime) -> anyhow::Result<ExitCode> {
+    let alloc = rt.alloc();
+    let words: Vec<String> = env::args(&rt)?.collect(alloc)?;
+    let command = options::command(alloc)?;
+    match command.try_get_matches_from(words.as_slice()) {
+        Ok(matches) => Ok(ExitCode::from(encode(&rt, Options::of(&matches)).status)),
+        Err(error) => {
+            error.print(&rt)?;
+            Ok(ExitCode::from(error.exit_code() as u8))
+        }
+    }
+}
