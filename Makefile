@@ -51,5 +51,5 @@ check-commands: ## run jxldec and jxlenc, as they were last built, by their comm
 	@sh scripts/commands.sh crates/jxldec/out/jxldec crates/jxlenc/out/jxlenc
 
 test: check-docs check-alloc ## check-docs, check-alloc, every proof, must-fail edit and test, the programs' runs, and check-commands
-	rt ci
+	@bash -c 'TIMEFORMAT="rt ci: %0R s of wall time, %0U and %0S s of processor time"; time rt ci'
 	@sh scripts/commands.sh crates/jxldec/out/jxldec crates/jxlenc/out/jxlenc
