@@ -4,11 +4,12 @@ ghost use Rattle.std.specs.Prelude.{◌≡◌, ◌<◌, ◌≤◌, ◌+◌, ◌^
 ghost use Rattle.jxl_icc.specs.Profiles.{icc_of};
 ghost use Rattle.jxl_icc_write.specs.Inner.Streams.{literal_commands};
 
-use crate::header::{HEADER, after_header, residuals};
+use crate::header::{after_header, residuals};
 use crate::numbers::{MORE, push_number};
 use crate::stream::joined;
 use crate::tags::encode_tags;
 use jxl_icc::decode::decode_profile;
+use jxl_icc::header::HEADER;
 use std::alloc::{AllocError, Global};
 
 /// The commands of a profile of this size: no tag list, and all bytes after the header as they are.
