@@ -17,10 +17,14 @@ kind_of byte =
     if nat_le 48 byte && nat_le byte 57 || (byte == 46) || (byte == 44) then 1 else if byte == 0 then 2 else
     if byte == 1 then 3 else if nat_lt byte 16 then 4 else if byte == 255 then 6 else if nat_lt 240 byte then 5 else 7
 
--- the context of the byte after these, of which the last is the first in the list: by the kinds of the last two
+-- the context of byte i, by the kinds of the last byte and of the one before it
+abbrev pub context_after : ℕ → ℕ → ℕ → ℕ
+context_after i last before = if nat_le i 128 then 0 else
+    1 + kind_of last + 8 * slice_index (0 ∷ 1 ∷ 2 ∷ 2 ∷ 2 ∷ 3 ∷ 3 ∷ 4 ∷ []) (kind_of before)
+
+-- the context of the byte after these, of which the last is the first in the list
 abbrev pub context_of : List ℕ → ℕ
-context_of bytes = if nat_le (length bytes) 128 then 0 else
-    1 + kind_of (slice_index bytes 0) + 8 * slice_index (0 ∷ 1 ∷ 2 ∷ 2 ∷ 2 ∷ 3 ∷ 3 ∷ 4 ∷ []) (kind_of (slice_index bytes 1))
+context_of bytes = context_after (length bytes) (slice_index bytes 0) (slice_index bytes 1)
 
 -- one byte more: of a token its 8 lowest bits
 abbrev pub one_byte : {S : Type 0} → Meaning S → List ℕ → Tokens S (List ℕ)

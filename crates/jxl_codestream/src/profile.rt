@@ -7,8 +7,8 @@ ghost use Rattle.jxlm_bits.specs.ErrorKind.{UnlessMemory, kind_of as error_kind}
 ghost use Rattle.jxlm_bits.specs.Grammar.{Reads, HasRead};
 ghost use Rattle.jxl_codestream.specs.Reading.{Decodes};
 ghost use Rattle.jxlm_bits.specs.Turns.{chain};
-ghost use Rattle.jxl_codestream.specs.Profiles.{encoded_profile, icc_kind, icc_or_error, kind_of as the_kind_of, one_byte, profile};
-ghost use Rattle.jxl_codestream.specs.Inner.Steps.{TokensRead, context_after, length_in};
+ghost use Rattle.jxl_codestream.specs.Profiles.{context_after, encoded_profile, icc_kind, icc_or_error, kind_of as the_kind_of, one_byte, profile};
+ghost use Rattle.jxl_codestream.specs.Inner.Steps.{TokensRead, length_in};
 
 use crate::order::{decoder, token};
 use jxl_icc::decode::decode_profile;
@@ -60,7 +60,8 @@ fn before_of(kind: u32) -> u32
     }
 }
 
-fn context_of(i: u64, last: u32, before: u32) -> u32
+/// The context of byte `i` of an encoded profile, by the last byte and the one before it.
+pub fn context_of(i: u64, last: u32, before: u32) -> u32
     ensures context { result ≡ context_after i last before }
     ensures below { result < 41 }
 {

@@ -4,7 +4,7 @@ ghost use Rattle.std.specs.Prelude.{◌≡◌, ℕ, ◌<◌, ◌≤◌, ◌^◌,
 ghost use Rattle.std.specs.List.{All};
 ghost use Rattle.jxl_coding.specs.Clusters.{count_of};
 ghost use Rattle.jxl_coding.specs.Parse.{decoder_at, start_of};
-ghost use Rattle.jxl_coding_fields_write.specs.Readings.{Stands, Writes};
+ghost use Rattle.jxlm_bit_writer.specs.Writes.{Writes};
 ghost use Rattle.jxl_coding_stream_write.specs.Codes.{codes_of};
 ghost use Rattle.jxl_coding_stream_write.specs.Heads.{IsHead, map_token};
 ghost use Rattle.jxl_coding_stream_write.specs.Streams.{IsStream};
@@ -135,10 +135,10 @@ pub fn write_all(
     requires head { IsHead writer.now }
     requires contexts { length writer.now.clusters.items < 2 ^ 31 }
     requires slots { All (HasSlot writer.now.codes.items) tokens.now }
-    ensures { IfOk result (λ _. (head : List ℕ) × (stream : List ℕ) × (bits.new ≡ bits.old ++ head ++ stream)
-        × Stands (λ bytes p. decoder_at bytes p (length writer.now.clusters.items))
-        (start_of (codes_of writer.now)) head
-        × IsStream (codes_of writer.now) tokens.now stream) }
+    ensures { IfOk result (λ _. (middle : List ℕ) × (stream : List ℕ)
+        × Writes bits.old middle (λ bytes p. decoder_at bytes p (length writer.now.clusters.items))
+        (start_of (codes_of writer.now))
+        × (bits.new ≡ middle ++ stream) × IsStream (codes_of writer.now) tokens.now stream) }
 {
     write_any_head(alloc, bits, writer)?;
     writer.write_tokens(alloc, bits, tokens)?;

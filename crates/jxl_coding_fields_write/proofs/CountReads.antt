@@ -4,28 +4,28 @@ use Rattle.std.specs.Prelude.{nat_le, nat_lt, ◌==◌}
 use Rattle.std.specs.List.{sum, All}
 use Rattle.std.proofs.lemmas.Bool.{cases_lt, lt-leb, lt-ltb, le-ltb, eq-eqb}
 use Rattle.std.proofs.lemmas.Bool.Decides.{nat_tests}
-use Rattle.std.proofs.lemmas.List.{length-append, length-set, length-take-le, get_or-set_same, get_or-set_other, take_more, take_all, set-set, set-get_or}
+use Rattle.std.proofs.lemmas.List.{length-set, length-take-le, get_or-set_same, get_or-set_other, take_more, take_all, set-set, set-get_or}
 use Rattle.std.proofs.lemmas.List.Sums.{sum_by-set}
 use Rattle.std.proofs.Math.Nat.{pow-suc}
-use Rattle.jxlm_bit_writer.specs.Written.{digits, HasBits}
-use Rattle.jxlm_bit_writer.proofs.BitLists.{has_first, has_rest}
+use Rattle.jxlm_bit_writer.specs.Writes.{Writes}
+use Rattle.jxlm_bit_writer.specs.Written.{digits}
+use Rattle.jxlm_bit_writer.proofs.WriteLaws.{after, becomes}
 use Rattle.jxl_coding_codes.specs.Fields.{var_len_at}
 use Rattle.jxl_coding_codes.specs.Reading.{steps}
 use Rattle.jxl_coding_codes.specs.Distributions.{Widths, no_widths, one_width, signalled_at, widths_step, signalled_bits, count_at, next_count_at, counts_step, with_rest, ones_at, precision_at, are_widths, many_at, distribution_at, whole}
-use Rattle.jxl_coding_fields_write.specs.Readings.{Stands, Writes}
 use Rattle.jxl_coding_fields_write.specs.CountWidths.{digit_count, count_widths, with_width}
-use Rattle.jxl_coding_fields_write.proofs.NumberFields.{number_stands_as}
-use Rattle.jxl_coding_fields_write.proofs.Readings.{writes_steps, writes_none}
+use Rattle.jxl_coding_fields_write.proofs.NumberFields.{number_writes}
+use Rattle.jxl_coding_fields_write.proofs.ReadingLaws.{placed, writes_nothing, writes_none, writes_steps}
 use Rattle.jxl_coding_fields_write.proofs.CountWidthLaws.{wide, width_few, count_widths_next, count_widths_many, taken_many, width_at, width_past, count_widths_top, widest_comes}
 
 -- Widths.
 
-width_step : (all : ℕ) (s : Widths) (w : ℕ) (bits : List ℕ) → length s.widths < all → w ≤ 12 → Stands signalled_at w bits → Stands (widths_step all s) (one_width s w) bits
+width_step : (all : ℕ) (s : Widths) (w : ℕ) (a b : List ℕ) → length s.widths < all → w ≤ 12 → Writes a b signalled_at w → Writes a b (widths_step all s) (one_width s w)
 unfolding widths_step
-width_step all s w bits lt few h bytes p has =
+width_step all s w a b lt few h =
     let t : nat_le all (length s.widths) ≡ false = lt-leb all (length s.widths) lt in
     let u : (w == 13) ≡ false = grind (arith, nat_tests) in
-    rw (t, h bytes p has, u) refl
+    becomes h (λ bytes p q read. rw (t, read, u) refl)
 
 pub widths_start : (counts : List ℕ) (a : List ℕ) → Writes a a (steps (widths_step (length counts)) 0 no_widths) (count_widths (take 0 counts))
 widths_start counts a = writes_none (widths_step (length counts)) no_widths a
@@ -36,7 +36,7 @@ widths_next counts i a b c lt small before w =
     let m = taken_many counts i (omega (arith, lt)) in
     subst (λ (s : Widths). Writes a c (steps (widths_step (length counts)) (i + 1) no_widths) s) (sym (count_widths_next counts i lt))
     (writes_steps (widths_step (length counts)) i no_widths (count_widths (take i counts)) (with_width (count_widths (take i counts)) (slice_index counts i)) a b c before
-    (w.0, w.1, width_step (length counts) (count_widths (take i counts)) (digit_count (slice_index counts i)) w.0 (omega (arith, m, lt)) (width_few (slice_index counts i) small) w.2))
+    (width_step (length counts) (count_widths (take i counts)) (digit_count (slice_index counts i)) b c (omega (arith, m, lt)) (width_few (slice_index counts i) small) w))
 
 pub widths_all : (counts : List ℕ) (i : ℕ) (a b : List ℕ) → i ≡ length counts → Writes a b (steps (widths_step (length counts)) i no_widths) (count_widths (take i counts)) →
     Writes a b (steps (widths_step (length counts)) (length counts) no_widths) (count_widths counts)
@@ -49,12 +49,9 @@ widths_all counts i a b e w =
 all_bits : (w : ℕ) → 2 ≤ w → w ≤ 12 → signalled_bits w 13 ≡ w - 1
 all_bits w some few = omega (arith, some, few)
 
-pub short_count : (c : ℕ) → c < 2 → digit_count c ≡ c → Stands (λ bytes p. count_at 13 (digit_count c) bytes p) c []
+pub short_count : (c : ℕ) (a : List ℕ) → c < 2 → digit_count c ≡ c → Writes a a (λ bytes p. count_at 13 (digit_count c) bytes p) c
 unfolding count_at
-short_count c lt e bytes p has =
-    let t : nat_lt c 2 ≡ true = lt-ltb c 2 lt in
-    let q : p ≡ p + 0 = omega arith in
-    rw (e, t) (ap (λ (r : ℕ). Ok (record { value = c; position = r })) q)
+short_count c a lt e = let t : nat_lt c 2 ≡ true = lt-ltb c 2 lt in becomes (writes_nothing c a) (λ bytes p q read. rw (e, t) read)
 
 long_value : (c w : ℕ) → 2 ≤ w → 2 ^ (w - 1) ≤ c → 2 ^ (w - 1) + (c - 2 ^ (w - 1)) * 2 ^ (w - 1 - (w - 1)) ≡ c
 long_value c w some le =
@@ -64,13 +61,12 @@ long_value c w some le =
     once : (n : ℕ) → n ≤ c → n + (c - n) * 1 ≡ c
     once n l = omega (arith, l)
 
-count_by : (c w : ℕ) → 2 ≤ w → w ≤ 12 → 2 ^ (w - 1) ≤ c → c - 2 ^ (w - 1) < 2 ^ (w - 1) → Stands (λ bytes p. count_at 13 w bytes p) c (digits (w - 1) (c - 2 ^ (w - 1)))
+count_by : (c w : ℕ) (a b : List ℕ) → 2 ≤ w → w ≤ 12 → 2 ^ (w - 1) ≤ c → c - 2 ^ (w - 1) < 2 ^ (w - 1) → b ≡ a ++ digits (w - 1) (c - 2 ^ (w - 1)) → Writes a b (λ bytes p. count_at 13 w bytes p) c
 unfolding count_at
-count_by c w some few least small bytes p has =
+count_by c w a b some few least small e =
     let t : nat_lt w 2 ≡ false = le-ltb w 2 some in
-    let b : signalled_bits w 13 ≡ w - 1 = all_bits w some few in
-    let n = number_stands_as (w - 1) (c - 2 ^ (w - 1)) small bytes p has in
-    rw (t, b, n, long_value c w some least) refl
+    let all : signalled_bits w 13 ≡ w - 1 = all_bits w some few in
+    becomes (number_writes (w - 1) (c - 2 ^ (w - 1)) a b small e) (λ bytes p q read. rw (t, all, read, long_value c w some least) refl)
 
 halves : (w : ℕ) → 2 ≤ w → 2 ^ w ≡ 2 ^ (w - 1) * 2
 halves w some = let k : w ≡ suc (w - 1) = omega (arith, some) in ap (λ (n : ℕ). 2 ^ n) k ∙ pow-suc 2 (w - 1)
@@ -94,8 +90,8 @@ long_is c two fits =
     at_least (suc zero) lt = absurd (omega (arith, lt, two))
     at_least (suc (suc w)) lt = omega arith
 
-pub long_count : (c : ℕ) → 2 ≤ c → c < 4096 → Stands (λ bytes p. count_at 13 (digit_count c) bytes p) c (digits (digit_count c - 1) (c - 2 ^ (digit_count c - 1)))
-long_count c two fits = let h = long_is c two fits in count_by c (digit_count c) h.some (width_few c fits) h.least h.small
+pub long_count : (c : ℕ) (a b : List ℕ) → 2 ≤ c → c < 4096 → b ≡ a ++ digits (digit_count c - 1) (c - 2 ^ (digit_count c - 1)) → Writes a b (λ bytes p. count_at 13 (digit_count c) bytes p) c
+long_count c a b two fits e = let h = long_is c two fits in count_by c (digit_count c) a b h.some (width_few c fits) h.least h.small e
 
 -- All counts but that of the widest.
 
@@ -138,21 +134,18 @@ module _ (counts : List ℕ) (small : All (λ c. c < 4096) counts) (w : ℕ) (e 
       differ : (x y : ℕ) → x ≢ y → (x == y) ≡ false
       differ x y h = grind (arith, nat_tests)
 
-  pub step_widest : (i : ℕ) → i < length counts → i ≡ w → Stands (counts_step 13 (count_widths counts) (take i zeroed)) (take (i + 1) zeroed) []
-  step_widest i lt same bytes p has =
-      let n = at_widest i lt same bytes p in
+  pub step_widest : (i : ℕ) (a : List ℕ) → i < length counts → i ≡ w → Writes a a (counts_step 13 (count_widths counts) (take i zeroed)) (take (i + 1) zeroed)
+  step_widest i a lt same =
       let z : slice_index zeroed i ≡ 0 = ap (λ (k : ℕ). slice_index zeroed k) same ∙ get_or-set_same counts w 0 0 (omega (arith, lt, same)) in
       let v : take i zeroed ++ 0 ∷ [] ≡ take (i + 1) zeroed = sym (next_is i lt ∙ ap (λ (x : ℕ). take i zeroed ++ x ∷ []) z) in
-      let q : p ≡ p + 0 = omega arith in
-      rw (n, v) (ap (λ (r : ℕ). Ok (record { value = take (i + 1) zeroed; position = r })) q)
+      becomes (writes_nothing (take (i + 1) zeroed) a) (λ bytes p q read. rw (at_widest i lt same bytes p, v) read)
 
-  pub step_other : (i : ℕ) (bits : List ℕ) → i < length counts → i ≢ w → Stands (λ bytes p. count_at 13 (digit_count (slice_index counts i)) bytes p) (slice_index counts i) bits →
-      Stands (counts_step 13 (count_widths counts) (take i zeroed)) (take (i + 1) zeroed) bits
-  step_other i bits lt other h bytes p has =
-      let n = at_other i lt other bytes p ∙ h bytes p has in
+  pub step_other : (i : ℕ) (a b : List ℕ) → i < length counts → i ≢ w → Writes a b (λ bytes p. count_at 13 (digit_count (slice_index counts i)) bytes p) (slice_index counts i) →
+      Writes a b (counts_step 13 (count_widths counts) (take i zeroed)) (take (i + 1) zeroed)
+  step_other i a b lt other h =
       let z : slice_index zeroed i ≡ slice_index counts i = get_or-set_other counts w i 0 0 other in
       let v : take i zeroed ++ slice_index counts i ∷ [] ≡ take (i + 1) zeroed = sym (next_is i lt ∙ ap (λ (x : ℕ). take i zeroed ++ x ∷ []) z) in
-      rw (n, v) refl
+      becomes h (λ bytes p q read. rw (at_other i lt other bytes p ∙ read, v) refl)
 
   pub others_start : (a : List ℕ) → Writes a a (steps (counts_step 13 (count_widths counts)) 0 []) (take 0 zeroed)
   others_start a = writes_none (counts_step 13 (count_widths counts)) [] a
@@ -197,68 +190,32 @@ module _ (counts : List ℕ) (small : All (λ c. c < 4096) counts) (w : ℕ) (e 
         let t = (count_widths_top counts).there (omega (arith, m, three)) in
         let y = t.1 in
         let a : nat_lt 0 (count_widths counts).most ≡ true = lt-ltb 0 (count_widths counts).most (omega (arith, y)) in
-        let b : (slice_index (count_widths counts).widths ((count_widths counts).widest + 1) == 13) ≡ false = after ((count_widths counts).widest + 1) in
+        let b : (slice_index (count_widths counts).widths ((count_widths counts).widest + 1) == 13) ≡ false = no_copy ((count_widths counts).widest + 1) in
         rw (a, b) refl
       where
-        after : (k : ℕ) → (slice_index (count_widths counts).widths k == 13) ≡ false
-        after k = elim (cases_lt k (length counts)) [ inl lt ↦ no_run k lt | inr le ↦ let z = width_past counts k le in grind (arith, nat_tests) ]
+        no_copy : (k : ℕ) → (slice_index (count_widths counts).widths k == 13) ≡ false
+        no_copy k = elim (cases_lt k (length counts)) [ inl lt ↦ no_run k lt | inr le ↦ let z = width_past counts k le in grind (arith, nat_tests) ]
 
-    precision_stands : Stands precision_at 13 (digits 6 55)
+    precision_written : Writes [] (digits 6 55) precision_at 13
     unfolding precision_at ones_at
-    precision_stands bytes p has =
-        let h0 : HasBits bytes p (digits 1 1 ++ (digits 1 1 ++ (digits 1 1 ++ digits 3 6))) = has in
-        let n0 = number_stands_as 1 1 (omega arith) bytes p (has_first bytes p (digits 1 1) (digits 1 1 ++ (digits 1 1 ++ digits 3 6)) h0) in
-        let h1 : HasBits bytes (p + 1) (digits 1 1 ++ (digits 1 1 ++ digits 3 6)) = has_rest bytes p (digits 1 1) (digits 1 1 ++ (digits 1 1 ++ digits 3 6)) h0 in
-        let n1 = number_stands_as 1 1 (omega arith) bytes (p + 1) (has_first bytes (p + 1) (digits 1 1) (digits 1 1 ++ digits 3 6) h1) in
-        let h2 : HasBits bytes (p + 1 + 1) (digits 1 1 ++ digits 3 6) = has_rest bytes (p + 1) (digits 1 1) (digits 1 1 ++ digits 3 6) h1 in
-        let n2 = number_stands_as 1 1 (omega arith) bytes (p + 1 + 1) (has_first bytes (p + 1 + 1) (digits 1 1) (digits 3 6) h2) in
-        let h3 : HasBits bytes (p + 1 + 1 + 1) (digits 3 6) = has_rest bytes (p + 1 + 1) (digits 1 1) (digits 3 6) h2 in
-        let n3 = number_stands_as 3 6 (omega arith) bytes (p + 1 + 1 + 1) h3 in
-        let q : p + 1 + 1 + 1 + 3 ≡ p + 6 = omega arith in
-        rw (n0, n1, n2, n3) (ap (λ (r : ℕ). Ok (record { value = 13; position = r })) q)
+    precision_written =
+        becomes (after (number_writes 1 1 [] (digits 1 1) (omega arith) refl) (after (number_writes 1 1 (digits 1 1) (digits 2 3) (omega arith) refl)
+        (after (number_writes 1 1 (digits 2 3) (digits 3 7) (omega arith) refl) (number_writes 3 6 (digits 3 7) (digits 6 55) (omega arith) refl))))
+        (λ bytes p q s. rw (s.1, s.2.1, s.2.2.1, s.2.2.2) refl)
 
-    module _ (v ws os : List ℕ) (var : Stands (λ bytes p. var_len_at bytes p false) (length counts - 3) v)
-        (widths : Stands (steps (widths_step (length counts)) (length counts) no_widths) (count_widths counts) ws)
-        (others : Stands (steps (counts_step 13 (count_widths counts)) (length counts) []) zeroed os) where
-      many_stands : Stands many_at counts (digits 6 55 ++ (v ++ (ws ++ os)))
-      unfolding many_at
-      many_stands bytes p has =
-          let n0 = precision_stands bytes p (has_first bytes p (digits 6 55) (v ++ (ws ++ os)) has) in
-          let h1 = has_rest bytes p (digits 6 55) (v ++ (ws ++ os)) has in
-          let n1 = var bytes (p + 6) (has_first bytes (p + 6) v (ws ++ os) h1) in
-          let h2 = has_rest bytes (p + 6) v (ws ++ os) h1 in
-          let n2 = widths bytes (p + 6 + length v) (has_first bytes (p + 6 + length v) ws os h2) in
-          let n3 = others bytes (p + 6 + length v + length ws) (has_rest bytes (p + 6 + length v) ws os h2) in
-          let m : length counts - 3 + 3 ≡ length counts = omega (arith, three) in
-          let r : with_rest zeroed (count_widths counts).widest ≡ Ok counts = ap (λ (k : ℕ). with_rest zeroed k) (sym e) ∙ rest_is in
-          let l = length-append v (ws ++ os) in
-          let k = length-append ws os in
-          let q : p + 6 + length v + length ws + length os ≡ p + length (digits 6 55 ++ (v ++ (ws ++ os))) = omega (arith, l, k) in
-          rw (n0, n1, m, n2, are, n3, r) (ap (λ (x : ℕ). Ok (record { value = counts; position = x })) q)
-
-      counts_stand : Stands distribution_at counts (digits 2 0 ++ (digits 6 55 ++ (v ++ (ws ++ os))))
-      unfolding distribution_at
-      counts_stand bytes p has =
-          let all : List ℕ = digits 6 55 ++ (v ++ (ws ++ os)) in
-          let h0 : HasBits bytes p (digits 1 0 ++ (digits 1 0 ++ all)) = has in
-          let n0 = number_stands_as 1 0 (omega arith) bytes p (has_first bytes p (digits 1 0) (digits 1 0 ++ all) h0) in
-          let h1 : HasBits bytes (p + 1) (digits 1 0 ++ all) = has_rest bytes p (digits 1 0) (digits 1 0 ++ all) h0 in
-          let n1 = number_stands_as 1 0 (omega arith) bytes (p + 1) (has_first bytes (p + 1) (digits 1 0) all h1) in
-          let n2 = many_stands bytes (p + 1 + 1) (has_rest bytes (p + 1) (digits 1 0) all h1) in
-          let q : p + 1 + 1 + length (digits 6 55 ++ (v ++ (ws ++ os))) ≡ p + length (digits 2 0 ++ (digits 6 55 ++ (v ++ (ws ++ os)))) = omega arith in
-          rw (n0, n1, n2) (ap (λ (x : ℕ). Ok (record { value = counts; position = x })) q)
+    many_written : (b c d f g : List ℕ) → c ≡ b ++ digits 6 55 → Writes c d (λ bytes p. var_len_at bytes p false) (length counts - 3) →
+        Writes d f (steps (widths_step (length counts)) (length counts) no_widths) (count_widths counts) → Writes f g (steps (counts_step 13 (count_widths counts)) (length counts) []) zeroed → Writes b g many_at counts
+    unfolding many_at
+    many_written b c d f g y u v o =
+        let m : length counts - 3 + 3 ≡ length counts = omega (arith, three) in
+        let r : with_rest zeroed (count_widths counts).widest ≡ Ok counts = ap (λ (k : ℕ). with_rest zeroed k) (sym e) ∙ rest_is in
+        becomes (after (placed b c (digits 6 55) precision_written y) (after u (after v o))) (λ bytes p q s. rw (s.1, s.2.1, m, s.2.2.1, are, s.2.2.2, r) refl)
 
     pub counts_written : (a b c d f g : List ℕ) → b ≡ a ++ digits 2 0 → c ≡ b ++ digits 6 55 → Writes c d (λ bytes p. var_len_at bytes p false) (length counts - 3) →
         Writes d f (steps (widths_step (length counts)) (length counts) no_widths) (count_widths counts) → Writes f g (steps (counts_step 13 (count_widths counts)) (length counts) []) zeroed → Writes a g distribution_at counts
-    counts_written a b c d f g x y u v o = (
-      digits 2 0 ++ (digits 6 55 ++ (u.0 ++ (v.0 ++ o.0))),
-      five a b c d f g (digits 2 0) (digits 6 55) u.0 v.0 o.0 x y u.1 v.1 o.1,
-      counts_stand u.0 v.0 o.0 u.2 v.2 o.2,
-    )
-      where
-        five : (a b c d f g i j k l m : List ℕ) → b ≡ a ++ i → c ≡ b ++ j → d ≡ c ++ k → f ≡ d ++ l → g ≡ f ++ m → g ≡ a ++ (i ++ (j ++ (k ++ (l ++ m))))
-        five a b c d f g i j k l m e1 e2 e3 e4 e5 =
-            e5 ∙ ap (λ (xs : List ℕ). xs ++ m) e4 ∙ append_assoc d l m
-            ∙ ap (λ (xs : List ℕ). xs ++ (l ++ m)) e3 ∙ append_assoc c k (l ++ m)
-            ∙ ap (λ (xs : List ℕ). xs ++ (k ++ (l ++ m))) e2 ∙ append_assoc b j (k ++ (l ++ m))
-            ∙ ap (λ (xs : List ℕ). xs ++ (j ++ (k ++ (l ++ m)))) e1 ∙ append_assoc a i (j ++ (k ++ (l ++ m)))
+    unfolding distribution_at
+    counts_written a b c d f g x y u v o =
+        becomes
+        (after (number_writes 1 0 a (a ++ digits 1 0) (omega arith) refl)
+        (after (number_writes 1 0 (a ++ digits 1 0) b (omega arith) (x ∙ sym (append_assoc a (digits 1 0) (digits 1 0)))) (many_written b c d f g y u v o)))
+        (λ bytes p q s. rw (s.1, s.2.1, s.2.2) refl)

@@ -1,4 +1,4 @@
-pub mod Readings
+pub mod ReadingLaws
 pub mod NumberFields
 pub mod ConfigReads
 pub mod Forms

@@ -2,7 +2,7 @@
 
 ghost use Rattle.std.specs.Prelude.{◌≡◌, ◌+◌, ◌≤◌, IfOk};
 ghost use Rattle.jxl_coding_codes.specs.IntegerConfigs.{IsConfig, config_at};
-ghost use Rattle.jxl_coding_fields_write.specs.Readings.{Writes};
+ghost use Rattle.jxlm_bit_writer.specs.Writes.{Writes};
 
 use jxl_coding_codes::config::IntegerConfig;
 use jxl_coding_codes::fields::bit_width;

@@ -4,7 +4,7 @@ ghost use Rattle.std.specs.Prelude.{◌≡◌, ◌+◌, ◌<◌, ◌≤◌, [], 
 ghost use Rattle.std.specs.List.{All};
 ghost use Rattle.jxl_coding_codes.specs.Distributions.{signalled_at, distribution_at, widths_step, count_at, counts_step, no_widths};
 ghost use Rattle.jxl_coding_codes.specs.Reading.{steps};
-ghost use Rattle.jxl_coding_fields_write.specs.Readings.{Stands, Writes};
+ghost use Rattle.jxlm_bit_writer.specs.Writes.{Writes};
 ghost use Rattle.jxlm_bit_writer.specs.Written.{digits};
 ghost use Rattle.jxl_coding_fields_write.specs.CountWidths.{digit_count, count_widths};
 
@@ -25,7 +25,7 @@ fn width_of(count: u32) -> u32
 /// The code of the width of a count: its bits as a number, and their number.
 fn code_of(width: u32) -> (u32, u32)
     requires { width ≤ 12 }
-    ensures stands { Stands signalled_at width (digits result.1 result.0) }
+    ensures stands { Writes [] (digits result.1 result.0) signalled_at width }
     ensures few { result.1 ≤ 7 }
 {
     match width {

@@ -2,7 +2,7 @@
 
 ghost use Rattle.std.specs.Prelude.{◌≡◌, ◌<◌, ◌≤◌, ◌^◌, IfOk};
 ghost use Rattle.jxl_coding_codes.specs.Distributions.{distribution_at, even_first, one_symbol};
-ghost use Rattle.jxl_coding_fields_write.specs.Readings.{Writes};
+ghost use Rattle.jxlm_bit_writer.specs.Writes.{Writes};
 
 use crate::fields::write_var_len;
 use jxlm_bit_writer::writer::BitWriter;

@@ -2,7 +2,7 @@
 
 ghost use Rattle.std.specs.Prelude.{◌≡◌, ◌<◌, ◌≤◌, ◌^◌, false, IfOk};
 ghost use Rattle.jxl_coding_codes.specs.Fields.{number_at, var_len_at};
-ghost use Rattle.jxl_coding_fields_write.specs.Readings.{Writes};
+ghost use Rattle.jxlm_bit_writer.specs.Writes.{Writes};
 
 use jxl_coding_codes::fields::power;
 use jxlm_bit_writer::writer::BitWriter;

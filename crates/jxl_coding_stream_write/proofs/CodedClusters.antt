@@ -3,12 +3,13 @@ use Rattle.std.proofs.Common.{◌≡◌, ℕ, suc, ◌+◌, ◌<◌, List, [], �
 use Rattle.std.specs.Prelude.{nat_lt, slice_index}
 use Rattle.std.specs.List.{All, Contains}
 use Rattle.std.proofs.lemmas.Bool.{lt-ltb}
-use Rattle.std.proofs.lemmas.List.{append-nil, length-append}
+use Rattle.std.proofs.lemmas.List.{append-nil}
 use Rattle.jxlm_bits.specs.Decoding.{Asked, Found, Taken, reads}
 use Rattle.jxlm_bits.specs.ErrorKind.{◌>>=◌}
 use Rattle.jxlm_bits.specs.declared.decoder.DecoderError.{DecoderError}
+use Rattle.jxlm_bit_writer.specs.Writes.{Writes}
 use Rattle.jxlm_bit_writer.specs.Written.{digits}
-use Rattle.jxlm_bit_writer.proofs.BitLists.{has_first, has_rest}
+use Rattle.jxlm_bit_writer.proofs.WriteLaws.{after, becomes}
 use Rattle.jxl_coding_codes.specs.Reading.{steps}
 use Rattle.jxl_coding.specs.Clusters.{Listed, cluster_step, stream_clusters_at, coded_clusters_at}
 use Rattle.jxl_coding.specs.Parse.{decoder_at, start_of, codes_at, lz77_map_codes_at, plain_map_codes_at, map_codes_at, clusters_at, clusters_or_one}
@@ -18,39 +19,30 @@ use Rattle.jxl_coding_stream_write.specs.Codes.{codes_of}
 use Rattle.jxl_coding_stream_write.specs.Streams.{IsStream, in_stream}
 use Rattle.jxl_coding_stream_write.specs.declared.stream.StreamWriter.{StreamWriter}
 use Rattle.jxlm_bit_writer.specs.declared.token.Token.{Token}
-use Rattle.jxl_coding_fields_write.specs.Readings.{Stands, Writes}
-use Rattle.jxl_coding_fields_write.proofs.NumberFields.{number_stands_as}
+use Rattle.jxl_coding_fields_write.proofs.NumberFields.{number_writes}
 use Rattle.jxl_coding_stream_write.specs.Heads.{map_token}
 use Rattle.jxl_coding_stream_write.proofs.HeadReads.{lz77_none}
 
 -- The decoder of clusters.
 
-module _ (w : StreamWriter) (one : w.clusters.items ≡ 0 ∷ []) (bk : List ℕ) (codes : Stands (codes_at None w.clusters.items) (codes_of w) bk) where
-  own_codes : Stands (codes_at None (0 ∷ [])) (codes_of w) bk
-  own_codes = subst (λ (xs : List ℕ). Stands (codes_at None xs) (codes_of w) bk) one codes
+module _ (w : StreamWriter) (one : w.clusters.items ≡ 0 ∷ []) (a b c : List ℕ) (e : b ≡ a ++ digits 1 0) (codes : Writes b c (codes_at None w.clusters.items) (codes_of w)) where
+  own_codes : Writes b c (codes_at None (0 ∷ [])) (codes_of w)
+  own_codes = subst (λ (xs : List ℕ). Writes b c (codes_at None xs) (codes_of w)) one codes
 
-  plain_map : Stands plain_map_codes_at (codes_of w) (digits 1 0 ++ bk)
+  plain_map : Writes a c plain_map_codes_at (codes_of w)
   unfolding plain_map_codes_at
-  plain_map bytes p has =
-      let a = lz77_none false bytes p (has_first bytes p (digits 1 0) bk has) in
-      let b = own_codes bytes (p + 1) (has_rest bytes p (digits 1 0) bk has) in
-      let q : p + 1 + length bk ≡ p + length (digits 1 0 ++ bk) = omega arith in
-      rw (a, b) (ap (λ (r : ℕ). Ok (record { value = codes_of w; position = r })) q)
+  plain_map = becomes (after (lz77_none false a b e) own_codes) (λ bytes p q s. rw (s.1, s.2) refl)
 
-  lz77_map : Stands lz77_map_codes_at (codes_of w) (digits 1 0 ++ bk)
+  lz77_map : Writes a c lz77_map_codes_at (codes_of w)
   unfolding lz77_map_codes_at
-  lz77_map bytes p has =
-      let a = lz77_none true bytes p (has_first bytes p (digits 1 0) bk has) in
-      let b = own_codes bytes (p + 1) (has_rest bytes p (digits 1 0) bk has) in
-      let q : p + 1 + length bk ≡ p + length (digits 1 0 ++ bk) = omega arith in
-      rw (a, b) (ap (λ (r : ℕ). Ok (record { value = codes_of w; position = r })) q)
+  lz77_map = becomes (after (lz77_none true a b e) own_codes) (λ bytes p q s. rw (s.1, s.2) refl)
 
-  map_stands : (n : ℕ) → Stands (map_codes_at n) (codes_of w) (digits 1 0 ++ bk)
-  map_stands n bytes p has = by (nat_lt 2 n)
+  map_written : (n : ℕ) → Writes a c (map_codes_at n) (codes_of w)
+  map_written n = by (nat_lt 2 n)
     where
-      by : (t : Bool) → cond t (lz77_map_codes_at bytes p) (plain_map_codes_at bytes p) ≡ Ok (record { value = codes_of w; position = p + length (digits 1 0 ++ bk) })
-      by true = lz77_map bytes p has
-      by false = plain_map bytes p has
+      by : (t : Bool) → Writes a c (λ bytes p. cond t (lz77_map_codes_at bytes p) (plain_map_codes_at bytes p)) (codes_of w)
+      by true = lz77_map
+      by false = plain_map
 
 -- Their stream.
 
@@ -90,9 +82,9 @@ module _ (bytes : List ℕ) where
   kept s p first one read = (entropy_is_lawful.read_keeps s bytes p 0 0 first (has_zero s.codes.clusters one) read).clusters ∙ one
 
   -- one more, and then the others
-  after : (n : ℕ) (x y z : Found Listed) → cluster_step x.value bytes x.position ≡ ok y → steps cluster_step n y.value bytes y.position ≡ ok z → steps cluster_step (suc n) x.value bytes x.position ≡ ok z
+  step_first : (n : ℕ) (x y z : Found Listed) → cluster_step x.value bytes x.position ≡ ok y → steps cluster_step n y.value bytes y.position ≡ ok z → steps cluster_step (suc n) x.value bytes x.position ≡ ok z
   unfolding steps
-  after n x y z first rest = rw first rest
+  step_first n x y z first rest = rw first rest
 
   more : (v : ℕ) (values : List ℕ) (s : Entropy) (p : ℕ) (acc : List ℕ) (t : Entropy) (q : ℕ) → s.codes.clusters ≡ 0 ∷ [] → v < 256 →
       ((u : Entropy) (r : ℕ) → u.codes.clusters ≡ 0 ∷ [] → reads (entropy decoder_at) u bytes r (map ask values) ≡ ok (taken values t q) →
@@ -117,7 +109,7 @@ module _ (bytes : List ℕ) where
           let here : cluster_step (record { decoder = s; clusters = acc }) bytes p ≡ ok (listed_at first.state (acc ++ v ∷ []) first.position) =
           step_reads s p acc first one is (subst (λ (x : ℕ). x < 256) (sym both.0) small) ∙ ap (λ (x : ℕ). ok (listed_at first.state (acc ++ x ∷ []) first.position)) both.0 in
           let there = others first.state first.position (kept s p first one is) rest_is in
-          after (length values) (listed_at s acc p) (listed_at first.state (acc ++ v ∷ []) first.position) (listed_at t (acc ++ v ∷ values) q) here
+          step_first (length values) (listed_at s acc p) (listed_at first.state (acc ++ v ∷ []) first.position) (listed_at t (acc ++ v ∷ values) q) here
           (there ∙ ap (λ (xs : List ℕ). ok (listed_at t xs q)) (append_assoc acc (v ∷ []) values))
 
   steps_read : (values : List ℕ) (s : Entropy) (p : ℕ) (acc : List ℕ) (t : Entropy) (q : ℕ) → s.codes.clusters ≡ 0 ∷ [] → All (λ v. v < 256) values →
@@ -141,41 +133,34 @@ asked_are : (clusters : List ℕ) → map (λ (a : Asked). a.cluster) (map ask c
 asked_are [] = refl
 asked_are (c ∷ clusters) = ap (λ (xs : List ℕ). 0 ∷ xs) (asked_are clusters)
 
-module _ (w : StreamWriter) (one : w.clusters.items ≡ 0 ∷ []) (clusters bits : List ℕ) (small : All (λ c. c < 256) clusters) (stream : IsStream (codes_of w) (map map_token clusters) bits) where
-  stream_stands : Stands (stream_clusters_at (start_of (codes_of w)) (length clusters)) clusters bits
+module _ (w : StreamWriter) (one : w.clusters.items ≡ 0 ∷ []) (clusters bits : List ℕ) (small : All (λ c. c < 256) clusters) (stream : IsStream (codes_of w) (map map_token clusters) bits)
+    (c d : List ℕ) (added : d ≡ c ++ bits) where
+  stream_written : Writes c d (stream_clusters_at (start_of (codes_of w)) (length clusters)) clusters
   unfolding stream_clusters_at
-  stream_stands bytes p has =
-      let b = stream.begins bytes p (start_of (codes_of w)) refl has in
-      let r : reads (entropy decoder_at) (in_stream (codes_of w) stream.first) bytes (p + 32) (map ask clusters) ≡ ok (taken clusters (in_stream (codes_of w) end_state) (p + length bits)) =
-      stream.reads_all bytes p (map ask clusters) (asked_are clusters) has ∙ ap (λ (xs : List ℕ). ok (taken xs (in_stream (codes_of w) end_state) (p + length bits))) (values_are clusters) in
-      let s = steps_read bytes clusters (in_stream (codes_of w) stream.first) (p + 32) [] (in_stream (codes_of w) end_state) (p + length bits) one small r in
-      rw (b, s) refl
+  stream_written = record {
+    word = bits;
+    added = added;
+    holds = λ bytes p has.
+        let b = stream.begins bytes p (start_of (codes_of w)) refl has in
+        let r : reads (entropy decoder_at) (in_stream (codes_of w) stream.first) bytes (p + 32) (map ask clusters) ≡ ok (taken clusters (in_stream (codes_of w) end_state) (p + length bits)) =
+        stream.reads_all bytes p (map ask clusters) (asked_are clusters) has ∙ ap (λ (xs : List ℕ). ok (taken xs (in_stream (codes_of w) end_state) (p + length bits))) (values_are clusters) in
+        let s = steps_read bytes clusters (in_stream (codes_of w) stream.first) (p + 32) [] (in_stream (codes_of w) end_state) (p + length bits) one small r in
+        rw (b, s) refl;
+  }
 
-  coded_stands : Stands (coded_clusters_at (start_of (codes_of w)) false (length clusters)) clusters bits
+  clusters_written : Writes c d (coded_clusters_at (start_of (codes_of w)) false (length clusters)) clusters
   unfolding coded_clusters_at
-  coded_stands bytes p has = rw (stream_stands bytes p has) refl
-
-  module _ (many : 1 < length clusters) (bk : List ℕ) (codes : Stands (codes_at None w.clusters.items) (codes_of w) bk) where
-    clusters_stand : Stands (clusters_or_one (clusters_at (length clusters)) (length clusters)) clusters (digits 1 0 ++ (digits 1 0 ++ ((digits 1 0 ++ bk) ++ bits)))
-    unfolding clusters_at
-    clusters_stand bytes p has =
-        let own : List ℕ = digits 1 0 ++ bk in
-        let t : nat_lt 1 (length clusters) ≡ true = lt-ltb 1 (length clusters) many in
-        let n0 = number_stands_as 1 0 (omega arith) bytes p (has_first bytes p (digits 1 0) (digits 1 0 ++ (own ++ bits)) has) in
-        let h1 = has_rest bytes p (digits 1 0) (digits 1 0 ++ (own ++ bits)) has in
-        let n1 = number_stands_as 1 0 (omega arith) bytes (p + 1) (has_first bytes (p + 1) (digits 1 0) (own ++ bits) h1) in
-        let h2 = has_rest bytes (p + 1) (digits 1 0) (own ++ bits) h1 in
-        let n2 = map_stands w one bk codes (length clusters) bytes (p + 1 + 1) (has_first bytes (p + 1 + 1) own bits h2) in
-        let n3 = coded_stands bytes (p + 1 + 1 + length own) (has_rest bytes (p + 1 + 1) own bits h2) in
-        let l = length-append own bits in
-        let q : p + 1 + 1 + length own + length bits ≡ p + length (digits 1 0 ++ (digits 1 0 ++ ((digits 1 0 ++ bk) ++ bits))) = omega (arith, l) in
-        rw (t, n0, n1, n2, n3) (ap (λ (r : ℕ). Ok (record { value = clusters; position = r })) q)
+  clusters_written = becomes stream_written (λ bytes p q read. rw read refl)
 
 pub coded_written : (w : StreamWriter) (clusters a b c d : List ℕ) → w.clusters.items ≡ 0 ∷ [] → All (λ v. v < 256) clusters → 1 < length clusters → b ≡ a ++ digits 3 0 → Writes b c (codes_at None w.clusters.items) (codes_of w) →
     (bits : List ℕ) → d ≡ c ++ bits → IsStream (codes_of w) (map map_token clusters) bits → Writes a d (clusters_or_one (clusters_at (length clusters)) (length clusters)) clusters
+unfolding clusters_at
 coded_written w clusters a b c d one small many e u bits f stream =
-    (digits 1 0 ++ (digits 1 0 ++ ((digits 1 0 ++ u.0) ++ bits)), joined a b c d u.0 bits e u.1 f, clusters_stand w one clusters bits small stream many u.0 u.2)
-  where
-    joined : (a b c d x y : List ℕ) → b ≡ a ++ digits 3 0 → c ≡ b ++ x → d ≡ c ++ y → d ≡ a ++ (digits 1 0 ++ (digits 1 0 ++ ((digits 1 0 ++ x) ++ y)))
-    joined a b c d x y e f g =
-        g ∙ ap (λ (xs : List ℕ). xs ++ y) (f ∙ ap (λ (xs : List ℕ). xs ++ x) e) ∙ append_assoc (a ++ digits 3 0) x y ∙ append_assoc a (digits 3 0) (x ++ y)
+    let off : List ℕ = digits 1 0 in
+    let t : nat_lt 1 (length clusters) ≡ true = lt-ltb 1 (length clusters) many in
+    let last : b ≡ ((a ++ off) ++ off) ++ off = e ∙ sym (append_assoc (a ++ off) off off ∙ append_assoc a off (off ++ off)) in
+    becomes
+    (after (number_writes 1 0 a (a ++ off) (omega arith) refl)
+    (after (number_writes 1 0 (a ++ off) ((a ++ off) ++ off) (omega arith) refl)
+    (after (map_written w one ((a ++ off) ++ off) b c last u (length clusters)) (clusters_written w one clusters bits small stream c d f))))
+    (λ bytes p q s. rw (t, s.1, s.2.1, s.2.2.1, s.2.2.2) refl)

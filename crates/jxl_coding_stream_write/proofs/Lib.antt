@@ -7,3 +7,4 @@ pub mod TokenReads
 pub mod HeadReads
 pub mod OneContext
 pub mod CodedClusters
+pub mod WrittenStreams

@@ -6,7 +6,7 @@ ghost use Rattle.jxl_coding_codes.specs.Fields.{number_at};
 ghost use Rattle.jxl_coding_codes.specs.IntegerConfigs.{config_at};
 ghost use Rattle.jxl_coding_codes.specs.Reading.{steps, list_and_one};
 ghost use Rattle.jxl_coding.specs.Parse.{codes_at, clusters_or_one, clusters_at, decoder_at, distribution_step, nothing_coded, start_of};
-ghost use Rattle.jxl_coding_fields_write.specs.Readings.{Writes};
+ghost use Rattle.jxlm_bit_writer.specs.Writes.{Writes};
 ghost use Rattle.jxl_coding_codes.specs.Distributions.{distribution_at};
 ghost use Rattle.jxl_coding_stream_write.specs.Codes.{coded_after, codes_of};
 ghost use Rattle.jxl_coding_stream_write.specs.Tokens.{HasSlot};

@@ -1,25 +1,24 @@
 -- The tokens of nodes, written in the clusters of their contexts, are read.
-use Rattle.std.proofs.Common.{◌≡◌, ℕ, zero, suc, ◌+◌, ◌*◌, ◌<◌, ◌≤◌, List, [], ◌∷◌, ◌++◌, length, map, get_or, Bool, true, false, Ok, refl, sym, ap, ◌∙◌, subst, append_assoc, arith}
+use Rattle.std.proofs.Common.{◌≡◌, ℕ, zero, suc, ◌*◌, ◌<◌, ◌≤◌, List, [], ◌∷◌, length, map, get_or, Bool, true, false, Ok, refl, sym, ap, ◌∙◌, subst, arith}
 use Rattle.std.specs.List.{All}
 use Rattle.std.proofs.Math.ListN.{get_or-map}
-use Rattle.std.proofs.lemmas.List.{length-append, length-map}
+use Rattle.std.proofs.lemmas.List.{length-map}
 use Rattle.jxlm_bits.specs.Decoding.{Asked}
 use Rattle.jxlm_bit_writer.specs.ReadStreams.{IsRead}
 use Rattle.jxlm_bit_writer.specs.Writes.{Adds}
 use Rattle.jxlm_bit_writer.specs.declared.token.Token.{Token}
-use Rattle.jxlm_bit_writer.proofs.BitLists.{has_first, has_rest}
+use Rattle.jxlm_bit_writer.proofs.WriteLaws.{becomes}
 use Rattle.jxlm_encode_write.specs.Nodes.{tree_tokens}
 use Rattle.jxlm_encode_write.specs.declared.tree.EncodeNode.{EncodeNode}
 use Rattle.jxlm_encode_write.specs.declared.tree.EncodeNode.TheVariants as given
 use Rattle.jxlm_encode_streams.specs.TreeStreams.{in_context, tree_contexts}
 use Rattle.jxl_coding.specs.Clusters.{are_used, count_of, greatest}
 use Rattle.jxl_coding.specs.Parse.{decoder_at, start_of}
-use Rattle.jxl_coding.specs.Tokens.{Entropy, entropy}
-use Rattle.jxl_coding_fields_write.specs.Readings.{Stands}
+use Rattle.jxl_coding.specs.Tokens.{entropy}
 use Rattle.jxl_coding_stream_write.specs.Codes.{codes_of}
-use Rattle.jxl_coding_stream_write.specs.Streams.{AreAsked, IsStream}
+use Rattle.jxl_coding_stream_write.specs.Streams.{AreAsked}
 use Rattle.jxl_coding_stream_write.specs.declared.stream.StreamWriter.{StreamWriter}
-use Rattle.jxl_coding_stream_write.proofs.StreamReads.{streams_read}
+use Rattle.jxl_coding_stream_write.proofs.WrittenStreams.{IsDecodedAt}
 use Rattle.jxl_encode_tree.specs.Inner.Contexts.{AreNodesRead, cluster_count, cluster_in, clusters_in}
 
 -- each cluster has a context
@@ -88,27 +87,12 @@ module _ (separate : Bool) (nodes : List EncodeNode) (writer : StreamWriter) (to
   six : length writer.clusters.items ≡ 6
   six = ap length clusters ∙ length-map (0 ∷ 1 ∷ 2 ∷ 3 ∷ 4 ∷ 5 ∷ []) (cluster_in separate)
 
-  -- a head and a stream were added
-  pub nodes_read : (old new : List ℕ) → (head : List ℕ) × (stream : List ℕ) × (new ≡ old ++ head ++ stream)
-      × Stands (λ bytes p. decoder_at bytes p (length writer.clusters.items)) (start_of (codes_of writer)) head × IsStream (codes_of writer) tokens stream →
-      Adds old new (AreNodesRead nodes)
+  -- a decoder and a stream were added
+  pub nodes_read : (old new : List ℕ) → Adds old new (IsDecodedAt (length writer.clusters.items) (codes_of writer) tokens) → Adds old new (AreNodesRead nodes)
   nodes_read old new all =
-      let head : List ℕ = all.0 in
-      let stream : List ℕ = all.1 in
-      record {
-        word = head ++ stream;
-        added = all.2 ∙ append_assoc old head stream;
-        holds = λ bytes p has.
-            let l = length-append head stream in
-            let e : p + length head + length stream ≡ p + length (head ++ stream) = omega (arith, l) in
-            let start : Entropy = start_of (codes_of writer) in
-            record {
-              own = record { value = start; position = p + length head };
-              parsed = ap (λ (n : ℕ). decoder_at bytes p n) (sym six) ∙ all.3 bytes p (has_first bytes p head stream has);
-              read =
-                  let there = streams_read (codes_of writer) tokens stream start bytes (p + length head) (map (in_context writer.clusters.items) (tree_contexts nodes)) all.4 refl asked
-                  (has_rest bytes p head stream has) in
-                  subst (λ (q : ℕ). IsRead (entropy decoder_at) start bytes (p + length head) (map (in_context writer.clusters.items) (tree_contexts nodes)) (tree_tokens nodes) q) e
-                  (subst (λ (vs : List ℕ). IsRead (entropy decoder_at) start bytes (p + length head) (map (in_context writer.clusters.items) (tree_contexts nodes)) vs (p + length head + length stream)) values there);
-            };
-      }
+      let contexts : List Asked = map (in_context writer.clusters.items) (tree_contexts nodes) in
+      becomes all (λ bytes p q s. record {
+        own = record { value = start_of (codes_of writer); position = s.0 };
+        parsed = ap (λ (n : ℕ). decoder_at bytes p n) (sym six) ∙ s.1;
+        read = subst (λ (vs : List ℕ). IsRead (entropy decoder_at) (start_of (codes_of writer)) bytes s.0 contexts vs q) values (s.2 contexts asked);
+      })

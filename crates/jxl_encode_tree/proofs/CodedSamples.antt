@@ -1,12 +1,12 @@
 -- Samples whose tokens were written as a stream are coded.
-use Rattle.std.proofs.Common.{◌≡◌, ℕ, ◌+◌, ℤ, List, [], ◌∷◌, ◌++◌, length, map, refl, sym, ap, ◌∙◌, arith}
+use Rattle.std.proofs.Common.{◌≡◌, ℕ, ℤ, List, [], ◌∷◌, ◌++◌, length, map, refl, sym, ap, ◌∙◌, arith}
 use Rattle.std.specs.Int.{Width}
 use Rattle.std.proofs.Math.ListN.{get_or-map}
 use Rattle.std.proofs.lemmas.List.{get_or_default, length-map}
 use Rattle.jxlm_bits.specs.Decoding.{Asked}
 use Rattle.jxlm_bit_writer.specs.Writes.{Adds}
-use Rattle.jxlm_bit_writer.specs.Written.{HasBits}
 use Rattle.jxlm_bit_writer.specs.declared.token.Token.{Token}
+use Rattle.jxlm_bit_writer.proofs.WriteLaws.{becomes}
 use Rattle.jxlm_samples.specs.Part.{Part, cells_of, max_width}
 use Rattle.jxlm_encode_tokens.specs.Tokens.{AreClusteredTokensOf}
 use Rattle.jxlm_encode_streams.specs.Streams.{AsksFor}
@@ -16,7 +16,7 @@ use Rattle.jxl_coding.specs.Tokens.{entropy}
 use Rattle.jxl_coding_stream_write.specs.Codes.{codes_of}
 use Rattle.jxl_coding_stream_write.specs.Streams.{AreAsked, IsStream}
 use Rattle.jxl_coding_stream_write.specs.declared.stream.StreamWriter.{StreamWriter}
-use Rattle.jxl_coding_stream_write.proofs.StreamReads.{streams_read}
+use Rattle.jxl_coding_stream_write.proofs.WrittenStreams.{stream_added}
 use Rattle.jxl_encode_tree.specs.Samples.{AreCoded}
 
 -- the read of a token
@@ -42,13 +42,10 @@ module _ (w : Width) (part : Part) (cells : List ℤ) (tokens : List Token) (are
         ∙ ap (λ (c : ℕ). record { cluster = c; multiplier = max_width part.channels }) (are.clusters k none lt),
   )
 
-stream_coded : (codes : StreamWriter) (tokens : List Token) (word : List ℕ) → IsStream (codes_of codes) tokens word →
-    (bytes : List ℕ) (p : ℕ) → HasBits bytes p word → AreCoded codes tokens bytes p (p + length word)
-stream_coded codes tokens word stream bytes p has w part grids decoder are count same =
-    read_streams_coded (entropy decoder_at) w part bytes decoder p (p + length word) grids (map (ask (max_width part.channels)) tokens) (map (λ t. t.value) tokens) are.values count
-    (asks w part (cells_of grids) tokens are)
-    (streams_read (codes_of codes) tokens word decoder bytes p (map (ask (max_width part.channels)) tokens) stream same (asked_for (max_width part.channels) tokens) has)
-
 -- a stream was added
 pub samples_coded : (codes : StreamWriter) (tokens : List Token) (old new : List ℕ) → (b : List ℕ) × (new ≡ old ++ b) × IsStream (codes_of codes) tokens b → Adds old new (AreCoded codes tokens)
-samples_coded codes tokens old new s = record { word = s.0; added = s.1; holds = stream_coded codes tokens s.0 s.2 }
+samples_coded codes tokens old new s =
+    becomes (stream_added (codes_of codes) tokens old new s)
+    (λ bytes p q read w part grids decoder are count same.
+    read_streams_coded (entropy decoder_at) w part bytes decoder p q grids (map (ask (max_width part.channels)) tokens) (map (λ t. t.value) tokens) are.values count (asks w part (cells_of grids) tokens are)
+    (read decoder (map (ask (max_width part.channels)) tokens) same (asked_for (max_width part.channels) tokens)))

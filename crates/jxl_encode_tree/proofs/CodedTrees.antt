@@ -1,11 +1,11 @@
 -- A tree whose nodes and whose leaves' decoder were written is read.
-use Rattle.std.proofs.Common.{◌≡◌, ◌⊎◌, inl, inr, ℕ, ◌+◌, ◌^◌, ◌≤◌, List, [], ◌∷◌, ◌++◌, length, Err, sym, ap, ◌∙◌, subst, append_assoc, arith}
-use Rattle.std.proofs.lemmas.List.{length-append}
+use Rattle.std.proofs.Common.{◌≡◌, ◌⊎◌, inl, inr, ℕ, ◌+◌, ◌^◌, ◌≤◌, List, [], ◌∷◌, ◌++◌, length, Err, sym, ap, ◌∙◌, subst, arith}
 use Rattle.jxlm_bits.specs.ErrorKind.{kind_of}
 use Rattle.jxlm_bits.specs.declared.error.Error.{Error}
-use Rattle.jxlm_bit_writer.specs.Writes.{Adds}
+use Rattle.jxlm_bit_writer.specs.Writes.{Adds, Writes}
 use Rattle.jxlm_bit_writer.specs.Written.{AreFilled, HasBits}
-use Rattle.jxlm_bit_writer.proofs.BitLists.{filled_stands, has_first, has_rest}
+use Rattle.jxlm_bit_writer.proofs.BitLists.{filled_stands}
+use Rattle.jxlm_bit_writer.proofs.WriteLaws.{after, becomes}
 use Rattle.jxlm_tree.specs.Tree.{Config, Shape, config_of, depth, levels}
 use Rattle.jxlm_tree.specs.TreeReading.{IsTreeAt, TreeGives}
 use Rattle.jxlm_tree.specs.TreeStands.{OneTreeStands, TreeStands, TreesAreReadExactly}
@@ -22,7 +22,6 @@ use Rattle.jxlm_encode.proofs.Listings.{clustered_counted, clustered_tree}
 use Rattle.jxlm_encode.proofs.TreesRead.{standing_accepted, standing_read}
 use Rattle.jxl_coding.specs.Parse.{decoder_at, start_of}
 use Rattle.jxl_coding.specs.Tokens.{Entropy, entropy}
-use Rattle.jxl_coding_fields_write.specs.Readings.{Writes}
 use Rattle.jxl_coding_stream_write.specs.Codes.{codes_of}
 use Rattle.jxl_coding_stream_write.specs.declared.stream.StreamWriter.{StreamWriter}
 use Rattle.jxl_encode_tree.specs.Inner.Contexts.{AreNodesRead}
@@ -39,21 +38,14 @@ few_leaves (given.Leaf predictor offset ∷ nodes) = let rest = few_leaves nodes
 pub tree_written : ReadTreeStands (entropy decoder_at) → TreesAreReadExactly (entropy decoder_at) → (nodes : List EncodeNode) (leaves : StreamWriter) → length nodes ≤ 2 ^ 26 →
     length leaves.clusters.items ≡ leaves_in nodes → (old mid new : List ℕ) → Adds old mid (AreNodesRead nodes) →
     Writes mid new (λ bytes p. decoder_at bytes p (length leaves.clusters.items)) (start_of (codes_of leaves)) → Adds old new (IsWrittenTree nodes leaves)
-tree_written stand exact nodes leaves few contexts old mid new first last = record {
-  word = first.word ++ last.0;
-  added = last.1 ∙ ap (λ (xs : List ℕ). xs ++ last.0) first.added ∙ append_assoc old first.word last.0;
-  holds = λ bytes p has node_limit depth_limit t listed count deep.
-      let l = length-append first.word last.0 in
-      let m : ℕ = p + length first.word in
-      let e : m + length last.0 ≡ p + length (first.word ++ last.0) = omega (arith, l) in
-      let at : AreNodesRead nodes bytes p m = first.holds bytes p (has_first bytes p first.word last.0 has) in
-      let parsed = ap (λ (n : ℕ). decoder_at bytes m n) (sym contexts) ∙ last.2 bytes m (has_rest bytes p first.word last.0 has) in
-      let counted = clustered_counted leaves.clusters.items t nodes listed in
-      let there : TreeStands (entropy decoder_at) bytes node_limit depth_limit p (config_of t (start_of (codes_of leaves))) (m + length last.0) =
-      stand bytes node_limit depth_limit p m (m + length last.0) t nodes at.own (start_of (codes_of leaves)) listed at.parsed at.read parsed (omega (arith, counted, few)) count deep in
-      subst (λ (q : ℕ). IsTreeAt (entropy decoder_at) bytes node_limit depth_limit p (config_of t (start_of (codes_of leaves))) q) e
-      ((exact bytes node_limit depth_limit p (config_of t (start_of (codes_of leaves))) (m + length last.0)).1 there);
-}
+tree_written stand exact nodes leaves few contexts old mid new first last =
+    becomes (after first last) (λ bytes p q s node_limit depth_limit t listed count deep.
+    let nodes_read = s.1 in
+    let parsed = ap (λ (n : ℕ). decoder_at bytes s.0 n) (sym contexts) ∙ s.2 in
+    let counted = clustered_counted leaves.clusters.items t nodes listed in
+    let there : TreeStands (entropy decoder_at) bytes node_limit depth_limit p (config_of t (start_of (codes_of leaves))) q =
+    stand bytes node_limit depth_limit p s.0 q t nodes nodes_read.own (start_of (codes_of leaves)) listed nodes_read.parsed nodes_read.read parsed (omega (arith, counted, few)) count deep in
+    (exact bytes node_limit depth_limit p (config_of t (start_of (codes_of leaves))) q).1 there)
 
 -- ---- the bytes of such a tree alone, read
 

@@ -53,7 +53,7 @@ pub fn predicted(size: u32, header: &[u8], i: usize) -> u8
 
 /// Adds this many bytes of a header, each the sum of a byte of the data, from `start` on, and of what is predicted for it.
 #[tactic(auto, using(crate::proofs::Growths::grown_none, crate::proofs::Growths::grown_next))]
-pub fn decode_header(
+pub(crate) fn decode_header(
     bytes: &[u8],
     start: usize,
     size: u32,

@@ -4,7 +4,7 @@
 mod commands;
 pub mod decode;
 pub mod error;
-mod header;
+pub mod header;
 mod linear;
 mod numbers;
 mod pieces;

@@ -1,3 +1,4 @@
 pub mod NumberBytes
 pub mod Headers
 pub mod Literals
+pub mod Limits

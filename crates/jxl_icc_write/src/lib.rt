@@ -4,3 +4,5 @@
 pub mod encode;
 mod header;
 mod numbers;
+mod stream;
+mod tags;

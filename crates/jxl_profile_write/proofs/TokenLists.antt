@@ -2,14 +2,14 @@
 use Rattle.std.proofs.Common.{◌≡◌, ℕ, zero, suc, ◌+◌, ◌-◌, ◌*◌, ◌%◌, ◌<◌, ◌≤◌, List, [], ◌∷◌, ◌++◌, length, map, take, get_or, Bool, true, false, Ok, refl, sym, ap, ◌∙◌, append_assoc, arith}
 use Rattle.std.specs.Prelude.{reverse, slice_index, nat_le, nat_lt, ◌==◌, ◌&&◌, ◌||◌, if◌then◌else◌}
 use Rattle.std.specs.List.{All}
-use Rattle.std.proofs.lemmas.Bool.{le-leb, lt-leb}
+use Rattle.std.proofs.lemmas.Bool.{le-leb}
 use Rattle.std.proofs.lemmas.List.{append-nil, get_or-reverse, get_or-take, length-reverse, length-take-le, reverse-append, take_more}
 use Rattle.std.proofs.lemmas.List.FromFn.{get_or-map-range_with_len, length-map-range_with_len}
 use Rattle.std.proofs.Math.Nat.{mod-lt}
 use Rattle.jxlm_bits.specs.Decoding.{Asked}
 use Rattle.jxlm_bit_writer.specs.declared.token.Token.{Token}
 use Rattle.jxl_coding.specs.Clusters.{are_used, count_of, greatest}
-use Rattle.jxl_codestream.specs.Profiles.{context_of, kind_of}
+use Rattle.jxl_codestream.specs.Profiles.{context_after, context_of, kind_of}
 use Rattle.jxl_coding_stream_write.specs.Streams.{AreAsked}
 use Rattle.jxl_profile_write.specs.Inner.Tokens.{cluster_count, cluster_in, clusters_in, onto, tokens_after}
 
@@ -88,16 +88,12 @@ module _ (bytes : List ℕ) (i : ℕ) (inside : i ≤ length bytes) where
   pub first_context : i ≤ 128 → context_of (onto (take i bytes) []) ≡ 0
   first_context le = rw (many, le-leb i 128 le) refl
 
-  pub later_context : (last before : ℕ) → 128 < i → last ≡ kind_of (slice_index bytes (i - 1)) → before ≡ slice_index (0 ∷ 1 ∷ 2 ∷ 2 ∷ 2 ∷ 3 ∷ 3 ∷ 4 ∷ []) (kind_of (slice_index bytes (i - 2))) →
-      1 + last + 8 * before ≡ context_of (onto (take i bytes) [])
-  later_context last before lt a b =
-      let x : slice_index bytes (i - 1) ≡ slice_index (onto (take i bytes) []) 0 = sym (byte_back 0 (omega (arith, lt))) in
-      let y : slice_index bytes (i - 2) ≡ slice_index (onto (take i bytes) []) 1 = sym (byte_back 1 (omega (arith, lt))) in
-      let c : last ≡ kind_of (slice_index (onto (take i bytes) []) 0) = a ∙ ap kind_of x in
-      let d : before ≡ slice_index (0 ∷ 1 ∷ 2 ∷ 2 ∷ 2 ∷ 3 ∷ 3 ∷ 4 ∷ []) (kind_of (slice_index (onto (take i bytes) []) 1)) =
-      b ∙ ap (λ (n : ℕ). slice_index (0 ∷ 1 ∷ 2 ∷ 2 ∷ 2 ∷ 3 ∷ 3 ∷ 4 ∷ []) (kind_of n)) y in
-      let e : nat_le (length (onto (take i bytes) [])) 128 ≡ false = ap (λ (n : ℕ). nat_le n 128) many ∙ lt-leb i 128 lt in
-      rw e (ap (λ (n : ℕ). 1 + n + 8 * before) c ∙ ap (λ (n : ℕ). 1 + kind_of (slice_index (onto (take i bytes) []) 0) + 8 * n) d)
+  pub later_context : 128 < i → context_after i (slice_index bytes (i - 1)) (slice_index bytes (i - 2)) ≡ context_of (onto (take i bytes) [])
+  later_context lt =
+      let last : slice_index bytes (i - 1) ≡ slice_index (onto (take i bytes) []) 0 = sym (byte_back 0 (omega (arith, lt))) in
+      let before : slice_index bytes (i - 2) ≡ slice_index (onto (take i bytes) []) 1 = sym (byte_back 1 (omega (arith, lt))) in
+      ap (λ (b : ℕ). context_after i b (slice_index bytes (i - 2))) last ∙ ap (λ (b : ℕ). context_after i (slice_index (onto (take i bytes) []) 0) b) before
+      ∙ ap (λ (n : ℕ). context_after n (slice_index (onto (take i bytes) []) 0) (slice_index (onto (take i bytes) []) 1)) (sym many)
 
 -- ---- what a reader asks for
 

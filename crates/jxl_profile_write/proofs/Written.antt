@@ -1,8 +1,8 @@
 -- A profile whose length, decoder and tokens were written is read.
-use Rattle.std.proofs.Common.{◌≡◌, ℕ, ◌+◌, ◌<◌, ◌≤◌, List, [], ◌∷◌, ◌++◌, length, Bool, Result, Ok, refl, sym, ap, ◌∙◌, subst, append_assoc, arith}
+use Rattle.std.proofs.Common.{◌≡◌, ℕ, ◌+◌, ◌<◌, ◌≤◌, List, [], ◌∷◌, length, map, Bool, Result, Ok, refl, sym, ap, ◌∙◌, subst, arith}
 use Rattle.std.specs.Prelude.{reverse, slice_index}
 use Rattle.std.proofs.lemmas.Bool.{le-leb}
-use Rattle.std.proofs.lemmas.List.{length-append, reverse-reverse}
+use Rattle.std.proofs.lemmas.List.{reverse-reverse}
 use Rattle.jxlm_bits.specs.Decoding.{Meaning}
 use Rattle.jxlm_bits.specs.ErrorKind.{ErrorKind}
 use Rattle.jxlm_bits.specs.Grammar.{Grammar, from_result, ◌>>=◌}
@@ -10,7 +10,6 @@ use Rattle.jxlm_bits.specs.Tokens.{coded_tokens}
 use Rattle.jxlm_bits.specs.Turns.{chain}
 use Rattle.jxlm_bit_writer.specs.Writes.{Adds, Spells}
 use Rattle.jxlm_bit_writer.specs.declared.token.Token.{Token}
-use Rattle.jxlm_bit_writer.proofs.BitLists.{has_first, has_rest}
 use Rattle.jxlm_bit_writer.proofs.WriteLaws.{after, becomes, spelled_reads}
 use Rattle.jxl_icc.specs.Profiles.{icc_of}
 use Rattle.jxl_image_header.specs.Fields.{long}
@@ -18,11 +17,10 @@ use Rattle.jxl_image_header.proofs.HeaderLaws.{exact-long}
 use Rattle.jxl_coding.specs.Parse.{decoder_at, start_of}
 use Rattle.jxl_coding.specs.Tokens.{Entropy, entropy}
 use Rattle.jxl_coding.proofs.DecoderLaw.{entropy_is_lawful}
-use Rattle.jxl_coding_fields_write.specs.Readings.{Stands}
 use Rattle.jxl_coding_stream_write.specs.Codes.{codes_of}
-use Rattle.jxl_coding_stream_write.specs.Streams.{IsStream}
+use Rattle.jxl_coding_stream_write.specs.Streams.{AreAsked}
 use Rattle.jxl_coding_stream_write.specs.declared.stream.StreamWriter.{StreamWriter}
-use Rattle.jxl_coding_stream_write.proofs.StreamReads.{streams_read}
+use Rattle.jxl_coding_stream_write.proofs.WrittenStreams.{IsDecodedAt}
 use Rattle.jxl_codestream.specs.Profiles.{icc_or_error, one_byte, profile}
 use Rattle.jxl_profile_write.specs.Profiles.{IsProfileAt}
 use Rattle.jxl_profile_write.specs.Inner.Tokens.{IsEncodedAt, clusters_in, onto, tokens_after}
@@ -44,30 +42,19 @@ module _ (separate : Bool) (encoded : List ℕ) (writer : StreamWriter) (tokens 
   many : length writer.clusters.items ≡ 41
   many = ap length clusters ∙ many_clusters separate
 
-  -- a head and a stream were added
-  pub encoded_written : (old new : List ℕ) → (head : List ℕ) × (stream : List ℕ) × (new ≡ old ++ head ++ stream)
-      × Stands (λ bytes p. decoder_at bytes p (length writer.clusters.items)) (start_of (codes_of writer)) head × IsStream (codes_of writer) tokens stream →
-      Adds old new (IsEncodedAt encoded)
+  -- a decoder and a stream were added
+  pub encoded_written : (old new : List ℕ) → Adds old new (IsDecodedAt (length writer.clusters.items) (codes_of writer) tokens) → Adds old new (IsEncodedAt encoded)
   encoded_written old new all =
-      let head : List ℕ = all.0 in
-      let stream : List ℕ = all.1 in
-      record {
-        word = head ++ stream;
-        added = all.2 ∙ append_assoc old head stream;
-        holds = λ bytes p has.
-            let l = length-append head stream in
-            let e : p + length head + length stream ≡ p + length (head ++ stream) = omega (arith, l) in
-            let start : Entropy = start_of (codes_of writer) in
-            let parsed : decoder_at bytes p 41 ≡ Ok (record { value = start; position = p + length head }) = ap (λ (n : ℕ). decoder_at bytes p n) (sym many) ∙ all.3 bytes p (has_first bytes p head stream has) in
-            let of_stream : IsStream (codes_of writer) (tokens_after separate [] encoded) stream = subst (λ (ts : List Token). IsStream (codes_of writer) ts stream) are all.4 in
-            let there = streams_read (codes_of writer) (tokens_after separate [] encoded) stream start bytes (p + length head) (asked_after separate [] encoded) of_stream refl (are_asked separate [] encoded) (has_rest bytes p head stream has) in
-            let clusters_kept = (entropy_is_lawful.begin_keeps start bytes (p + length head) (record { value = there.first; position = there.start }) there.begins).clusters in
-            let read = bytes_there (entropy decoder_at) entropy_is_lawful separate bytes encoded [] there.first there.last there.start (p + length head + length stream) below (clusters_kept ∙ clusters)
-            (there.all ∙ ap (λ (vs : List ℕ). Ok (record { value = vs; state = there.last; position = p + length head + length stream })) (tokens_values separate [] encoded)) in
-            subst (λ (q : ℕ). IsEncodedAt encoded bytes p q) e
-            (coded_read (entropy decoder_at) (length encoded) bytes p (p + length head) there.start (p + length head + length stream) start there.first there.last (onto encoded []) parsed there.begins read there.accepts
-            ∙ ap (λ (xs : List ℕ). Ok (record { value = xs; position = p + length head + length stream })) (onto_nothing encoded));
-      }
+      let start : Entropy = start_of (codes_of writer) in
+      becomes all (λ bytes p q s.
+      let parsed : decoder_at bytes p 41 ≡ Ok (record { value = start; position = s.0 }) = ap (λ (n : ℕ). decoder_at bytes p n) (sym many) ∙ s.1 in
+      let there = s.2 (asked_after separate [] encoded) (subst (λ (ts : List Token). AreAsked (asked_after separate [] encoded) ts) (sym are) (are_asked separate [] encoded)) in
+      let values = ap (λ (ts : List Token). map (λ (t : Token). t.value) ts) are ∙ tokens_values separate [] encoded in
+      let clusters_kept = (entropy_is_lawful.begin_keeps start bytes s.0 (record { value = there.first; position = there.start }) there.begins).clusters in
+      let read = bytes_there (entropy decoder_at) entropy_is_lawful separate bytes encoded [] there.first there.last there.start q below (clusters_kept ∙ clusters)
+      (there.all ∙ ap (λ (vs : List ℕ). Ok (record { value = vs; state = there.last; position = q })) values) in
+      coded_read (entropy decoder_at) (length encoded) bytes p s.0 there.start q start there.first there.last (onto encoded []) parsed there.begins read there.accepts
+      ∙ ap (λ (xs : List ℕ). Ok (record { value = xs; position = q })) (onto_nothing encoded))
 
 -- a profile that is not empty
 some_icc : (icc : List ℕ) → 0 < length icc → icc_or_error (Ok icc) ≡ Ok icc

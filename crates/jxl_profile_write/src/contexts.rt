@@ -1,56 +1,25 @@
 //! The contexts of the bytes of an encoded profile, and the clusters of contexts.
 
-ghost use Rattle.std.specs.Prelude.{◌≡◌, ◌<◌, ◌≤◌, [], ◌∷◌, length, take, slice_index, IfOk};
-ghost use Rattle.jxl_codestream.specs.Profiles.{context_of, kind_of as the_kind_of};
+ghost use Rattle.std.specs.Prelude.{◌≡◌, ◌≤◌, [], length, take, IfOk};
+ghost use Rattle.jxl_codestream.specs.Profiles.{context_of as the_context_of};
 ghost use Rattle.jxl_profile_write.specs.Inner.Tokens.{cluster_count, cluster_in, clusters_in, onto, tokens_after};
 
+use jxl_codestream::profile::context_of;
 use jxlm_bit_writer::token::Token;
 use std::alloc::{AllocError, Global};
 
 /// The number of contexts.
 const CONTEXTS: u8 = 41;
 
-/// The kind of a byte.
-fn kind_of(byte: u8) -> u8
-    ensures kind { result ≡ the_kind_of byte }
-    ensures below { result < 8 }
-{
-    match byte {
-        b'a'..=b'z' | b'A'..=b'Z' => 0,
-        b'0'..=b'9' | b'.' | b',' => 1,
-        0 => 2,
-        1 => 3,
-        2..=15 => 4,
-        255 => 6,
-        241..=254 => 5,
-        _ => 7,
-    }
-}
-
-/// What the kind of the byte before the last one counts.
-fn before_of(kind: u8) -> u8
-    requires { kind < 8 }
-    ensures counts { result ≡ slice_index (0 ∷ 1 ∷ 2 ∷ 2 ∷ 2 ∷ 3 ∷ 3 ∷ 4 ∷ []) kind }
-    ensures below { result < 5 }
-{
-    match kind {
-        0 => 0,
-        1 => 1,
-        2..=4 => 2,
-        5 | 6 => 3,
-        _ => 4,
-    }
-}
-
 /// The context of byte i, by the two bytes before it.
 fn context_at(bytes: &[u8], i: usize) -> u8
     requires { i ≤ length bytes.now }
-    ensures { result ≡ context_of (onto (take i bytes.now) []) }
+    ensures { result ≡ the_context_of (onto (take i bytes.now) []) }
 {
     if i <= 128 {
         return 0;
     }
-    1 + kind_of(bytes[i - 1]) + 8 * before_of(kind_of(bytes[i - 2]))
+    context_of(i as u64, u32::from(bytes[i - 1]), u32::from(bytes[i - 2])) as u8
 }
 
 /// The cluster of a context: where they are separate, one for the header, and one for each kind of the last byte.

@@ -1,5 +1,5 @@
 -- What calls and loops that read tokens return.
-use Rattle.std.specs.Prelude.{◌≡◌, ℕ, ◌+◌, ◌*◌, nat_le, if◌then◌else◌, [], ◌∷◌, slice_index, codes, Result, Ok, Err}
+use Rattle.std.specs.Prelude.{◌≡◌, ℕ, nat_le, codes, Result, Ok, Err}
 use Rattle.jxlm_bits.specs.Decoding.{Found, Meaning}
 use Rattle.jxlm_bits.specs.ErrorKind.{BadProfile, ErrorAt, UnlessMemory, kind_of}
 use Rattle.jxlm_bits.specs.Grammar.{Grammar, IsErrorAt, give, fail, either, ◌>>=◌}
@@ -7,7 +7,6 @@ use Rattle.jxlm_bits.specs.declared.error.Error.{Error}
 use Rattle.jxl_image_header.specs.Fields.{long, number_meant}
 use Rattle.jxlm_bits.specs.Tokens.{After, Tokens, decoder_call, token}
 use Rattle.jxl_codestream.specs.Orders.{context_of}
-use Rattle.jxl_codestream.specs.Profiles as profiles
 
 -- What was read, seen by view, and the decoder's state s and the reader's position q after it, are what reading gives, unless it
 -- or the decoder is out of memory.
@@ -22,11 +21,6 @@ decoder d contexts = decoder_call (λ bytes p. d.parse bytes p contexts) >>= λ 
 -- how many digits a code of n numbers has
 abbrev pub told_digits : {S : Type 0} → Meaning S → ℕ → Tokens S ℕ
 told_digits d n = token d (context_of n) (λ v. number_meant (codes "permutation") (nat_le v n) v)
-
--- the context of byte i of a profile, after these two
-abbrev pub context_after : ℕ → ℕ → ℕ → ℕ
-context_after i last before = if nat_le i 128 then 0 else
-    1 + profiles.kind_of last + 8 * slice_index (0 ∷ 1 ∷ 2 ∷ 2 ∷ 2 ∷ 3 ∷ 3 ∷ 4 ∷ []) (profiles.kind_of before)
 
 -- how many bytes a profile has, at most this many
 abbrev pub length_in : ℕ → Grammar ℕ

@@ -1,6 +1,6 @@
 use Rattle.std.proofs.Common.{arith, ℕ, subst}
 use Rattle.jxl_coding_codes.specs.Distributions.{signalled_at}
-use Rattle.jxl_coding_fields_write.specs.Readings.{Writes}
+use Rattle.jxlm_bit_writer.specs.Writes.{Writes}
 use Rattle.jxl_coding_fields_write.proofs.CountReads.{widths_start, widths_next, widths_all}
 use Rattle.jxl_coding_fields_write.proofs.counts.write_widths.Goals as goal
 

@@ -1,7 +1,7 @@
 use Rattle.std.proofs.Common.{length, take}
 use Rattle.jxl_coding_codes.specs.Distributions.{widths_step, no_widths}
 use Rattle.jxl_coding_codes.specs.Reading.{steps}
-use Rattle.jxl_coding_fields_write.specs.Readings.{Writes}
+use Rattle.jxlm_bit_writer.specs.Writes.{Writes}
 use Rattle.jxl_coding_fields_write.specs.CountWidths.{count_widths}
 use Rattle.jxl_coding_fields_write.proofs.counts.write_widths.Given as goal
 

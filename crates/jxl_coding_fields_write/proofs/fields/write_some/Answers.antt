@@ -1,6 +1,6 @@
 use Rattle.std.proofs.Common.{refl, ◌-◌}
 use lib.Count.{count_leading_zeros}
-use Rattle.jxl_coding_fields_write.proofs.NumberFields.{digit_count, var_len_writes, three_parts}
+use Rattle.jxl_coding_fields_write.proofs.NumberFields.{digit_count, var_len_writes}
 use Rattle.jxl_coding_fields_write.proofs.fields.write_some.Goals as goal
 
 pub overflow_sub-value : goal.overflow_sub-value
@@ -8,5 +8,5 @@ overflow_sub-value c = rw c.power.ensures ((digit_count c.args.value (31 - count
 
 pub returns : goal.returns
 returns c =
-    var_len_writes c.args.value (31 - count_leading_zeros 32 c.args.value) c.args.bits.now c.put-3.new.self c.requires.some c.requires.few refl
-    (three_parts c.args.bits.now c.put.new.self c.put-2.new.self c.put-3.new.self _ _ _ c.in_ok-put.ensures c.in_ok-put-2.ensures (rw c.power.ensures at c.in_ok-put-3.ensures))
+    var_len_writes c.args.value (31 - count_leading_zeros 32 c.args.value) c.args.bits.now c.put.new.self c.put-2.new.self c.put-3.new.self c.requires.some c.requires.few refl c.in_ok-put.ensures c.in_ok-put-2.ensures
+    (rw c.power.ensures at c.in_ok-put-3.ensures)

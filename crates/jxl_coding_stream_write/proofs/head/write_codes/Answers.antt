@@ -4,7 +4,7 @@ use Rattle.jxl_coding_codes.specs.Reading.{steps, list_and_one}
 use Rattle.jxl_coding.specs.Parse.{distribution_step, nothing_coded}
 use Rattle.jxl_coding_stream_write.specs.Codes.{coded_after}
 use Rattle.jxl_coding_stream_write.specs.declared.cluster.ClusterWriter.{ClusterWriter}
-use Rattle.jxl_coding_fields_write.specs.Readings.{Writes}
+use Rattle.jxlm_bit_writer.specs.Writes.{Writes}
 use Rattle.jxl_coding_stream_write.proofs.HeadReads.{codes_written}
 use Rattle.jxl_coding_stream_write.proofs.head.write_codes.Goals as goal
 

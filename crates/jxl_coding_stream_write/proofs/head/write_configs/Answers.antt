@@ -2,8 +2,8 @@ use Rattle.std.proofs.Common.{arith, subst, []}
 use Rattle.jxl_coding_codes.specs.IntegerConfigs.{config_at}
 use Rattle.jxl_coding_codes.specs.Reading.{list_and_one}
 use Rattle.jxl_coding_stream_write.specs.declared.cluster.ClusterWriter.{ClusterWriter}
-use Rattle.jxl_coding_fields_write.specs.Readings.{Writes}
-use Rattle.jxl_coding_fields_write.proofs.Readings.{writes_none}
+use Rattle.jxlm_bit_writer.specs.Writes.{Writes}
+use Rattle.jxl_coding_fields_write.proofs.ReadingLaws.{writes_none}
 use Rattle.jxl_coding_stream_write.proofs.HeadReads.{push_next, push_all}
 use Rattle.jxl_coding_stream_write.proofs.head.write_configs.Goals as goal
 

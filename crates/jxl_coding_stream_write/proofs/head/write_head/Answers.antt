@@ -1,7 +1,7 @@
 use Rattle.std.proofs.Common.{◌≡◌, ◌≤◌, ℕ, List, length, sym, subst}
 use Rattle.std.specs.List.{All}
 use Rattle.jxl_coding.specs.Parse.{clusters_or_one, clusters_at}
-use Rattle.jxl_coding_fields_write.specs.Readings.{Writes}
+use Rattle.jxlm_bit_writer.specs.Writes.{Writes}
 use Rattle.jxl_coding_stream_write.proofs.HeadReads.{head_written}
 use Rattle.jxl_coding_stream_write.proofs.OneContext.{only_zero}
 use Rattle.jxl_coding_stream_write.proofs.head.write_head.Goals as goal

@@ -1,6 +1,6 @@
 use Rattle.std.proofs.Common.{ℕ, List, length, subst}
 use Rattle.jxl_coding.specs.Parse.{clusters_or_one, clusters_at}
-use Rattle.jxl_coding_fields_write.specs.Readings.{Writes}
+use Rattle.jxlm_bit_writer.specs.Writes.{Writes}
 use Rattle.jxl_coding_stream_write.proofs.HeadReads.{head_written}
 use Rattle.jxl_coding_stream_write.proofs.head.write_mapped_head.Goals as goal
 

@@ -3,8 +3,8 @@ use Rattle.std.proofs.lemmas.List.{map-id}
 use Rattle.jxlm_bit_writer.specs.Written.{digits}
 use Rattle.jxl_coding_codes.specs.Fields.{number_at}
 use Rattle.jxl_coding_codes.specs.Reading.{steps, list_and_one}
-use Rattle.jxl_coding_fields_write.specs.Readings.{Writes}
-use Rattle.jxl_coding_fields_write.proofs.Readings.{writes_none}
+use Rattle.jxlm_bit_writer.specs.Writes.{Writes}
+use Rattle.jxl_coding_fields_write.proofs.ReadingLaws.{writes_none}
 use Rattle.jxl_coding_fields_write.proofs.NumberFields.{number_writes}
 use Rattle.jxl_coding_stream_write.proofs.HeadReads.{push_next, push_all}
 use Rattle.jxl_coding_stream_write.proofs.head.write_numbers.Goals as goal

@@ -1,7 +1,7 @@
 use Rattle.std.proofs.Common.{[], take, map, ℕ}
 use Rattle.jxl_coding_codes.specs.Fields.{number_at}
 use Rattle.jxl_coding_codes.specs.Reading.{steps, list_and_one}
-use Rattle.jxl_coding_fields_write.specs.Readings.{Writes}
+use Rattle.jxlm_bit_writer.specs.Writes.{Writes}
 use Rattle.jxl_coding_stream_write.proofs.head.write_numbers.Given as goal
 
 abbrev pub invariant-loop-cluster : goal.invariant-loop-cluster

@@ -13,7 +13,7 @@ loop-i-preserved c =
     let icc = c.args.icc.now in
     let i = c.loop-i.i in
     let inside : i < length icc = omega arith in
-    let byte : (c.residual.result + predicted (length icc) (take i icc) (length (take i icc))) % 256 ≡ slice_index icc i = search rules in (
+    let byte : (c.residual.result + predicted (length icc) (take i icc) i) % 256 ≡ slice_index icc i = search rules in (
       search rules,
       residuals_next icc c.loop-i.residuals.items c.push.new.self.items (take i icc) c.residual.result (length icc) i c.loop-i.invariant.1 c.loop-i.invariant.0 inside refl refl byte c.in_ok-push.ensures.items,
     )

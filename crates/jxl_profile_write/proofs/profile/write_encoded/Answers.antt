@@ -2,6 +2,8 @@ use Rattle.std.proofs.Common.{◌≡◌, ◌<◌, ◌∙◌, [], List, ℕ, Ok, 
 use Rattle.std.specs.List.{All}
 use Rattle.jxlm_bit_writer.specs.declared.token.Token.{Token}
 use Rattle.jxl_coding.specs.Clusters.{count_of}
+use Rattle.jxl_coding_stream_write.specs.Codes.{codes_of}
+use Rattle.jxl_coding_stream_write.proofs.WrittenStreams.{decoded_added}
 use Rattle.jxl_profile_write.specs.Inner.Tokens.{cluster_count, clusters_in}
 use Rattle.jxl_profile_write.proofs.TokenLists.{clusters_used, tokens_below, tokens_count}
 use Rattle.jxl_profile_write.proofs.Written.{encoded_written}
@@ -27,4 +29,5 @@ writer_for-requires-clause-fits c =
 pub returns : goal.returns
 returns c =
     encoded_written c.args.separate c.args.encoded.now c.in_ok-writer.writer c.deref-2.result.now (c.in_ok-writer.ensures.clusters ∙ c.in_ok-clusters.ensures)
-    (c.deref-2.ensures.value ∙ c.in_ok-tokens.ensures) (λ k lt. let f = c.type_inv.encoded k in omega (arith, f)) c.args.bits.now c.write_all.new.bits c.in_ok-write_all.ensures
+    (c.deref-2.ensures.value ∙ c.in_ok-tokens.ensures) (λ k lt. let f = c.type_inv.encoded k in omega (arith, f)) c.args.bits.now c.write_all.new.bits
+    (decoded_added (length c.in_ok-writer.writer.clusters.items) (codes_of c.in_ok-writer.writer) c.deref-2.result.now c.args.bits.now c.write_all.new.bits c.in_ok-write_all.ensures)

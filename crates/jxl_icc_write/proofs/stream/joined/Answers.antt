@@ -1,7 +1,7 @@
 use Rattle.std.proofs.Common.{rules, length}
 use Rattle.jxl_icc_write.specs.Inner.Streams.{number_bytes}
 use Rattle.jxl_icc_write.proofs.Literals.{parts_joined}
-use Rattle.jxl_icc_write.proofs.encode.joined.Goals as goal
+use Rattle.jxl_icc_write.proofs.stream.joined.Goals as goal
 
 pub returns : goal.returns
 returns c =
