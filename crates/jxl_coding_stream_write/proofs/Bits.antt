@@ -1,75 +1,96 @@
 -- Bits that were written from the last to the first.
-use Rattle.std.proofs.Common.{◌≡◌, ℕ, ◌+◌, ◌-◌, ◌*◌, ◌/◌, ◌%◌, ◌^◌, ◌<◌, ◌≤◌, List, [], ◌∷◌, ◌++◌, length, get_or, drop, sym, ap, ◌∙◌, subst, arith, append_assoc}
+use Rattle.std.proofs.Common.{◌≡◌, ℕ, ◌+◌, ◌-◌, ◌*◌, ◌/◌, ◌%◌, ◌^◌, ◌<◌, ◌≤◌, List, [], ◌∷◌, ◌++◌, length, get_or, drop, sym, ap, ◌∙◌, arith, append_assoc}
 use Rattle.std.proofs.lemmas.List.{append-nil, drop_more, drop_all}
-use Rattle.std.proofs.lemmas.Nat.{pow_pos, pow-add, one_shl, shl_whole, shr_high, shr_below, mod_below, mul-add-lt}
+use Rattle.std.proofs.lemmas.Nat.{pow_pos, pow-add, shr_high, mul-mod_first, div-add-mod'}
+use Rattle.std.proofs.Math.Nat.{add-mul-mod_self_right, add-mul, mul_assoc, mul_comm, mul-le-mul_left}
 use Rattle.jxlm_bit_writer.specs.Written.{digits}
 use Rattle.jxlm_bit_writer.proofs.BitLists.{digits_low}
 use Rattle.jxlm_bit_writer.proofs.HeldBits.{digits_split, digits_mod}
 use Rattle.jxl_coding_stream_write.specs.Inner.Backward.{words_back}
 
-module _ (value count n piece : ℕ) (small : value < 2 ^ count) (few : count < 32) (most : n ≤ 32) (fits : piece < 2 ^ n) where
-  whole_shift : value * 2 ^ n % 18446744073709551616 ≡ value * 2 ^ n
-  whole_shift = shl_whole value count n 64 small (omega (arith, few, most))
+-- the low digits of a number are those of its remainder
+pub digits_wrapped : (k m x : ℕ) → k ≤ m → digits k (x % 2 ^ m) ≡ digits k x
+digits_wrapped k m x le =
+    let e : m ≡ k + (m - k) = omega (arith, le) in
+    let p : 2 ^ m ≡ 2 ^ (m - k) * 2 ^ k = ap (λ n. 2 ^ n) e ∙ pow-add 2 k (m - k) ∙ mul_comm (2 ^ k) (2 ^ (m - k)) in
+    let q : x / 2 ^ m * 2 ^ m ≡ x / 2 ^ m * 2 ^ (m - k) * 2 ^ k = ap (λ n. x / 2 ^ m * n) p ∙ sym (mul_assoc (x / 2 ^ m) (2 ^ (m - k)) (2 ^ k)) in
+    let whole : x ≡ x % 2 ^ m + x / 2 ^ m * 2 ^ (m - k) * 2 ^ k = let d = div-add-mod' x (2 ^ m) in omega (arith, d, q) in
+    sym (ap (digits k) whole ∙ digits_low k (x % 2 ^ m) (x / 2 ^ m * 2 ^ (m - k)))
 
-  -- the held number after a piece
-  abbrev sum : ℕ
-  sum = value * 2 ^ n % 18446744073709551616 + piece
-
-  sum_is : sum ≡ value * 2 ^ n + piece
-  sum_is = ap (λ x. x + piece) whole_shift
-
-  pub sum_below : sum < 2 ^ (count + n)
-  sum_below =
-      let m = mul-add-lt value (2 ^ n) piece (2 ^ count) small fits in
-      let e : count + n ≡ n + count = omega arith in
-      rw (sum_is, e, pow-add 2 n count) (omega (arith, m))
-
-  -- its digits are those of the piece and those before
-  sum_digits : digits (count + n) sum ≡ digits n piece ++ digits count value
+-- a piece below the digits of a number
+module _ (value count n piece : ℕ) (fits : piece < 2 ^ n) where
+  sum_digits : digits (count + n) (value * 2 ^ n + piece) ≡ digits n piece ++ digits count value
   sum_digits =
       let e : count + n ≡ n + count = omega arith in
       let turned : value * 2 ^ n + piece ≡ piece + value * 2 ^ n = omega arith in
-      ap (λ k. digits k sum) e
-      ∙ ap (digits (n + count)) sum_is
+      ap (λ k. digits k (value * 2 ^ n + piece)) e
       ∙ digits_split n count (value * 2 ^ n + piece)
       ∙ ap (λ x. digits n x ++ digits count ((value * 2 ^ n + piece) / 2 ^ n)) turned
       ∙ ap (λ xs. xs ++ digits count ((value * 2 ^ n + piece) / 2 ^ n)) (digits_low n piece value)
       ∙ ap (λ x. digits n piece ++ digits count x) (shr_high value n piece fits)
 
-  -- a piece before others, all held
-  pub held_before : (words : List ℕ) → digits (count + n) sum ++ words_back words ≡ digits n piece ++ (digits count value ++ words_back words)
-  held_before words = ap (λ xs. xs ++ words_back words) sum_digits ∙ append_assoc (digits n piece) (digits count value) (words_back words)
+  -- in 64 bits, before words
+  pub held_before : (sum : ℕ) (words : List ℕ) → count + n ≤ 64 → sum % 18446744073709551616 ≡ (value * 2 ^ n + piece) % 18446744073709551616 →
+      digits (count + n) sum ++ words_back words ≡ digits n piece ++ (digits count value ++ words_back words)
+  held_before sum words le same =
+      ap (λ xs. xs ++ words_back words)
+      (sym (digits_wrapped (count + n) 64 sum le) ∙ ap (digits (count + n)) same ∙ digits_wrapped (count + n) 64 (value * 2 ^ n + piece) le ∙ sum_digits)
+      ∙ append_assoc (digits n piece) (digits count value) (words_back words)
 
-  module _ (full : 32 ≤ count + n) where
-    -- the last 32 bits are a word
-    pub word_fits : sum / 2 ^ (count + n - 32) < 2 ^ 32
-    word_fits =
-        let e : count + n ≡ 32 + (count + n - 32) = omega (arith, full) in
-        shr_below sum 32 (count + n - 32) (subst (λ k. sum < 2 ^ k) e sum_below)
+-- a sum in 64 bits
+pub sum_wrapped : (x piece : ℕ) → (x % 18446744073709551616 + piece) % 18446744073709551616 % 18446744073709551616 ≡ (x + piece) % 18446744073709551616
+sum_wrapped x piece = omega arith
 
-    power_is : 1 * 2 ^ (count + n - 32) % 18446744073709551616 ≡ 2 ^ (count + n - 32)
-    power_is = one_shl (count + n - 32) 64 (omega (arith, few, most))
+-- a number whose upper part is taken from the digits above it adds its lowest bits alone
+module _ (value n number : ℕ) (small : number < 2 ^ 32) where
+  abbrev lead : ℕ
+  lead = number / 2 ^ n
 
-    pub rest_below : sum % (1 * 2 ^ (count + n - 32) % 18446744073709551616) < 2 ^ (count + n - 32)
-    rest_below = rw power_is (mod_below sum (2 ^ (count + n - 32)) (pow_pos (count + n - 32)))
+  lead_small : lead < 2 ^ 32
+  lead_small = let d = div-add-mod' number (2 ^ n) in let p : lead * 1 ≤ lead * 2 ^ n = mul-le-mul_left lead (pow_pos n) in omega (arith, d, p, small)
 
-    pub word_before : (words new : List ℕ) → new ≡ words ++ sum / 2 ^ (count + n - 32) ∷ [] →
-        digits (count + n - 32) (sum % (1 * 2 ^ (count + n - 32) % 18446744073709551616)) ++ words_back new ≡ digits n piece ++ (digits count value ++ words_back words)
-    word_before words new e =
-        let rest : ℕ = count + n - 32 in
-        let word : ℕ = sum / 2 ^ rest in
-        let all : rest + 32 ≡ count + n = omega (arith, full) in
-        let parts : digits rest sum ++ digits 32 word ≡ digits (rest + 32) sum = sym (digits_split rest 32 sum) in
-        ap (λ p. digits rest (sum % p) ++ words_back new) power_is
-        ∙ ap (λ xs. xs ++ words_back new) (digits_mod rest sum)
-        ∙ ap (λ xs. digits rest sum ++ xs) (ap words_back e ∙ words_and_one words word)
-        ∙ sym (append_assoc (digits rest sum) (digits 32 word) (words_back words))
-        ∙ ap (λ xs. xs ++ words_back words) (parts ∙ ap (λ k. digits k sum) all)
-        ∙ held_before words
-      where
-        words_and_one : (xs : List ℕ) (w : ℕ) → words_back (xs ++ w ∷ []) ≡ digits 32 w ++ words_back xs
-        words_and_one [] w = sym (append-nil (digits 32 w))
-        words_and_one (x ∷ xs) w = ap (λ (ys : List ℕ). ys ++ digits 32 x) (words_and_one xs w) ∙ append_assoc (digits 32 w) (words_back xs) (digits 32 x)
+  above : (value + (18446744073709551616 - lead)) * 2 ^ n + number ≡ (value * 2 ^ n + number % 2 ^ n) + 2 ^ n * 18446744073709551616
+  above =
+      let d = div-add-mod' number (2 ^ n) in
+      let s = lead_small in
+      let a : (value + (18446744073709551616 - lead)) * 2 ^ n ≡ value * 2 ^ n + (18446744073709551616 - lead) * 2 ^ n = add-mul value (18446744073709551616 - lead) (2 ^ n) in
+      let b : (18446744073709551616 - lead) * 2 ^ n + lead * 2 ^ n ≡ (18446744073709551616 - lead + lead) * 2 ^ n = sym (add-mul (18446744073709551616 - lead) lead (2 ^ n)) in
+      let c : 18446744073709551616 - lead + lead ≡ 18446744073709551616 = omega (arith, s) in
+      let e : (18446744073709551616 - lead + lead) * 2 ^ n ≡ 18446744073709551616 * 2 ^ n = ap (λ x. x * 2 ^ n) c in
+      omega (arith, a, b, d, e)
+
+  lowest_wrapped : (((value + (18446744073709551616 - lead)) % 18446744073709551616 * 2 ^ n % 18446744073709551616) + number) % 18446744073709551616 % 18446744073709551616
+      ≡ (value * 2 ^ n + number % 2 ^ n) % 18446744073709551616
+  lowest_wrapped =
+      let m = mul-mod_first (value + (18446744073709551616 - lead)) (2 ^ n) 18446744073709551616 in
+      sum_wrapped ((value + (18446744073709551616 - lead)) % 18446744073709551616 * 2 ^ n) number
+      ∙ same ((value + (18446744073709551616 - lead)) % 18446744073709551616 * 2 ^ n) ((value + (18446744073709551616 - lead)) * 2 ^ n) number m
+      ∙ ap (λ x. x % 18446744073709551616) above
+      ∙ add-mul-mod_self_right (value * 2 ^ n + number % 2 ^ n) (2 ^ n) 18446744073709551616
+    where
+      same : (x y z : ℕ) → x % 18446744073709551616 ≡ y % 18446744073709551616 → (x + z) % 18446744073709551616 ≡ (y + z) % 18446744073709551616
+      same x y z e = omega (arith, e)
+
+  pub lowest_wrapped_by : (l m : ℕ) → l ≡ number / 2 ^ n → m ≡ number → (((value + (18446744073709551616 - l)) % 18446744073709551616 * 2 ^ n % 18446744073709551616) + m) % 18446744073709551616 % 18446744073709551616
+      ≡ (value * 2 ^ n + number % 2 ^ n) % 18446744073709551616
+  lowest_wrapped_by l m e f =
+      ap (λ x. (((value + (18446744073709551616 - x)) % 18446744073709551616 * 2 ^ n % 18446744073709551616) + m) % 18446744073709551616 % 18446744073709551616) e
+      ∙ ap (λ x. (((value + (18446744073709551616 - lead)) % 18446744073709551616 * 2 ^ n % 18446744073709551616) + x) % 18446744073709551616 % 18446744073709551616) f
+      ∙ lowest_wrapped
+
+-- the last 32 bits are a word
+pub word_kept : (value count : ℕ) (words new : List ℕ) → 32 ≤ count → new ≡ words ++ value / 2 ^ (count - 32) % 4294967296 ∷ [] → digits (count - 32) value ++ words_back new ≡ digits count value ++ words_back words
+word_kept value count words new full e =
+    let rest : ℕ = count - 32 in
+    let word : ℕ = value / 2 ^ rest in
+    let all : rest + 32 ≡ count = omega (arith, full) in
+    ap (λ xs. digits rest value ++ xs) (ap words_back e ∙ words_and_one words (word % 4294967296) ∙ ap (λ xs. xs ++ words_back words) (digits_mod 32 word))
+    ∙ sym (append_assoc (digits rest value) (digits 32 word) (words_back words))
+    ∙ ap (λ xs. xs ++ words_back words) (sym (digits_split rest 32 value) ∙ ap (λ k. digits k value) all)
+  where
+    words_and_one : (xs : List ℕ) (w : ℕ) → words_back (xs ++ w ∷ []) ≡ digits 32 w ++ words_back xs
+    words_and_one [] w = sym (append-nil (digits 32 w))
+    words_and_one (x ∷ xs) w = ap (λ (ys : List ℕ). ys ++ digits 32 x) (words_and_one xs w) ∙ append_assoc (digits 32 w) (words_back xs) (digits 32 x)
 
 -- a piece of no bits
 pub none_before : (n piece : ℕ) (bits : List ℕ) → n ≡ 0 → bits ≡ digits n piece ++ bits

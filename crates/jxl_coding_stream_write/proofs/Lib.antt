@@ -4,6 +4,8 @@ pub mod CodesAt
 pub mod SymbolReads
 pub mod StreamReads
 pub mod TokenReads
+pub mod Rests
+pub mod TokensWritten
 pub mod HeadReads
 pub mod OneContext
 pub mod CodedClusters

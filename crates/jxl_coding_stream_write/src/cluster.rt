@@ -1,14 +1,19 @@
-//! The code of a cluster, and its tokens written.
+//! The code of a cluster, and the bits of its tokens after their symbols.
 
-ghost use Rattle.std.specs.Prelude.{◌≡◌, ◌<◌, ◌≤◌, ◌^◌, ◌↔◌, IfOk, IsTrue, length, slice_index, sum};
+ghost use Rattle.std.specs.Prelude.{◌≡◌, ℕ, ◌+◌, ◌-◌, ◌<◌, ◌≤◌, ◌^◌, ◌++◌, ◌↔◌, Option, Some, None, IfOk, IsTrue, length, slice_index, sum};
 ghost use Rattle.jxl_coding_codes.specs.Alias.{only_from};
 ghost use Rattle.jxl_coding_codes.specs.IntegerConfigs.{IsConfig};
+ghost use Rattle.jxl_coding_write.specs.HybridIntegers.{IsSpelled, symbol_of};
+ghost use Rattle.jxlm_bit_writer.specs.Written.{digits};
+ghost use Rattle.jxl_coding_stream_write.specs.Inner.Backward.{bits_back};
 
+use crate::back::prepend_lowest;
+use crate::first_bits::FirstBits;
 use jxl_coding_codes::alias::only;
 use jxl_coding_codes::config::IntegerConfig;
-use jxl_coding_write::piece::BitPiece;
-use jxl_coding_write::slot_table::{SlotTable, SymbolBits};
-use jxl_coding_write::spelling::spell;
+use jxl_coding_codes::fields::power;
+use jxl_coding_write::slot_table::SlotTable;
+use jxl_coding_write::spelling::{log_of, spell};
 use std::alloc::{AllocError, Global};
 
 /// The code of a cluster: an integer configuration, and the slots of symbols.
@@ -20,22 +25,33 @@ pub struct ClusterWriter {
     pub slots: SlotTable,
     /// The only symbol, if there is only one: it takes no bits.
     pub only: Option<u32>,
+    // Tokens below it are their own symbols.
+    pub(crate) split: u32,
+    // Tokens below it are their own symbols, and these are not the only one.
+    pub(crate) coded: u32,
+    // The symbols of a leading one at the split, in steps of its next bits, less one.
+    steps: u32,
     ghost rule: { IsConfig config },
     ghost is_only: { only ≡ only_from 0 slots.counts.items },
+    ghost split_is: { split ≡ 2 ^ config.split_exponent },
+    ghost steps_is: { steps + 1 ≡ 2 ^ (config.split_exponent - (config.msb_in_token + config.lsb_in_token)) },
+    ghost coded_none: { only ≡ None → coded ≡ split },
+    ghost coded_some: { (symbol : ℕ) → only ≡ Some symbol → coded ≡ 0 },
 }
 
-/// A written token: the state before it, and the bits that the decoder reads of it.
-#[derive(Clone, Copy)]
-pub struct TokenBits {
-    pub state: u32,
-    /// The bits that the decoder takes into the state.
-    pub word: BitPiece,
-    /// The bits that follow the symbol.
-    pub rest: BitPiece,
+/// The tokens below this are their own symbols, and these are not the only one.
+fn coded_below(only: Option<u32>, split: u32) -> u32
+    ensures none { only ≡ None → result ≡ split }
+    ensures some { (symbol : ℕ) → only ≡ Some symbol → result ≡ 0 }
+{
+    match only {
+        Some(_) => 0,
+        None => split,
+    }
 }
 
 impl ClusterWriter {
-    ghost use Rattle.jxl_coding_stream_write.specs.Tokens.{Occurs, SymbolLeads, TokenWrites};
+    ghost use Rattle.jxl_coding_stream_write.specs.Tokens.{Occurs};
 
     /// The code of this configuration, and a distribution of at most 2^log symbols.
     pub fn new(
@@ -54,10 +70,15 @@ impl ClusterWriter {
     {
         let only = only(&counts);
         let slots = SlotTable::new(alloc, counts, log)?;
+        let split = power(config.split_exponent);
+        let known = config.msb_in_token + config.lsb_in_token;
         Ok(ClusterWriter {
             config,
             slots,
             only,
+            split,
+            coded: coded_below(only, split),
+            steps: power(config.split_exponent - known) - 1,
         })
     }
 
@@ -68,39 +89,44 @@ impl ClusterWriter {
         self.slots.occurs(spell(&self.config, token).symbol)
     }
 
-    /// Writes a symbol that occurs: the decoder reads it from the state of the result, and goes on in `state`.
+    /// The symbol of a token that is not below the split.
     #[inline(always)]
-    pub(crate) fn write_symbol(&self, state: u32, symbol: u32) -> SymbolBits
-        requires state { 2 ^ 16 ≤ state }
-        requires occurs { 0 < slice_index self.now.slots.counts.items symbol }
-        ensures leads { SymbolLeads self.now.slots self.now.only symbol result.state state
-            result.bits.count result.bits.value }
-        ensures least { 2 ^ 16 ≤ result.state }
-        ensures below { result.state < 2 ^ 32 }
+    pub(crate) fn long_symbol(&self, token: u32) -> u32
+        requires { 2 ^ self.now.config.split_exponent ≤ token }
+        ensures { result ≡ symbol_of self.now.config token }
     {
-        if self.only.is_some() {
-            return SymbolBits {
-                state,
-                bits: BitPiece { value: 0, count: 0 },
-            };
+        let config = &self.config;
+        let low = power(config.lsb_in_token);
+        let high = power(config.msb_in_token);
+        let n = log_of(token);
+        let wide = power(n - (config.msb_in_token + config.lsb_in_token));
+        let lead = token / low / wide;
+        let upper = (n - config.split_exponent + self.steps) * high + lead;
+        if config.lsb_in_token == 0 {
+            return upper;
         }
-        self.slots.write(state, symbol)
+        upper * low + token % low
     }
 
-    /// Writes a token whose symbol occurs: the decoder reads it from the state of the result, and goes on in `state`.
-    pub fn write(&self, state: u32, token: u32) -> TokenBits
-        requires state { 2 ^ 16 ≤ state }
-        requires occurs { Occurs self.now token }
-        ensures writes { TokenWrites self.now token result.state state result.word result.rest }
-        ensures least { 2 ^ 16 ≤ result.state }
-        ensures below { result.state < 2 ^ 32 }
+    /// Writes the bits after the symbol of a token that is not below the split, before others.
+    #[inline(always)]
+    pub(crate) fn prepend_rest(
+        &self,
+        words: &mut Vec<u32>,
+        first: FirstBits,
+        token: u32,
+    ) -> Result<FirstBits, AllocError>
+        requires { 2 ^ self.now.config.split_exponent ≤ token }
+        ensures { IfOk result (λ f. (count : ℕ) × (value : ℕ)
+            × IsSpelled self.now.config token (symbol_of self.now.config token) count value
+            × (bits_back f words.new.items ≡ digits count value ++ bits_back first words.old.items)) }
     {
-        let spelling = spell(&self.config, token);
-        let written = self.write_symbol(state, spelling.symbol);
-        TokenBits {
-            state: written.state,
-            word: written.bits,
-            rest: spelling.rest,
-        }
+        let config = &self.config;
+        let low = power(config.lsb_in_token);
+        let width = log_of(token) - (config.msb_in_token + config.lsb_in_token);
+        let wide = power(width);
+        let number = token / low;
+        let first = prepend_lowest(words, first, number, number / wide, width)?;
+        Ok(first)
     }
 }

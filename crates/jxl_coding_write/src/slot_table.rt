@@ -1,7 +1,6 @@
 //! The slots of each symbol of a distribution, and ANS symbols written by them.
 
-ghost use Rattle.std.specs.Prelude.{◌≡◌, ℕ, ◌+◌, ◌*◌, ◌/◌, ◌%◌, ◌<◌, ◌≤◌, ◌^◌, ◌↔◌, true, nat_le, if◌then◌else◌, length, sum, take, IfOk, IsTrue, slice_index};
-ghost use Rattle.std.specs.List.{All};
+ghost use Rattle.std.specs.Prelude.{◌≡◌, ℕ, ◌+◌, ◌*◌, ◌/◌, ◌%◌, ◌<◌, ◌≤◌, ◌^◌, ◌↔◌, length, map, sum, take, IfOk, IsTrue, slice_index};
 ghost use Rattle.jxl_coding_codes.specs.Alias.{buckets_of};
 ghost use Rattle.jxl_coding_write.specs.Places.{HavePlaces, AreWithin, IsPlaceOf, Leads};
 
@@ -10,6 +9,18 @@ use jxl_coding_codes::alias::{bucket_shift_of, buckets};
 use jxl_coding_codes::ans::{Bucket, slot_of};
 use std::alloc::{AllocError, Global};
 
+/// The slots of a symbol, in a list of those of all symbols.
+#[derive(Clone, Copy)]
+pub(crate) struct SymbolSlots {
+    /// The states below it keep their bits before the symbol.
+    limit: u64,
+    /// How many slots there are.
+    count: u32,
+    /// The number of slots of the symbols before it.
+    start: u32,
+    ghost limit_is: { limit ≡ count * 1048576 },
+}
+
 /// The slots of a distribution, by symbol and number.
 #[derive(Drop)]
 pub struct SlotTable {
@@ -17,16 +28,17 @@ pub struct SlotTable {
     pub counts: Vec<u32>,
     /// The logarithm of the number of buckets.
     pub log: u32,
-    /// For each symbol the number of slots of the symbols before it.
-    pub starts: Vec<u32>,
+    /// The slots of each symbol.
+    symbols: Vec<SymbolSlots>,
     /// The slots, ordered by symbol and then by number.
-    pub places: Vec<u32>,
+    places: Vec<u32>,
     ghost log_few: { log ≤ 8 },
     ghost short: { length counts.items ≤ 2 ^ log },
     ghost whole: { sum counts.items ≡ 4096 },
     ghost few: { length places.items ≡ 4096 },
-    ghost within: { AreWithin counts.items starts.items places.items },
-    ghost have: { HavePlaces counts.items log starts.items places.items },
+    ghost counted: { map (λ s. s.count) symbols.items ≡ counts.items },
+    ghost within: { AreWithin counts.items (map (λ s. s.start) symbols.items) places.items },
+    ghost have: { HavePlaces counts.items log (map (λ s. s.start) symbols.items) places.items },
 }
 
 /// A written symbol: the state before it, and the bits that the decoder reads after it.
@@ -36,20 +48,32 @@ pub struct SymbolBits {
     pub bits: BitPiece,
 }
 
-/// For each symbol the number of slots of the symbols before it.
-fn starts_of(alloc: Global, counts: &[u32]) -> Result<Vec<u32>, AllocError>
-    requires whole { sum counts.now ≡ 4096 }
-    ensures many { IfOk result (λ v. length v.items ≡ length counts.now) }
-    ensures each { IfOk result (λ v. (k : ℕ) → k < length counts.now
-        → slice_index v.items k ≡ sum (take k counts.now)) }
+/// The slots of a symbol, after those of the symbols before it.
+fn slots_after(start: u32, count: u32) -> SymbolSlots
+    ensures count { result.count ≡ count }
+    ensures start { result.start ≡ start }
 {
-    let mut starts = Vec::new(alloc);
+    SymbolSlots {
+        limit: u64::from(count) * 1048576,
+        count,
+        start,
+    }
+}
+
+/// The slots of each symbol.
+fn symbols_of(alloc: Global, counts: &[u32]) -> Result<Vec<SymbolSlots>, AllocError>
+    requires whole { sum counts.now ≡ 4096 }
+    ensures counts { IfOk result (λ v. map (λ s. s.count) v.items ≡ counts.now) }
+    ensures starts { IfOk result (λ v. (k : ℕ) → k < length counts.now
+        → slice_index (map (λ s. s.start) v.items) k ≡ sum (take k counts.now)) }
+{
+    let mut symbols = Vec::new(alloc);
     let mut before = 0;
     for count in counts {
-        starts.push(before)?;
+        symbols.push(slots_after(before, *count))?;
         before += *count;
     }
-    Ok(starts)
+    Ok(symbols)
 }
 
 /// The alias table of a distribution.
@@ -70,23 +94,24 @@ fn places_of(
     alloc: Global,
     counts: &[u32],
     log: u32,
-    starts: &[u32],
+    symbols: &[SymbolSlots],
 ) -> Result<Vec<u32>, AllocError>
     requires log { log ≤ 8 }
     requires short { length counts.now ≤ 2 ^ log }
     requires whole { sum counts.now ≡ 4096 }
-    requires many { length starts.now ≡ length counts.now }
-    requires starts { (k : ℕ) → k < length counts.now → slice_index starts.now k ≡ sum (take k counts.now) }
+    requires many { length symbols.now ≡ length counts.now }
+    requires starts { (k : ℕ) → k < length counts.now
+        → slice_index (map (λ s. s.start) symbols.now) k ≡ sum (take k counts.now) }
     ensures many { IfOk result (λ v. length v.items ≡ 4096) }
-    ensures within { IfOk result (λ v. AreWithin counts.now starts.now v.items) }
-    ensures have { IfOk result (λ v. HavePlaces counts.now log starts.now v.items) }
+    ensures within { IfOk result (λ v. AreWithin counts.now (map (λ s. s.start) symbols.now) v.items) }
+    ensures have { IfOk result (λ v. HavePlaces counts.now log (map (λ s. s.start) symbols.now) v.items) }
 {
     let buckets = buckets_for(alloc, counts, log)?;
     let shift = bucket_shift_of(log);
     let mut places = vec![in alloc; 0; 4096]?;
     for place in 0..4096 {
         let slot = slot_of(&buckets, 0, shift, place);
-        let start = starts[slot.symbol as usize];
+        let start = symbols[slot.symbol as usize].start;
         places[(start + slot.number) as usize] = place;
     }
     Ok(places)
@@ -101,12 +126,12 @@ impl SlotTable {
         ensures counts { IfOk result (λ t. t.counts.items ≡ counts.items) }
         ensures log { IfOk result (λ t. t.log ≡ log) }
     {
-        let starts = starts_of(alloc, &counts)?;
-        let places = places_of(alloc, &counts, log, &starts)?;
+        let symbols = symbols_of(alloc, &counts)?;
+        let places = places_of(alloc, &counts, log, &symbols)?;
         Ok(SlotTable {
             counts,
             log,
-            starts,
+            symbols,
             places,
         })
     }
@@ -121,42 +146,47 @@ impl SlotTable {
         }
     }
 
-    /// The slot of a symbol and a number below its count.
-    fn place(&self, symbol: u32, number: u32) -> u32
-        requires { number < slice_index self.now.counts.items symbol }
+    /// The slot of a number of a symbol.
+    #[inline(always)]
+    fn place(&self, symbol: u32, slots: &SymbolSlots, number: u32) -> u32
+        requires start { slots.now.start ≡ slice_index (map (λ s. s.start) self.now.symbols.items) symbol }
+        requires below { number < slice_index self.now.counts.items symbol }
         ensures { IsPlaceOf self.now.counts.items self.now.log symbol number result }
     {
-        self.places[(self.starts[symbol as usize] + number) as usize]
+        self.places[(slots.start + number) as usize]
     }
 
     /// The state before a symbol that occurs, if the state after it, without the bits that follow, is not too large.
-    fn before(&self, reduced: u32, symbol: u32, count: u32) -> u32
+    #[inline(always)]
+    fn before(&self, reduced: u32, symbol: u32, slots: &SymbolSlots) -> u32
         requires occurs { 0 < slice_index self.now.counts.items symbol }
-        requires count { count ≡ slice_index self.now.counts.items symbol }
-        requires small { reduced < count * 2 ^ 20 }
-        ensures { (place : ℕ) × IsPlaceOf self.now.counts.items self.now.log symbol (reduced % count) place
-            × (result ≡ reduced / count * 4096 + place) }
+        requires count { slots.now.count ≡ slice_index self.now.counts.items symbol }
+        requires start { slots.now.start ≡ slice_index (map (λ s. s.start) self.now.symbols.items) symbol }
+        requires small { reduced < slots.now.count * 2 ^ 20 }
+        ensures { (place : ℕ) × IsPlaceOf self.now.counts.items self.now.log symbol (reduced % slots.now.count) place
+            × (result ≡ reduced / slots.now.count * 4096 + place) }
     {
-        let place = self.place(symbol, reduced % count);
-        reduced / count * 4096 + place
+        let place = self.place(symbol, slots, reduced % slots.count);
+        reduced / slots.count * 4096 + place
     }
 
     /// Writes a symbol that occurs: the decoder reads it from the state of the result, and goes on in `state`.
+    #[inline(always)]
     pub fn write(&self, state: u32, symbol: u32) -> SymbolBits
         requires occurs { 0 < slice_index self.now.counts.items symbol }
         requires least { 2 ^ 16 ≤ state }
         ensures { Leads (buckets_of self.now.counts.items self.now.log) (4096 / 2 ^ self.now.log) symbol result.state
             state result.bits.count result.bits.value }
     {
-        let count = self.counts[symbol as usize];
-        if state / 1048576 < count {
+        let slots = &self.symbols[symbol as usize];
+        if u64::from(state) < slots.limit {
             return SymbolBits {
-                state: self.before(state, symbol, count),
+                state: self.before(state, symbol, slots),
                 bits: BitPiece { value: 0, count: 0 },
             };
         }
         SymbolBits {
-            state: self.before(state / 65536, symbol, count),
+            state: self.before(state / 65536, symbol, slots),
             bits: BitPiece {
                 value: state % 65536,
                 count: 16,

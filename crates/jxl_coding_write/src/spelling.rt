@@ -27,7 +27,8 @@ pub fn symbol_count(config: &IntegerConfig) -> u32
 }
 
 /// The number of bits below the leading one.
-fn log_of(value: u32) -> u32
+#[inline(always)]
+pub fn log_of(value: u32) -> u32
     requires { 0 < value }
     ensures log { result ≡ 31 - leading_zeros w32 value }
     ensures few { result < 32 }

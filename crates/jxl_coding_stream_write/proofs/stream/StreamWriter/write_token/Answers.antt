@@ -1,15 +1,33 @@
-use Rattle.std.proofs.Common.{◌<◌, ℕ, slice_index, sym, subst}
-use Rattle.jxl_coding_stream_write.specs.Tokens.{Occurs}
-use Rattle.jxl_coding_stream_write.specs.declared.cluster.ClusterWriter.{ClusterWriter}
-use Rattle.jxl_coding_stream_write.proofs.TokenReads.{token_before}
+use Rattle.std.proofs.Common.{◌∙◌, get_or, ap, sym}
+use Rattle.jxl_coding_stream_write.specs.Inner.Backward.{bits_back}
+use Rattle.jxl_coding_stream_write.proofs.TokensWritten.{coded_read, only_read, only_rest_read, rest_read}
 use Rattle.jxl_coding_stream_write.proofs.stream.StreamWriter.write_token.Goals as goal
 
-pub write_symbol-written-requires-clause-occurs : goal.write_symbol-written-requires-clause-occurs
-write_symbol-written-requires-clause-occurs c =
-    subst (λ (s : ℕ). 0 < slice_index c.index-code.result.now.slots.counts.items s) (sym c.spell-spelling.ensures.symbol)
-    (subst (λ (k : ClusterWriter). Occurs k c.args.token.value) (sym c.index-code.ensures) (c.requires.slot.1 c.index-code.result.now))
+pub returns-then-token-code-clause-reads : goal.returns-then-token-code-clause-reads
+returns-then-token-code-clause-reads c = λ tokens reads.
+    let l = c.in_ok-before.ensures in
+    coded_read c.args.self.now c.args.token c.requires.slot c.index-codes-token.result (c.index-codes-token.is ∙ ap (λ xs. get_or xs c.args.token.cluster c.index-codes-token.result) c.requires.codes)
+    c.args.after.state (bits_back c.args.after.first c.args.words.now.items) c.if-token-code.true
+    c.in_ok-before.before.state l.0 l.1 l.2 (bits_back c.in_ok-before.before.first c.write_symbol.new.words.items) l.3 tokens reads
+
+pub returns-then-token-code-2-clause-reads : goal.returns-then-token-code-2-clause-reads
+returns-then-token-code-2-clause-reads c = λ tokens reads.
+    only_read c.args.self.now c.args.token c.requires.slot c.index-codes-token.result (c.index-codes-token.is ∙ ap (λ xs. get_or xs c.args.token.cluster c.index-codes-token.result) c.requires.codes)
+    c.args.after.state (bits_back c.args.after.first c.args.words.now.items) c.if-token-code.false c.if-token-code-2.true
+    tokens reads
+
+pub returns-then-is_some-clause-reads : goal.returns-then-is_some-clause-reads
+returns-then-is_some-clause-reads c = λ tokens reads.
+    let l = c.in_ok-first.ensures in
+    only_rest_read c.args.self.now c.args.token c.requires.slot c.index-codes-token.result (c.index-codes-token.is ∙ ap (λ xs. get_or xs c.args.token.cluster c.index-codes-token.result) c.requires.codes)
+    c.args.after.state (bits_back c.args.after.first c.args.words.now.items)
+    l.0 l.1 l.2 (bits_back c.in_ok-first.first c.prepend_rest.new.words.items) l.3 (sym c.is_some.ensures ∙ c.if-is_some.true) tokens reads
 
 pub returns-clause-reads : goal.returns-clause-reads
-returns-clause-reads c =
-    token_before c.args.self.now c.args.token c.index-code.result.now c.requires.slot.0 c.index-code.ensures c.write_symbol-written.result.state c.args.after.state c.write_symbol-written.result.bits c.spell-spelling.result.rest
-    (record { symbol = c.spell-spelling.result.symbol; leads = c.write_symbol-written.ensures.leads; spelled = c.spell-spelling.ensures.read }) _ _ _ c.in_ok-first.ensures c.in_ok-first-2.ensures
+returns-clause-reads c = λ tokens reads.
+    let l = c.in_ok-first-2.ensures in
+    let m = c.in_ok-before-2.ensures in
+    rest_read c.args.self.now c.args.token c.requires.slot c.index-codes-token.result (c.index-codes-token.is ∙ ap (λ xs. get_or xs c.args.token.cluster c.index-codes-token.result) c.requires.codes)
+    c.args.after.state (bits_back c.args.after.first c.args.words.now.items)
+    l.0 l.1 l.2 (bits_back c.in_ok-first-2.first c.prepend_rest-2.new.words.items) l.3 (sym c.is_some.ensures ∙ c.if-is_some.false)
+    c.long_symbol-symbol.result c.in_ok-before-2.before.state m.0 m.1 c.long_symbol-symbol.ensures m.2 (bits_back c.in_ok-before-2.before.first c.write_symbol-2.new.words.items) m.3 tokens reads
