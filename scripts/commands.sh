@@ -361,6 +361,37 @@ encode_rows() {
     absent d.jxl
     expect 2 'error: ' grey.pgm -o d.jxl --exif
 
+    # Profiles: p.icc is that of a file of cjxl. Only one above 2^22 bytes needs level 10, in boxes.
+    expect 0 - grey.pgm --icc p.icc -o c.jxl
+    test "$(head -c 2 c.jxl | od -An -tx1)" = ' ff 0a'
+    judge $? 'a picture with a profile is not a bare codestream'
+    "$decoder" c.jxl -o again.pgm --icc out.icc && cmp -s grey.pgm again.pgm && cmp -s p.icc out.icc
+    judge $? 'the picture or its profile is not what it was'
+    "$decoder" c.jxl --info > out
+    grep -q '^Color space: Grayscale, ICC profile$' out
+    judge $? 'the header of a picture with a profile does not signal it'
+    expect 0 - grey.pgm --icc p.icc --exif in.exif --xmp in.xmp -o c.jxl
+    "$decoder" c.jxl --icc out.icc --exif out.exif --xmp out.xmp && cmp -s p.icc out.icc && cmp -s in.exif out.exif &&
+        cmp -s in.xmp out.xmp
+    judge $? 'a profile, Exif and XMP data are not what they were'
+    head -c 4194304 /dev/zero > five.icc
+    { cat five.icc; printf 'x'; } > ten.icc
+    for name in five ten; do
+        expect 0 - grey.pgm -e fast --icc $name.icc -o $name.jxl
+        "$decoder" $name.jxl --icc out.icc && cmp -s $name.icc out.icc
+        judge $? "$name.icc is not what it was"
+    done
+    test "$(head -c 2 five.jxl | od -An -tx1)" = ' ff 0a'
+    judge $? 'a profile of 2^22 bytes is not at level 5'
+    test "$(head -c 41 ten.jxl | tail -c 5 | od -An -tx1)" = ' 6a 78 6c 6c 0a'
+    judge $? 'a profile above 2^22 bytes is not at level 10'
+    expect 1 'jxlenc: none.icc: cannot read: No such file or directory (os error 2)' grey.pgm --icc none.icc -o d.jxl
+    expect 1 'jxlenc: folder: cannot read: Is a directory (os error 21)' grey.pgm --icc folder -o d.jxl
+    expect 1 'jxlenc: none.data: a profile of 0 bytes or above 268435456' grey.pgm --icc none.data -o d.jxl
+    expect 1 'jxlenc: none.icc: cannot read: No such file or directory (os error 2)' grey.pgm --icc none.icc --exif none.exif -o d.jxl
+    absent d.jxl
+    expect 2 'error: ' grey.pgm -o d.jxl --icc
+
     # Pictures that cannot be read: an output that exists keeps its contents.
     printf 'kept' > b.jxl
     printf 'P5\n3 2\n255\n\001\002\003\004\005' > short.pgm

@@ -7,7 +7,7 @@ pub record IsReadWhole (left rest : Option (List ℕ)) (holds : List ℕ → Typ
   pub file : List ℕ
   pub read : Consumes left rest file
   pub ended : IsAtEnd rest
-  pub held : holds file
+  pub is : holds file
 
 -- an output, which held `held`, holds these bytes after that, and has passed them on; without bytes it stays as it was
 abbrev pub IsKept : Option (List ℕ) → Option (List ℕ) → Option (List ℕ) → Type 0 → Type 0 → Type 0

@@ -1,7 +1,8 @@
 //! What a program reads: a file that is opened when it is first read.
 
-ghost use Rattle.std.specs.Prelude.{◌≡◌, IfOk, None, OnOk};
-ghost use Rattle.std.specs.Io.KnownBytes.{Consumes, IsAtEnd};
+ghost use Rattle.std.specs.Prelude.{◌≡◌, IfOk, None, OnOk, is_some, true};
+ghost use Rattle.std.specs.Io.KnownBytes.{Consumes, IsAtEnd, Keeps};
+ghost use Rattle.std.specs.Option.{option_and_then};
 
 use std::alloc::Global;
 use std::fs;
@@ -19,7 +20,9 @@ pub struct InputFile<'a, R: Files> {
 impl<'a, R: Files> InputFile<'a, R> {
     /// The file of this path, which is not opened yet.
     pub fn new(rt: &'a R, path: &'a str) -> InputFile<'a, R>
-        ensures { result.file ≡ None }
+        ensures files { result.rt ≡ rt.entry }
+        ensures path { result.path ≡ path.entry }
+        ensures closed { result.file ≡ None }
     {
         InputFile {
             rt,
@@ -27,13 +30,25 @@ impl<'a, R: Files> InputFile<'a, R> {
             file: None,
         }
     }
-}
 
-impl<'a, R: Files> Read for InputFile<'a, R> {
-    fn read(&mut self, buf: &mut [u8]) -> io::Result<usize> {
+    // Opens the file, if that is not done.
+    fn open(&mut self) -> io::Result<()>
+        ensures opened { OnOk result (is_some self.new.file ≡ true) }
+        ensures kept { Keeps (option_and_then R.File.remaining self.old.file)
+            (option_and_then R.File.remaining self.new.file) }
+    {
         if self.file.is_none() {
             self.file = Some(fs::open(self.rt, self.path)?);
         }
+        Ok(())
+    }
+}
+
+impl<'a, R: Files> Read for InputFile<'a, R> {
+    ghost remaining = { λ input. option_and_then R.File.remaining input.file };
+
+    fn read(&mut self, buf: &mut [u8]) -> io::Result<usize> {
+        self.open()?;
         match &mut self.file {
             Some(file) => file.read(buf),
             None => Ok(0),

@@ -1,7 +1,8 @@
 //! What a program writes to: standard output, or a file that is made when it is first written to.
 
-ghost use Rattle.std.specs.Prelude.{◌≡◌, None, OnErr, OnOk, false};
+ghost use Rattle.std.specs.Prelude.{◌≡◌, None, OnErr, OnOk, false, is_some, true};
 ghost use Rattle.std.specs.Io.KnownBytes.{Appends, Keeps};
+ghost use Rattle.std.specs.Option.{option_and_then};
 ghost use Rattle.jxl_netpbm.specs.Output.{AppendsBeginning};
 
 use jxl_netpbm::output::write_whole;
@@ -33,7 +34,10 @@ pub struct OutputFile<'a, R: Files> {
 impl<'a, R: Files> OutputFile<'a, R> {
     /// The file of this path, which is not made yet.
     pub fn new(rt: &'a R, path: &'a str) -> OutputFile<'a, R>
-        ensures { result.file ≡ None }
+        ensures files { result.rt ≡ rt.entry }
+        ensures path { result.path ≡ path.entry }
+        ensures closed { result.file ≡ None }
+        ensures flushed { result.waits ≡ false }
     {
         OutputFile {
             rt,
@@ -42,13 +46,25 @@ impl<'a, R: Files> OutputFile<'a, R> {
             waits: false,
         }
     }
-}
 
-impl<'a, R: Files> Write for OutputFile<'a, R> {
-    fn write(&mut self, buf: &[u8]) -> io::Result<usize> {
+    // Makes or empties the file, if that is not done.
+    fn open(&mut self) -> io::Result<()>
+        ensures opened { OnOk result (is_some self.new.file ≡ true) }
+        ensures kept { Keeps (option_and_then R.File.contents self.old.file)
+            (option_and_then R.File.contents self.new.file) }
+    {
         if self.file.is_none() {
             self.file = Some(fs::create(self.rt, self.path)?);
         }
+        Ok(())
+    }
+}
+
+impl<'a, R: Files> Write for OutputFile<'a, R> {
+    ghost contents = { λ output. option_and_then R.File.contents output.file };
+
+    fn write(&mut self, buf: &[u8]) -> io::Result<usize> {
+        self.open()?;
         self.waits = true;
         match &mut self.file {
             Some(file) => file.write(buf),

@@ -3,3 +3,4 @@ pub mod Cells
 pub mod Codings
 pub mod Codestreams
 pub mod PlainTrees
+pub mod ProfiledPictures

@@ -1,5 +1,5 @@
 -- What an encoder makes of a picture: a file that is decoded to it (ISO/IEC 18181-1 and 18181-2).
-use Rattle.std.specs.Prelude.{◌≡◌, ◌≤◌, ◌^◌, ◌*◌, ◌||◌, nat_lt, not, ℕ, List, length, Bool, if◌then◌else◌, MatchBool, Option, is_some, IfSome, Ok}
+use Rattle.std.specs.Prelude.{◌≡◌, ◌≤◌, ◌^◌, ◌*◌, ◌||◌, nat_lt, not, ℕ, List, length, Bool, false, if◌then◌else◌, MatchBool, Option, Some, None, is_some, IfSome, Ok}
 use Rattle.std.specs.List.{list_any}
 use Rattle.jxl_codestream.specs.FrontParts.{bytes_if}
 use Rattle.jxl_container.specs.Files.{HasCodestream}
@@ -39,20 +39,28 @@ is_deep c = is_black c.kind || nat_lt 16 c.bit_depth.bits_per_sample
 abbrev pub is_large : Size → Bool
 is_large size = nat_lt (2 ^ 18) size.width || nat_lt (2 ^ 18) size.height || nat_lt (2 ^ 28) (size.width * size.height)
 
--- A picture that level 5 does not hold (ISO/IEC 18181-1, profiles and levels): by its depth or its extra channels, or too large.
-abbrev pub is_beyond_five : Image → Bool
-is_beyond_five image =
-    not image.modular_16bit_buffers || nat_lt 16 image.bit_depth.bits_per_sample || nat_lt 4 (length image.ec_info) || list_any is_deep image.ec_info || is_large image.size
+-- a profile that level 5 does not hold
+abbrev pub is_long : Option (List ℕ) → Bool
+is_long (Some icc) = nat_lt (2 ^ 22) (length icc)
+is_long None = false
 
--- the level of a picture
-abbrev pub level_of : Image → Level
-level_of image = if is_beyond_five image then Ten else Five
+-- A picture that level 5 does not hold (ISO/IEC 18181-1, profiles and levels): by its depth, its extra channels or its profile, or
+-- too large.
+abbrev pub is_beyond_five : Image → Option (List ℕ) → Bool
+is_beyond_five image icc =
+    not image.modular_16bit_buffers || nat_lt 16 image.bit_depth.bits_per_sample || nat_lt 4 (length image.ec_info) || list_any is_deep image.ec_info || is_large image.size ||
+    is_long icc
+
+-- the level of a picture with this profile, if it has one
+abbrev pub level_of : Image → Option (List ℕ) → Level
+level_of image icc = if is_beyond_five image icc then Ten else Five
 
 -- a file of a picture is in boxes: it is to be, it needs level 10, or there are Exif or XMP data
-abbrev pub is_boxed : Image → Bool → Option (List ℕ) → Option (List ℕ) → Bool
-is_boxed image boxed exif xmp = boxed || is_beyond_five image || is_some exif || is_some xmp
+abbrev pub is_boxed : Image → Option (List ℕ) → Bool → Option (List ℕ) → Option (List ℕ) → Bool
+is_boxed image icc boxed exif xmp = boxed || is_beyond_five image icc || is_some exif || is_some xmp
 
 -- The file is a codestream of this picture, or boxes with one, at the picture's level and with these Exif and XMP data.
 abbrev pub IsWrittenFile : Picture → Bool → Option (List ℕ) → Option (List ℕ) → List ℕ → Type 0
 IsWrittenFile picture boxed exif xmp file = (codestream : List ℕ) × IsCodestreamOf picture codestream
-    × MatchBool (is_boxed (image_of picture.header) boxed exif xmp) (HasBoxes file (boxes_of codestream (level_of (image_of picture.header)) exif xmp)) (file ≡ codestream)
+    × MatchBool (is_boxed (image_of picture.header) (bytes_if picture.profile) boxed exif xmp)
+    (HasBoxes file (boxes_of codestream (level_of (image_of picture.header) (bytes_if picture.profile)) exif xmp)) (file ≡ codestream)

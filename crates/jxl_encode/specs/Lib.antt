@@ -1,3 +1,4 @@
 pub mod Codable
 pub mod Files
 pub mod Inner
+pub mod Profiles

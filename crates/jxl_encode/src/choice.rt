@@ -10,6 +10,7 @@ ghost use Rattle.jxl_encode.specs.Files.{IsCodestreamOf};
 use crate::advice::{Advice, advices_for};
 use crate::codestream::codestream_by;
 use crate::effort::Effort;
+use crate::progress::Progress;
 use jxl_picture::picture::Picture;
 use jxlm_base::grid::OutOfMemory;
 use std::alloc::Global;
@@ -31,10 +32,11 @@ fn shorter(best: Option<Vec<u8>>, other: Vec<u8>) -> Vec<u8>
 }
 
 /// The shortest codestream of the picture by one of these; none, if there is none of them.
-fn shortest(
+fn shortest<P: Progress>(
     alloc: Global,
     picture: &Picture,
     advices: &[Advice],
+    progress: &mut P,
 ) -> Result<Option<Vec<u8>>, OutOfMemory>
     requires whole { IsWhole (image_of picture.now.header) picture.now.channels.items }
     requires codable { IsCodable picture.now }
@@ -44,22 +46,25 @@ fn shortest(
     for advice in advices {
         let bytes = codestream_by(alloc, picture, advice)?;
         best = Some(shorter(best, bytes));
+        progress.way_tried(advices.len());
     }
     Ok(best)
 }
 
-/// A codestream of the picture. By what its samples are coded is a heuristic.
-pub(crate) fn encode_codestream(
+/// A codestream of the picture. By what its samples are coded is a heuristic. `progress` is called after each way that
+/// was tried.
+pub(crate) fn encode_codestream<P: Progress>(
     alloc: Global,
     picture: &Picture,
     effort: Effort,
+    progress: &mut P,
 ) -> Result<Vec<u8>, OutOfMemory>
     requires whole { IsWhole (image_of picture.now.header) picture.now.channels.items }
     requires codable { IsCodable picture.now }
     ensures { IfOk result (λ v. IsCodestreamOf picture.now v.items) }
 {
     let advices = advices_for(alloc, picture, effort)?;
-    if let Some(bytes) = shortest(alloc, picture, &advices)? {
+    if let Some(bytes) = shortest(alloc, picture, &advices, progress)? {
         return Ok(bytes);
     }
     let plain = Advice {

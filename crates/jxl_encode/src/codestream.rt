@@ -1,8 +1,6 @@
 //! A codestream of a picture: one frame, whose sections follow in their own order.
 
-ghost use Rattle.std.specs.Prelude.{◌≡◌, IfOk};
-ghost use Rattle.std.specs.Option.{option_map};
-ghost use Rattle.jxl_codestream.specs.FrontParts.{bytes_if};
+ghost use Rattle.std.specs.Prelude.{IfOk};
 ghost use Rattle.jxl_image_header.specs.Images.{image_of};
 ghost use Rattle.jxl_picture.specs.Pictures.{IsWhole};
 ghost use Rattle.jxl_encode.specs.Codable.{IsCodable};
@@ -17,16 +15,6 @@ use jxl_codestream_write::front::write_front_with_profile;
 use jxl_picture::picture::Picture;
 use jxlm_base::grid::OutOfMemory;
 use std::alloc::Global;
-
-// The bytes of the picture's profile, if there is one.
-fn profile_of(picture: &Picture) -> Option<&[u8]>
-    ensures { option_map (λ s. s.now) result ≡ bytes_if picture.now.profile }
-{
-    match &picture.profile {
-        Some(icc) => Some(icc),
-        None => None,
-    }
-}
 
 /// A codestream of the picture by this advice.
 ///
@@ -56,7 +44,7 @@ pub(crate) fn codestream_by(
         return Err(OutOfMemory);
     };
     let sizes = sizes_of(alloc, &sections)?;
-    let profile = profile_of(picture);
+    let profile = picture.profile.as_deref();
     let mut bytes = write_front_with_profile(alloc, &picture.header, profile, GROUP_SHIFT, &sizes)?;
     add_sections(&mut bytes, &sections)?;
     Ok(bytes)

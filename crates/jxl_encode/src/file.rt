@@ -10,6 +10,7 @@ ghost use Rattle.jxl_encode.specs.Files.{IsFileOf, IsWrittenFile};
 use crate::choice::encode_codestream;
 use crate::effort::Effort;
 use crate::level::{is_boxed, level_of};
+use crate::progress::Progress;
 use jxl_container_write::container::write_container;
 use jxl_picture::picture::Picture;
 use jxlm_base::grid::OutOfMemory;
@@ -30,8 +31,8 @@ pub fn encode_lossless(
 
 /// A lossless .jxl file of the picture, which is whole and can be coded (`is_codable`), with these Exif and XMP data,
 /// if present: the Exif data from the TIFF header on. `decode_lossless` returns the picture within all limits that
-/// allow it, its profile with 16 bytes more, and 128 decisions for a sample. The file is a codestream, or boxes with one: if `boxed` says so, if there are
-/// such data, or if level 5 does not hold the picture.
+/// allow it, its profile with 16 bytes more, and 128 decisions for a sample. The file is a codestream, or boxes with
+/// one: if `boxed` says so, if there are such data, or if level 5 does not hold the picture with its profile.
 ///
 /// # Errors
 ///
@@ -51,11 +52,30 @@ pub fn encode_with(
     ensures written { IfOk result (λ v. IsWrittenFile picture.now boxed (option_map (λ s. s.now) exif.entry)
         (option_map (λ s. s.now) xmp.entry) v.items) }
 {
-    let codestream = encode_codestream(alloc, picture, effort)?;
-    if !is_boxed(&picture.header, boxed, exif, xmp) {
+    encode_with_progress(alloc, picture, effort, boxed, exif, xmp, &mut ())
+}
+
+/// The file of [`encode_with`]; `progress` is called after each way to code the picture that was tried.
+pub fn encode_with_progress<P: Progress>(
+    alloc: Global,
+    picture: &Picture,
+    effort: Effort,
+    boxed: bool,
+    exif: Option<&[u8]>,
+    xmp: Option<&[u8]>,
+    progress: &mut P,
+) -> Result<Vec<u8>, OutOfMemory>
+    requires whole { IsWhole (image_of picture.now.header) picture.now.channels.items }
+    requires codable { IsCodable picture.now }
+    ensures picture { IfOk result (λ v. IsFileOf picture.now v.items) }
+    ensures written { IfOk result (λ v. IsWrittenFile picture.now boxed (option_map (λ s. s.now) exif.entry)
+        (option_map (λ s. s.now) xmp.entry) v.items) }
+{
+    let codestream = encode_codestream(alloc, picture, effort, progress)?;
+    if !is_boxed(picture, boxed, exif, xmp) {
         return Ok(codestream);
     }
-    let level = level_of(&picture.header);
+    let level = level_of(picture);
     let file = write_container(alloc, &codestream, level, exif, xmp)?;
     Ok(file)
 }

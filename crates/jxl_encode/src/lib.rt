@@ -10,6 +10,8 @@ pub mod effort;
 pub mod file;
 mod frame;
 mod level;
+pub mod profile;
+pub mod progress;
 mod sizes;
 mod trees;
 mod values;

@@ -108,11 +108,11 @@ parts_whole w h start false false s gs all = all
 pub are_whole : (h : Header) (bytes : List ℕ) (gs : List (Grid ℤ)) → HoldsChannels h bytes (channels_of h) gs → IsWhole (image_by h) gs
 are_whole h bytes gs holds =
     parts_whole h.width h.height h.start h.grey h.alpha h.storage gs
-    (all_full (record { width = h.width; height = h.height }) (channels_of h) gs holds.count (λ k g at. let own = holds.held k g at in (own.wide, own.high)))
+    (all_full (record { width = h.width; height = h.height }) (channels_of h) gs holds.count (λ k g at. let own = holds.samples k g at in (own.wide, own.high)))
 
 -- no channels, and one more
 pub no_channels : (h : Header) (bytes : List ℕ) → HoldsChannels h bytes 0 []
-no_channels h bytes = record { count = refl; held = λ k g at. absurd (omega (arith, slice_get_within [] k g at)) }
+no_channels h bytes = record { count = refl; samples = λ k g at. absurd (omega (arith, slice_get_within [] k g at)) }
 
 last_channel : (gs : List (Grid ℤ)) (g other : Grid ℤ) (k n : ℕ) → length gs ≡ n → slice_get (gs ++ g ∷ []) k ≡ Some other → (slice_get gs k ≡ Some other) ⊎ ((k ≡ n) × (g ≡ other))
 last_channel [] g other zero n e at = inr (omega (arith, e), same_Some g other at)
@@ -124,8 +124,8 @@ last_channel (x ∷ xs) g other (suc k) n e at =
 pub one_more_channel : (h : Header) (bytes : List ℕ) (n : ℕ) (gs : List (Grid ℤ)) (g : Grid ℤ) → HoldsChannels h bytes n gs → HoldsChannel h bytes n g → HoldsChannels h bytes (n + 1) (gs ++ g ∷ [])
 one_more_channel h bytes n gs g holds one = record {
   count = omega (arith, length-append gs (g ∷ []), holds.count);
-  held = λ k other at. elim (last_channel gs g other k n holds.count at) [
-    | inl before ↦ holds.held k other before
+  samples = λ k other at. elim (last_channel gs g other k n holds.count at) [
+    | inl before ↦ holds.samples k other before
     | inr last ↦ subst (λ (m : ℕ). HoldsChannel h bytes m other) (sym last.0) (subst (λ (v : Grid ℤ). HoldsChannel h bytes n v) last.1 one)
   ];
 }

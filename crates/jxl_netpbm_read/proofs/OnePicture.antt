@@ -34,7 +34,7 @@ has_one_picture file image other channels others a b =
     let headers : Ok a.header ≡ Ok b.header = sym a.is_header ∙ b.is_header in
     let same : a.header ≡ b.header = ap (the_header a.header) headers in
     let count : length channels ≡ length others = a.count ∙ ap (λ (h : Header). channels_of h) same ∙ sym b.count in (
-      a.described ∙ ap (λ (h : Header). image_by h) same ∙ sym b.described,
+      a.image_is ∙ ap (λ (h : Header). image_by h) same ∙ sym b.image_is,
       one_list channels others count (λ k g o p q.
-          one_grid b.header file k g o (subst (λ (h : Header). HoldsChannel h file k g) same (a.held k g p)) (b.held k o q)),
+          one_grid b.header file k g o (subst (λ (h : Header). HoldsChannel h file k g) same (a.samples k g p)) (b.samples k o q)),
     )

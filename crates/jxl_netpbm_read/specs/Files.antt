@@ -68,13 +68,13 @@ image_by h = record {
 }
 
 -- The file is one of this picture: it begins with its header, and holds each sample of each channel at its place.
-pub record IsFileOf (file : List ℕ) (image : Image) (channels : List (Grid ℤ)) : Type 0 where
+pub record IsNetpbmOf (file : List ℕ) (image : Image) (channels : List (Grid ℤ)) : Type 0 where
   pub header : Header
   pub is_header : header_from file ≡ Ok header
-  pub described : image ≡ image_by header
+  pub image_is : image ≡ image_by header
   pub long : HasSamples header file
   pub count : length channels ≡ channels_of header
-  pub held : (k : ℕ) (g : Grid ℤ) → slice_get channels k ≡ Some g → HoldsChannel header file k g
+  pub samples : (k : ℕ) (g : Grid ℤ) → slice_get channels k ≡ Some g → HoldsChannel header file k g
 
 -- The samples after this header do not make a picture: the file ends before them, or one is above the maximum.
 abbrev pub FailSamples : Header → List ℕ → NetpbmError → Type 0
@@ -92,4 +92,4 @@ IsErrorOf file e = (e ≡ OutOfMemory) ⊎ FailsAfter (header_from file) file e
 -- a file is one of one picture: of one header, and of one list of channels
 abbrev pub HasOnePicture : List ℕ → Type 0
 HasOnePicture file = (image other : Image) (channels others : List (Grid ℤ)) →
-    IsFileOf file image channels → IsFileOf file other others → (image ≡ other) × (channels ≡ others)
+    IsNetpbmOf file image channels → IsNetpbmOf file other others → (image ≡ other) × (channels ≡ others)

@@ -1,7 +1,7 @@
 -- The headers of netpbm files (netpbm: PGM, PPM, PAM and PFM formats).
 use Rattle.std.specs.Prelude.{ℕ, ◌+◌, ◌==◌, ◌&&◌, ◌||◌, not, nat_lt, nat_le, count_by, List, [], ◌∷◌, length, slice_index, slice_range, Bool, true, false, if◌then◌else◌, Option, Some, None, Result, Ok, Err}
 use Rattle.std.specs.List.{list_all, list_any}
-use Rattle.jxl_netpbm_read.specs.Words.{followed, is_digit, word_from}
+use Rattle.jxl_netpbm_read.specs.Words.{and_then, is_digit, word_from}
 use Rattle.jxl_netpbm_read.specs.Pam.{pam_from}
 use Rattle.jxl_netpbm_read.specs.Parts.{bits_from, side_from}
 use Rattle.jxl_netpbm_read.specs.declared.error.NetpbmError.{NetpbmError}
@@ -21,7 +21,7 @@ magic_of b =
 -- PGM and PPM: width, height and maximum; a byte of white space is before the samples
 unfoldable pub plain_from : List ℕ → Bool → ℕ → Result Header NetpbmError
 plain_from bytes is_grey p =
-    followed (side_from bytes p) (λ w. followed (side_from bytes w.after) (λ h. followed (bits_from bytes h.after) (λ n.
+    and_then (side_from bytes p) (λ w. and_then (side_from bytes w.after) (λ h. and_then (bits_from bytes h.after) (λ n.
     Ok (record { width = w.value; height = h.value; grey = is_grey; alpha = false; storage = Numbers n.value; start = n.after + 1 }))))
 
 -- a sign, and a digit or a point
@@ -42,13 +42,13 @@ is_decimal (b ∷ bs) = if is_sign b then are_digits bs else are_digits (b ∷ b
 
 -- the scale of floats: by a negative one the least significant byte comes first
 unfoldable pub scale_from : List ℕ → ℕ → Result Scale NetpbmError
-scale_from bytes p = followed (word_from bytes p) (λ w.
+scale_from bytes p = and_then (word_from bytes p) (λ w.
     if is_decimal (slice_range bytes w.start w.end) then Ok (record { little_endian = (slice_index bytes w.start == 45); after = w.end }) else Err InvalidHeader)
 
 -- PFM: width, height and scale
 unfoldable pub float_from : List ℕ → Bool → ℕ → Result Header NetpbmError
 float_from bytes is_grey p =
-    followed (side_from bytes p) (λ w. followed (side_from bytes w.after) (λ h. followed (scale_from bytes h.after) (λ s.
+    and_then (side_from bytes p) (λ w. and_then (side_from bytes w.after) (λ h. and_then (scale_from bytes h.after) (λ s.
     Ok (record { width = w.value; height = h.value; grey = is_grey; alpha = false; storage = Floats s.little_endian; start = s.after + 1 }))))
 
 abbrev pub header_after : List ℕ → Option Magic → Result Header NetpbmError

@@ -1,7 +1,7 @@
 -- The header of a PAM file: lines of a keyword and a value (netpbm: PAM format).
 use Rattle.std.specs.Prelude.{◌≡◌, ◌≤◌, ℕ, zero, suc, ◌+◌, ◌==◌, ◌||◌, List, slice_index, slice_range, codes, true, false, if◌then◌else◌, Option, Some, None, Result, Ok, Err, IfSome}
 use Rattle.std.specs.Str.{bytes_eq}
-use Rattle.jxl_netpbm_read.specs.Words.{followed, number_from, word_from}
+use Rattle.jxl_netpbm_read.specs.Words.{and_then, number_from, word_from}
 use Rattle.jxl_netpbm_read.specs.Parts.{bits_from, channel_count, is_side, side_from}
 use Rattle.jxl_netpbm_read.specs.declared.error.NetpbmError.{NetpbmError}
 use Rattle.jxl_netpbm_read.specs.declared.error.NetpbmError.TheVariants.{InvalidHeader, MissingLine, Channels}
@@ -40,15 +40,15 @@ abbrev pub type_at : Kind → ℕ → Result Kind NetpbmError
 type_at k depth = if channel_count k.grey k.alpha == depth then Ok k else Err Channels
 
 -- the value of a line that has to be present
-abbrev pub needed : Option ℕ → Result ℕ NetpbmError
-needed (Some v) = Ok v
-needed None = Err MissingLine
+abbrev pub line_value : Option ℕ → Result ℕ NetpbmError
+line_value (Some v) = Ok v
+line_value None = Err MissingLine
 
 -- the header of these lines, after which samples begin at this byte
 unfoldable pub header_by_lines : Lines → ℕ → Result Header NetpbmError
 header_by_lines l start =
-    followed (needed l.width) (λ width. followed (needed l.height) (λ height. followed (needed l.depth) (λ depth.
-    followed (needed l.bits) (λ bits. followed (type_at (type_or l.tuple_type depth) depth) (λ k.
+    and_then (line_value l.width) (λ width. and_then (line_value l.height) (λ height. and_then (line_value l.depth) (λ depth.
+    and_then (line_value l.bits) (λ bits. and_then (type_at (type_or l.tuple_type depth) depth) (λ k.
     Ok (record { width = width; height = height; grey = k.grey; alpha = k.alpha; storage = Numbers bits; start = start }))))))
 
 -- the lines with this type of tuples, whose word ends here
@@ -58,7 +58,7 @@ with_type l None after = Err Channels
 
 -- the lines after one with the type of tuples, which is after position p
 abbrev pub type_from : List ℕ → Lines → ℕ → Result Parsed NetpbmError
-type_from bytes l p = followed (word_from bytes p) (λ w. with_type l (type_of (slice_range bytes w.start w.end)) w.end)
+type_from bytes l p = and_then (word_from bytes p) (λ w. with_type l (type_of (slice_range bytes w.start w.end)) w.end)
 
 -- the lines at the end of the header: the last has no value
 abbrev pub end_from : List ℕ → Lines → ℕ → Result Parsed NetpbmError
@@ -66,10 +66,10 @@ end_from bytes l p = if slice_index bytes p == 10 then Ok (record { lines = l; a
 
 -- the lines after one more, with this keyword, whose value is after position p; a later line replaces an earlier one
 unfoldable pub line_from : List ℕ → Keyword → Lines → ℕ → Result Parsed NetpbmError
-line_from bytes Width l p = followed (side_from bytes p) (λ n. Ok (record { lines = record l { width = Some n.value }; after = n.after; ended = false }))
-line_from bytes Height l p = followed (side_from bytes p) (λ n. Ok (record { lines = record l { height = Some n.value }; after = n.after; ended = false }))
-line_from bytes Depth l p = followed (number_from bytes p) (λ n. Ok (record { lines = record l { depth = Some n.value }; after = n.after; ended = false }))
-line_from bytes Maximum l p = followed (bits_from bytes p) (λ n. Ok (record { lines = record l { bits = Some n.value }; after = n.after; ended = false }))
+line_from bytes Width l p = and_then (side_from bytes p) (λ n. Ok (record { lines = record l { width = Some n.value }; after = n.after; ended = false }))
+line_from bytes Height l p = and_then (side_from bytes p) (λ n. Ok (record { lines = record l { height = Some n.value }; after = n.after; ended = false }))
+line_from bytes Depth l p = and_then (number_from bytes p) (λ n. Ok (record { lines = record l { depth = Some n.value }; after = n.after; ended = false }))
+line_from bytes Maximum l p = and_then (bits_from bytes p) (λ n. Ok (record { lines = record l { bits = Some n.value }; after = n.after; ended = false }))
 line_from bytes TupleType l p = type_from bytes l p
 line_from bytes End l p = end_from bytes l p
 
@@ -79,12 +79,12 @@ line_with bytes None l p = Err InvalidHeader
 
 -- the next line, from position p on
 unfoldable pub next_line : List ℕ → Lines → ℕ → Result Parsed NetpbmError
-next_line bytes l p = followed (word_from bytes p) (λ w. line_with bytes (keyword_of (slice_range bytes w.start w.end)) l w.end)
+next_line bytes l p = and_then (word_from bytes p) (λ w. line_with bytes (keyword_of (slice_range bytes w.start w.end)) l w.end)
 
 -- the header by at most this number of lines, after those before position p
 unfoldable pub lines_from : ℕ → List ℕ → Lines → ℕ → Result Header NetpbmError
 lines_from zero bytes l p = Err InvalidHeader
-lines_from (suc n) bytes l p = followed (next_line bytes l p) (λ s. if s.ended then header_by_lines s.lines (s.after + 1) else lines_from n bytes s.lines s.after)
+lines_from (suc n) bytes l p = and_then (next_line bytes l p) (λ s. if s.ended then header_by_lines s.lines (s.after + 1) else lines_from n bytes s.lines s.after)
 
 -- no lines
 abbrev pub no_lines : Lines

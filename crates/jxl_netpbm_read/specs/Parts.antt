@@ -1,6 +1,6 @@
 -- The numbers in headers of netpbm files (netpbm: PGM, PPM, PAM and PFM formats).
 use Rattle.std.specs.Prelude.{◌≡◌, ℕ, zero, suc, ◌+◌, ◌-◌, ◌^◌, ◌≤◌, ◌==◌, ◌&&◌, nat_le, List, Bool, true, false, if◌then◌else◌, Option, Some, None, Result, Ok, Err}
-use Rattle.jxl_netpbm_read.specs.Words.{followed, number_from}
+use Rattle.jxl_netpbm_read.specs.Words.{and_then, number_from}
 use Rattle.jxl_netpbm_read.specs.declared.error.NetpbmError.{NetpbmError}
 use Rattle.jxl_netpbm_read.specs.declared.error.NetpbmError.TheVariants.{Maximum, Size}
 use Rattle.jxl_netpbm_read.specs.declared.header.Header.{Header}
@@ -25,7 +25,7 @@ abbrev pub as_side : Number → Result Number NetpbmError
 as_side n = if is_side n.value then Ok n else Err Size
 
 unfoldable pub side_from : List ℕ → ℕ → Result Number NetpbmError
-side_from bytes p = followed (number_from bytes p) as_side
+side_from bytes p = and_then (number_from bytes p) as_side
 
 -- the number of bits of samples up to the maximum that the next word from position p on writes
 abbrev pub as_bits : ℕ → Option ℕ → Result Number NetpbmError
@@ -33,7 +33,7 @@ as_bits after (Some bits) = Ok (record { value = bits; after = after })
 as_bits after None = Err Maximum
 
 unfoldable pub bits_from : List ℕ → ℕ → Result Number NetpbmError
-bits_from bytes p = followed (number_from bytes p) (λ n. as_bits n.after (bits_of n.value))
+bits_from bytes p = and_then (number_from bytes p) (λ n. as_bits n.after (bits_of n.value))
 
 -- the number of channels of colours, and of all channels
 abbrev pub colour_count : Bool → ℕ

@@ -6,9 +6,9 @@ use Rattle.jxl_netpbm_read.specs.declared.words.Word.{Word}
 use Rattle.jxl_netpbm_read.specs.declared.words.Number.{Number}
 
 -- what follows the first result, if that is no error
-abbrev pub followed : {A B : Type 0} → Result A NetpbmError → (A → Result B NetpbmError) → Result B NetpbmError
-followed (Ok a) f = f a
-followed (Err e) f = Err e
+abbrev pub and_then : {A B : Type 0} → Result A NetpbmError → (A → Result B NetpbmError) → Result B NetpbmError
+and_then (Ok a) f = f a
+and_then (Err e) f = Err e
 
 -- white space: a space, a tab, or an end of a line or of a page
 abbrev pub is_space : ℕ → Bool
@@ -51,4 +51,4 @@ as_number w None = Err InvalidHeader
 as_number w (Some v) = Ok (record { value = min v (2 ^ 32 - 1); after = w.end })
 
 unfoldable pub number_from : List ℕ → ℕ → Result Number NetpbmError
-number_from bytes p = followed (word_from bytes p) (λ w. as_number w (digits_from 0 (slice_range bytes w.start w.end)))
+number_from bytes p = and_then (word_from bytes p) (λ w. as_number w (digits_from 0 (slice_range bytes w.start w.end)))

@@ -3,7 +3,7 @@
 ghost use Rattle.std.specs.Prelude.{◌≡◌, ◌<◌, ◌≤◌, true, length, IfOk, IfSome};
 ghost use Rattle.std.specs.Str.{bytes_eq};
 ghost use Rattle.jxl_netpbm_read.specs.Parts.{IsHeader};
-ghost use Rattle.jxl_netpbm_read.specs.Pam.{AreLines, end_from, header_by_lines, keyword_of as the_keyword_of, line_from, lines_from, needed as the_needed, next_line as the_next_line, pam_from, type_at as the_type_at, type_from, type_of as the_type_of, type_or as the_type_or};
+ghost use Rattle.jxl_netpbm_read.specs.Pam.{AreLines, end_from, header_by_lines, keyword_of as the_keyword_of, line_from, lines_from, line_value as the_line_value, next_line as the_next_line, pam_from, type_at as the_type_at, type_from, type_of as the_type_of, type_or as the_type_or};
 
 use crate::error::NetpbmError;
 use crate::header::{Header, Storage, channel_count};
@@ -117,8 +117,8 @@ fn type_at(named: TupleType, depth: u32) -> Result<TupleType, NetpbmError>
     }
 }
 
-fn needed(value: Option<u32>) -> Result<u32, NetpbmError>
-    ensures { result ≡ the_needed value }
+fn line_value(value: Option<u32>) -> Result<u32, NetpbmError>
+    ensures { result ≡ the_line_value value }
 {
     match value {
         Some(value) => Ok(value),
@@ -134,10 +134,10 @@ fn header_by(lines: Lines, start: usize) -> Result<Header, NetpbmError>
     ensures header { IfOk result IsHeader }
     ensures start { IfOk result (λ h. h.start ≡ start) }
 {
-    let width = needed(lines.width)?;
-    let height = needed(lines.height)?;
-    let depth = needed(lines.depth)?;
-    let bits = needed(lines.bits)?;
+    let width = line_value(lines.width)?;
+    let height = line_value(lines.height)?;
+    let depth = line_value(lines.depth)?;
+    let bits = line_value(lines.bits)?;
     let tuples = type_at(type_or(lines.tuple_type, depth), depth)?;
     Ok(Header {
         width,

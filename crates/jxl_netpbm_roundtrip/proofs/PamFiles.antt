@@ -6,10 +6,10 @@ use Rattle.std.proofs.lemmas.List.{get_or-drop}
 use Rattle.jxlm_base.specs.Grid.{Grid}
 use Rattle.jxl_netpbm.specs.Formats.{pam_layers}
 use Rattle.jxl_netpbm.specs.Rasters.{maximum, raster_text}
-use Rattle.jxl_netpbm_read.specs.Files.{IsFileOf, image_by}
+use Rattle.jxl_netpbm_read.specs.Files.{IsNetpbmOf, image_by}
 use Rattle.jxl_netpbm_read.specs.Pam.{header_by_lines, keyword_of, line_from, line_with, lines_from, next_line, no_lines, type_of, with_type}
 use Rattle.jxl_netpbm_read.specs.Parts.{channel_count, is_side}
-use Rattle.jxl_netpbm_read.specs.Words.{followed, gap, word_length}
+use Rattle.jxl_netpbm_read.specs.Words.{and_then, gap, word_length}
 use Rattle.jxl_netpbm_read.specs.declared.error.NetpbmError.{NetpbmError}
 use Rattle.jxl_netpbm_read.specs.declared.error.NetpbmError.TheVariants.{InvalidHeader}
 use Rattle.jxl_netpbm_read.specs.declared.pam.Lines.{Lines}
@@ -34,7 +34,7 @@ line_read : (bytes : List ℕ) (p e t : ℕ) (l m : Lines) (word rest next : Lis
 unfolding next_line
 line_read bytes p e t l m word rest next at is line = record {
   after = line.after;
-  read = ap (λ (r : Result Word NetpbmError). followed r (λ w. line_with bytes (keyword_of (slice_range bytes w.start w.end)) l w.end)) at.read
+  read = ap (λ (r : Result Word NetpbmError). and_then r (λ w. line_with bytes (keyword_of (slice_range bytes w.start w.end)) l w.end)) at.read
       ∙ ap (λ (bs : List ℕ). line_with bytes (keyword_of bs) l (p + 1 + length word)) at.text ∙ ap (λ n. line_with bytes (keyword_of word) l n) (sym is) ∙ line.read;
   next_at = line.next_at;
 }
@@ -46,7 +46,7 @@ width_line bytes p n l rest at side =
     let word = word_read bytes p 10 32 (codes "WIDTH") (decimal n ++ 10 ∷ rest) at refl refl in
     let number = side_read bytes (p + 1 + length (codes "WIDTH")) 32 10 n rest word.next_at after_word side in
     let line : IsReadAs bytes (λ q. line_with bytes (keyword_of (codes "WIDTH")) l (p + 1 + length (codes "WIDTH"))) (λ q. parsed (record l { width = Some n }) q) (10 ∷ rest) =
-    record { after = number.after; read = ap (λ (r : Result Number NetpbmError). followed r (λ v. Ok (parsed (record l { width = Some v.value }) v.after))) number.read; next_at = number.next_at } in
+    record { after = number.after; read = ap (λ (r : Result Number NetpbmError). and_then r (λ v. Ok (parsed (record l { width = Some v.value }) v.after))) number.read; next_at = number.next_at } in
     line_read bytes p (p + 1 + length (codes "WIDTH")) 32 l (record l { width = Some n }) (codes "WIDTH") (decimal n ++ 10 ∷ rest) (10 ∷ rest) word refl line
 
 height_line : (bytes : List ℕ) (p n : ℕ) (l : Lines) (rest : List ℕ) → At bytes p (10 ∷ (codes "HEIGHT" ++ 32 ∷ (decimal n ++ 10 ∷ rest))) → is_side n ≡ true →
@@ -56,7 +56,7 @@ height_line bytes p n l rest at side =
     let word = word_read bytes p 10 32 (codes "HEIGHT") (decimal n ++ 10 ∷ rest) at refl refl in
     let number = side_read bytes (p + 1 + length (codes "HEIGHT")) 32 10 n rest word.next_at after_word side in
     let line : IsReadAs bytes (λ q. line_with bytes (keyword_of (codes "HEIGHT")) l (p + 1 + length (codes "HEIGHT"))) (λ q. parsed (record l { height = Some n }) q) (10 ∷ rest) =
-    record { after = number.after; read = ap (λ (r : Result Number NetpbmError). followed r (λ v. Ok (parsed (record l { height = Some v.value }) v.after))) number.read; next_at = number.next_at } in
+    record { after = number.after; read = ap (λ (r : Result Number NetpbmError). and_then r (λ v. Ok (parsed (record l { height = Some v.value }) v.after))) number.read; next_at = number.next_at } in
     line_read bytes p (p + 1 + length (codes "HEIGHT")) 32 l (record l { height = Some n }) (codes "HEIGHT") (decimal n ++ 10 ∷ rest) (10 ∷ rest) word refl line
 
 depth_line : (bytes : List ℕ) (p n : ℕ) (l : Lines) (rest : List ℕ) → At bytes p (10 ∷ (codes "DEPTH" ++ 32 ∷ (decimal n ++ 10 ∷ rest))) → n < 2 ^ 32 →
@@ -66,7 +66,7 @@ depth_line bytes p n l rest at small =
     let word = word_read bytes p 10 32 (codes "DEPTH") (decimal n ++ 10 ∷ rest) at refl refl in
     let number = number_read bytes (p + 1 + length (codes "DEPTH")) 32 10 n rest word.next_at after_word.gap after_word.space small in
     let line : IsReadAs bytes (λ q. line_with bytes (keyword_of (codes "DEPTH")) l (p + 1 + length (codes "DEPTH"))) (λ q. parsed (record l { depth = Some n }) q) (10 ∷ rest) =
-    record { after = number.after; read = ap (λ (r : Result Number NetpbmError). followed r (λ v. Ok (parsed (record l { depth = Some v.value }) v.after))) number.read; next_at = number.next_at } in
+    record { after = number.after; read = ap (λ (r : Result Number NetpbmError). and_then r (λ v. Ok (parsed (record l { depth = Some v.value }) v.after))) number.read; next_at = number.next_at } in
     line_read bytes p (p + 1 + length (codes "DEPTH")) 32 l (record l { depth = Some n }) (codes "DEPTH") (decimal n ++ 10 ∷ rest) (10 ∷ rest) word refl line
 
 maximum_line : (bytes : List ℕ) (p bits : ℕ) (l : Lines) (rest : List ℕ) → At bytes p (10 ∷ (codes "MAXVAL" ++ 32 ∷ (decimal (maximum bits) ++ 10 ∷ rest))) → 1 ≤ bits → bits ≤ 16 →
@@ -76,7 +76,7 @@ maximum_line bytes p n l rest at low high =
     let word = word_read bytes p 10 32 (codes "MAXVAL") (decimal (maximum n) ++ 10 ∷ rest) at refl refl in
     let number = bits_read bytes (p + 1 + length (codes "MAXVAL")) 32 10 n rest word.next_at after_word low high in
     let line : IsReadAs bytes (λ q. line_with bytes (keyword_of (codes "MAXVAL")) l (p + 1 + length (codes "MAXVAL"))) (λ q. parsed (record l { bits = Some n }) q) (10 ∷ rest) =
-    record { after = number.after; read = ap (λ (r : Result Number NetpbmError). followed r (λ v. Ok (parsed (record l { bits = Some v.value }) v.after))) number.read; next_at = number.next_at } in
+    record { after = number.after; read = ap (λ (r : Result Number NetpbmError). and_then r (λ v. Ok (parsed (record l { bits = Some v.value }) v.after))) number.read; next_at = number.next_at } in
     line_read bytes p (p + 1 + length (codes "MAXVAL")) 32 l (record l { bits = Some n }) (codes "MAXVAL") (decimal (maximum n) ++ 10 ∷ rest) (10 ∷ rest) word refl line
 
 type_line : (bytes : List ℕ) (p : ℕ) (l : Lines) (name rest : List ℕ) (k : Kind) → At bytes p (10 ∷ (codes "TUPLTYPE" ++ 32 ∷ (name ++ 10 ∷ rest))) →
@@ -90,7 +90,7 @@ type_line bytes p l name rest k at one size is =
     let line : IsReadAs bytes (λ q. line_with bytes (keyword_of (codes "TUPLTYPE")) l start) (λ q. parsed (record l { tuple_type = Some k }) q) (10 ∷ rest) =
     record {
       after = start + 1 + length name;
-      read = ap (λ (r : Result Word NetpbmError). followed r (λ w. with_type l (type_of (slice_range bytes w.start w.end)) w.end)) value.read
+      read = ap (λ (r : Result Word NetpbmError). and_then r (λ w. with_type l (type_of (slice_range bytes w.start w.end)) w.end)) value.read
           ∙ ap (λ (bs : List ℕ). with_type l (type_of bs) (start + 1 + length name)) value.text ∙ ap (λ (o : Option Kind). with_type l o (start + 1 + length name)) is;
       next_at = value.next_at;
     } in
@@ -113,18 +113,18 @@ end_line bytes p l rest at =
     let bad : Result Parsed NetpbmError = Err InvalidHeader in
     record {
       after = end;
-      read = ap (λ (r : Result Word NetpbmError). followed r (λ w. line_with bytes (keyword_of (slice_range bytes w.start w.end)) l w.end)) word.read
+      read = ap (λ (r : Result Word NetpbmError). and_then r (λ w. line_with bytes (keyword_of (slice_range bytes w.start w.end)) l w.end)) word.read
           ∙ ap (λ (bs : List ℕ). line_with bytes (keyword_of bs) l end) word.text ∙ ap (λ b. if b == 10 then good else bad) first;
       next_at = word.next_at;
     }
 
 one_line : (bytes : List ℕ) (n p after : ℕ) (l m : Lines) → next_line bytes l p ≡ Ok (parsed m after) → lines_from (suc n) bytes l p ≡ lines_from n bytes m after
 unfolding lines_from
-one_line bytes n p after l m is = ap (λ (r : Result Parsed NetpbmError). followed r (λ s. if s.ended then header_by_lines s.lines (s.after + 1) else lines_from n bytes s.lines s.after)) is
+one_line bytes n p after l m is = ap (λ (r : Result Parsed NetpbmError). and_then r (λ s. if s.ended then header_by_lines s.lines (s.after + 1) else lines_from n bytes s.lines s.after)) is
 
 last_line : (bytes : List ℕ) (n p : ℕ) (l : Lines) (rest : List ℕ) (end : IsEndAt bytes p l rest) → lines_from (suc n) bytes l p ≡ header_by_lines l (end.after + 1)
 unfolding lines_from
-last_line bytes n p l rest end = ap (λ (r : Result Parsed NetpbmError). followed r (λ s. if s.ended then header_by_lines s.lines (s.after + 1) else lines_from n bytes s.lines s.after)) end.read
+last_line bytes n p l rest end = ap (λ (r : Result Parsed NetpbmError). and_then r (λ s. if s.ended then header_by_lines s.lines (s.after + 1) else lines_from n bytes s.lines s.after)) end.read
 
 -- the types of tuples by their names
 abbrev pub name_of : Bool → Bool → List ℕ
@@ -241,7 +241,7 @@ lines_shape a b c d e r =
 pub pam_file : (w h bits start : ℕ) (is_grey has_alpha : Bool) (gs : List (Grid ℤ)) →
     is_side w ≡ true → is_side h ≡ true → 1 ≤ bits → bits ≤ 16 → length gs ≡ channel_count is_grey has_alpha →
     ((k : ℕ) (g : Grid ℤ) → slice_get gs k ≡ Some g → IsChannel (numbers_header w h is_grey has_alpha bits start) g) →
-    IsFileOf (80 ∷ 55 ∷ 10 ∷ (lines_text (decimal w) (decimal h) (decimal (channel_count is_grey has_alpha)) (decimal (maximum bits)) (name_of is_grey has_alpha)
+    IsNetpbmOf (80 ∷ 55 ∷ 10 ∷ (lines_text (decimal w) (decimal h) (decimal (channel_count is_grey has_alpha)) (decimal (maximum bits)) (name_of is_grey has_alpha)
     ++ raster_text (maximum bits) (layers_by (maximum bits) gs) w h))
     (image_by (numbers_header w h is_grey has_alpha bits start)) gs
 pam_file w h bits start is_grey has_alpha gs wide high low most count own =
@@ -256,10 +256,10 @@ pam_file w h bits start is_grey has_alpha gs wide high low most count own =
     record {
       header = numbers_header w h is_grey has_alpha bits read.after;
       is_header = header_by_magic 55 10 rest ∙ read.read;
-      described = refl;
+      image_is = refl;
       long = numbers_long text w h bits read.after start is_grey has_alpha gs low most read.next_at count;
       count = count;
-      held = numbers_held text w h bits read.after start is_grey has_alpha gs low most read.next_at count own;
+      samples = numbers_held text w h bits read.after start is_grey has_alpha gs low most read.next_at count own;
     }
 
 -- the layers of a PAM file are all its channels

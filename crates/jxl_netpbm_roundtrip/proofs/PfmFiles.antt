@@ -10,11 +10,11 @@ use Rattle.std.proofs.lemmas.Nat.{from_le_bytes-to_le_bytes_4}
 use Rattle.std.proofs.lemmas.Option.{get_or_from_slice_get, slice_get_within}
 use Rattle.jxlm_base.specs.Grid.{Grid, at, cell}
 use Rattle.jxl_netpbm.specs.Rasters.{float_pixels, float_rows, float_text}
-use Rattle.jxl_netpbm_read.specs.Files.{IsFileOf, image_by}
+use Rattle.jxl_netpbm_read.specs.Files.{IsNetpbmOf, image_by}
 use Rattle.jxl_netpbm_read.specs.Headers.{float_from, header_after, is_decimal, magic_of, scale_from}
 use Rattle.jxl_netpbm_read.specs.Parts.{colour_count, is_side, side_from}
 use Rattle.jxl_netpbm_read.specs.Samples.{HasSamples, HoldsChannel, little_32, number_in}
-use Rattle.jxl_netpbm_read.specs.Words.{followed}
+use Rattle.jxl_netpbm_read.specs.Words.{and_then}
 use Rattle.jxl_netpbm_read.specs.declared.error.NetpbmError.{NetpbmError}
 use Rattle.jxl_netpbm_read.specs.declared.error.NetpbmError.TheVariants.{InvalidHeader}
 use Rattle.jxl_netpbm_read.specs.declared.header.Header.{Header}
@@ -53,7 +53,7 @@ scale_read bytes p rest at =
     let good : ℕ → Result Scale NetpbmError = λ b. Ok (record { little_endian = (b == 45); after = end }) in
     record {
       after = end;
-      read = ap (λ (r : Result Word NetpbmError). followed r (λ w. scale_of bytes w)) word.read
+      read = ap (λ (r : Result Word NetpbmError). and_then r (λ w. scale_of bytes w)) word.read
           ∙ ap (λ (bs : List ℕ). if is_decimal bs then good (slice_index bytes (p + 1)) else bad) word.text ∙ ap good first;
       next_at = word.next_at;
     }
@@ -68,9 +68,9 @@ float_read bytes p is_grey w h raster at wide high =
     let scale = scale_read bytes height.after raster height.next_at in
     record {
       after = scale.after + 1;
-      read = ap (λ (r : Result Number NetpbmError). followed r (λ a. followed (side_from bytes a.after) (λ b. followed (scale_from bytes b.after) (λ s. float_header a.value b.value is_grey s)))) width.read
-          ∙ ap (λ (r : Result Number NetpbmError). followed r (λ b. followed (scale_from bytes b.after) (λ s. float_header w b.value is_grey s))) height.read
-          ∙ ap (λ (r : Result Scale NetpbmError). followed r (λ s. float_header w h is_grey s)) scale.read;
+      read = ap (λ (r : Result Number NetpbmError). and_then r (λ a. and_then (side_from bytes a.after) (λ b. and_then (scale_from bytes b.after) (λ s. float_header a.value b.value is_grey s)))) width.read
+          ∙ ap (λ (r : Result Number NetpbmError). and_then r (λ b. and_then (scale_from bytes b.after) (λ s. float_header w b.value is_grey s))) height.read
+          ∙ ap (λ (r : Result Scale NetpbmError). and_then r (λ s. float_header w h is_grey s)) scale.read;
       next_at = at_more bytes scale.after (10 ∷ []) raster scale.next_at;
     }
 
@@ -156,7 +156,7 @@ module _ (text : List ℕ) (w h start other : ℕ) (is_grey little : Bool) (gs :
 pub pfm_file : (m w h start : ℕ) (is_grey little : Bool) (gs : List (Grid ℤ)) → ((bytes : List ℕ) → header_after bytes (magic_of m) ≡ float_from bytes is_grey 2) →
     is_side w ≡ true → is_side h ≡ true → length gs ≡ colour_count is_grey →
     ((k : ℕ) (g : Grid ℤ) → slice_get gs k ≡ Some g → IsChannel (floats_header w h is_grey little start) g) →
-    IsFileOf (80 ∷ m ∷ 10 ∷ (((((decimal w ++ 32 ∷ []) ++ decimal h) ++ 10 ∷ []) ++ (scale_word ++ 10 ∷ [])) ++ float_rows gs w h h))
+    IsNetpbmOf (80 ∷ m ∷ 10 ∷ (((((decimal w ++ 32 ∷ []) ++ decimal h) ++ 10 ∷ []) ++ (scale_word ++ 10 ∷ [])) ++ float_rows gs w h h))
     (image_by (floats_header w h is_grey little start)) gs
 pfm_file m w h start is_grey little gs magic wide high count own =
     let raster = float_rows gs w h h in
@@ -168,8 +168,8 @@ pfm_file m w h start is_grey little gs magic wide high count own =
     record {
       header = floats_header w h is_grey true read.after;
       is_header = header_by_magic m 10 rest ∙ magic text ∙ read.read;
-      described = refl;
+      image_is = refl;
       long = floats_long text w h read.after start is_grey little gs read.next_at count;
       count = count;
-      held = floats_held text w h read.after start is_grey little gs read.next_at count own;
+      samples = floats_held text w h read.after start is_grey little gs read.next_at count own;
     }

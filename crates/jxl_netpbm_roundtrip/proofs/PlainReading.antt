@@ -6,7 +6,7 @@ use Rattle.std.proofs.Math.Nat.{pow-le-pow_right}
 use Rattle.std.proofs.lemmas.Bool.{cases_lt}
 use Rattle.jxl_netpbm_read.specs.Headers.{plain_from}
 use Rattle.jxl_netpbm_read.specs.Parts.{as_bits, as_side, bits_from, bits_of, is_side, side_from}
-use Rattle.jxl_netpbm_read.specs.Words.{followed, gap as gap_of, is_space}
+use Rattle.jxl_netpbm_read.specs.Words.{and_then, gap as gap_of, is_space}
 use Rattle.jxl_netpbm_read.specs.declared.error.NetpbmError.{NetpbmError}
 use Rattle.jxl_netpbm_read.specs.declared.error.NetpbmError.TheVariants.{Size}
 use Rattle.jxl_netpbm_read.specs.declared.header.Header.{Header}
@@ -67,7 +67,7 @@ side_read bytes p b t n rest at separates side =
     let good : Result Number NetpbmError = Ok (record { value = n; after = number.after }) in
     let bad : Result Number NetpbmError = Err Size in
     let P : Bool → Type 0 = λ v. (if v then good else bad) ≡ good in
-    record { after = number.after; read = ap (λ (r : Result Number NetpbmError). followed r as_side) number.read ∙ subst P (sym side) refl; next_at = number.next_at }
+    record { after = number.after; read = ap (λ (r : Result Number NetpbmError). and_then r as_side) number.read ∙ subst P (sym side) refl; next_at = number.next_at }
 
 pub bits_read : (bytes : List ℕ) (p b t bits : ℕ) (rest : List ℕ) → At bytes p (b ∷ (decimal (2 ^ bits - 1) ++ t ∷ rest)) → Separates b t → 1 ≤ bits → bits ≤ 16 →
     IsReadAs bytes (λ q. bits_from bytes p) (λ q. record { value = bits; after = q }) (t ∷ rest)
@@ -76,7 +76,7 @@ bits_read bytes p b t bits rest at separates low high =
     let number : IsNumberAt bytes p (2 ^ bits - 1) (t ∷ rest) = number_read bytes p b t (2 ^ bits - 1) rest at separates.gap separates.space (maximum_small bits high) in
     record {
       after = number.after;
-      read = ap (λ (r : Result Number NetpbmError). followed r (λ n. as_bits n.after (bits_of n.value))) number.read ∙ ap (as_bits number.after) (bits_of-maximum bits low high);
+      read = ap (λ (r : Result Number NetpbmError). and_then r (λ n. as_bits n.after (bits_of n.value))) number.read ∙ ap (as_bits number.after) (bits_of-maximum bits low high);
       next_at = number.next_at;
     }
 
@@ -92,9 +92,9 @@ plain_read bytes p is_grey w h bits raster at wide high low few =
     let the_h : Number = record { value = h; after = height.after } in
     record {
       after = depth.after + 1;
-      read = ap (λ (r : Result Number NetpbmError). followed r (λ a. followed (side_from bytes a.after) (λ b. followed (bits_from bytes b.after) (λ n.
+      read = ap (λ (r : Result Number NetpbmError). and_then r (λ a. and_then (side_from bytes a.after) (λ b. and_then (bits_from bytes b.after) (λ n.
           plain_header a.value b.value is_grey n)))) width.read
-          ∙ ap (λ (r : Result Number NetpbmError). followed r (λ b. followed (bits_from bytes b.after) (λ n. plain_header w b.value is_grey n))) height.read
-          ∙ ap (λ (r : Result Number NetpbmError). followed r (λ n. plain_header w h is_grey n)) depth.read;
+          ∙ ap (λ (r : Result Number NetpbmError). and_then r (λ b. and_then (bits_from bytes b.after) (λ n. plain_header w b.value is_grey n))) height.read
+          ∙ ap (λ (r : Result Number NetpbmError). and_then r (λ n. plain_header w h is_grey n)) depth.read;
       next_at = at_more bytes depth.after (10 ∷ []) raster depth.next_at;
     }

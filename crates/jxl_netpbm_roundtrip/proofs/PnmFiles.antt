@@ -5,7 +5,7 @@ use Rattle.std.specs.Fmt.{decimal}
 use Rattle.std.proofs.lemmas.Bool.Decides.{nat_tests}
 use Rattle.jxlm_base.specs.Grid.{Grid}
 use Rattle.jxl_netpbm.specs.Rasters.{maximum, raster_text}
-use Rattle.jxl_netpbm_read.specs.Files.{IsFileOf, image_by}
+use Rattle.jxl_netpbm_read.specs.Files.{IsNetpbmOf, image_by}
 use Rattle.jxl_netpbm_read.specs.Headers.{header_after, header_from, magic_of, plain_from}
 use Rattle.jxl_netpbm_read.specs.Parts.{colour_count, is_side}
 use Rattle.jxl_netpbm_read.specs.declared.error.NetpbmError.{NetpbmError}
@@ -39,7 +39,7 @@ shape a b c r = simp append_assoc refl
 pub pnm_file : (m w h bits start : ℕ) (is_grey : Bool) (gs : List (Grid ℤ)) → ((bytes : List ℕ) → header_after bytes (magic_of m) ≡ plain_from bytes is_grey 2) →
     is_side w ≡ true → is_side h ≡ true → 1 ≤ bits → bits ≤ 16 → length gs ≡ colour_count is_grey →
     ((k : ℕ) (g : Grid ℤ) → slice_get gs k ≡ Some g → IsChannel (numbers_header w h is_grey false bits start) g) →
-    IsFileOf (80 ∷ m ∷ 10 ∷ (((((decimal w ++ 32 ∷ []) ++ decimal h) ++ 10 ∷ []) ++ (decimal (maximum bits) ++ 10 ∷ [])) ++ raster_text (maximum bits) (layers_by (maximum bits) gs) w h))
+    IsNetpbmOf (80 ∷ m ∷ 10 ∷ (((((decimal w ++ 32 ∷ []) ++ decimal h) ++ 10 ∷ []) ++ (decimal (maximum bits) ++ 10 ∷ [])) ++ raster_text (maximum bits) (layers_by (maximum bits) gs) w h))
     (image_by (numbers_header w h is_grey false bits start)) gs
 pnm_file m w h bits start is_grey gs magic wide high low few count own =
     let raster = raster_text (maximum bits) (layers_by (maximum bits) gs) w h in
@@ -51,8 +51,8 @@ pnm_file m w h bits start is_grey gs magic wide high low few count own =
     record {
       header = numbers_header w h is_grey false bits read.after;
       is_header = header_by_magic m 10 rest ∙ magic text ∙ read.read;
-      described = refl;
+      image_is = refl;
       long = numbers_long text w h bits read.after start is_grey false gs low few read.next_at count;
       count = count;
-      held = numbers_held text w h bits read.after start is_grey false gs low few read.next_at count own;
+      samples = numbers_held text w h bits read.after start is_grey false gs low few read.next_at count own;
     }

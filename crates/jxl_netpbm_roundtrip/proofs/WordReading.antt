@@ -10,7 +10,7 @@ use Rattle.std.proofs.lemmas.Fmt.{decimal_is_IsNumeral}
 use Rattle.std.proofs.lemmas.List.{drop-drop, drop_at, take_at}
 use Rattle.std.proofs.lemmas.Str.{digit_value_digit}
 use Rattle.std.proofs.lemmas.Str.Parse.{digit_from_value}
-use Rattle.jxl_netpbm_read.specs.Words.{as_number, digits_from, followed, gap, is_digit, is_space, number_from, word_from, word_length}
+use Rattle.jxl_netpbm_read.specs.Words.{as_number, digits_from, and_then, gap, is_digit, is_space, number_from, word_from, word_length}
 use Rattle.jxl_netpbm_read.specs.declared.error.NetpbmError.{NetpbmError}
 use Rattle.jxl_netpbm_read.specs.declared.error.NetpbmError.TheVariants.{Truncated}
 use Rattle.jxl_netpbm_read.specs.declared.words.Word.{Word}
@@ -110,7 +110,7 @@ number_read bytes p b t n rest at separates space small =
     let the_word : Word = record { start = p + 1; end = end } in
     record {
       after = end;
-      read = ap (λ (r : Result Word NetpbmError). followed r (λ w. as_number w (digits_from 0 (slice_range bytes w.start w.end)))) word.read
+      read = ap (λ (r : Result Word NetpbmError). and_then r (λ w. as_number w (digits_from 0 (slice_range bytes w.start w.end)))) word.read
           ∙ ap (λ (bs : List ℕ). as_number the_word (digits_from 0 bs)) word.text ∙ ap (as_number the_word) value
           ∙ ap (λ k. Ok (record { value = k; after = end })) most;
       next_at = word.next_at;

@@ -7,7 +7,7 @@ use Rattle.jxl_netpbm.specs.Formats.{left_out, pam_head, pfm_head, pnm_head, sui
 use Rattle.jxl_netpbm.specs.Rasters.{Layer, float_rows, maximum, raster_text}
 use Rattle.jxl_netpbm.specs.declared.format.Format.{Format}
 use Rattle.jxl_netpbm.specs.declared.format.Format.TheVariants.{Pgm, Ppm, Pam, Pfm, Text}
-use Rattle.jxl_netpbm_read.specs.Files.{IsFileOf, image_by}
+use Rattle.jxl_netpbm_read.specs.Files.{IsNetpbmOf, image_by}
 use Rattle.jxl_netpbm_read.specs.Parts.{IsStorage, channel_count, is_side}
 use Rattle.jxl_netpbm_read.specs.declared.header.Header.{Header}
 use Rattle.jxl_netpbm_read.specs.declared.header.Storage.{Storage}
@@ -28,26 +28,26 @@ IsRead format w h is_grey has_alpha s start gs =
     is_side w ≡ true → is_side h ≡ true → IsStorage has_alpha s → suits format (image_by (header_with w h is_grey has_alpha s start)) ≡ true →
     left_out format (image_by (header_with w h is_grey has_alpha s start)) ≡ 0 → length gs ≡ channel_count is_grey has_alpha →
     ((k : ℕ) (g : Grid ℤ) → slice_get gs k ≡ Some g → IsChannel (header_with w h is_grey has_alpha s start) g) →
-    IsFileOf (text_of format (image_by (header_with w h is_grey has_alpha s start)) gs) (image_by (header_with w h is_grey has_alpha s start)) gs
+    IsNetpbmOf (text_of format (image_by (header_with w h is_grey has_alpha s start)) gs) (image_by (header_with w h is_grey has_alpha s start)) gs
 
 -- PGM and PPM, of whole numbers
 grey_file : (w h bits start : ℕ) (gs : List (Grid ℤ)) → IsRead Pgm w h true false (Numbers bits) start gs
 grey_file w h bits start gs wide high stored suits out count own =
     let all : take 1 gs ≡ gs = take_all 1 gs (omega (arith, count)) in
     let image = image_by (numbers_header w h true false bits start) in
-    let P : List (Grid ℤ) → Type 0 = λ (xs : List (Grid ℤ)). IsFileOf (pnm_head (80 ∷ 53 ∷ []) image ++ raster_text (maximum bits) (layers_by (maximum bits) xs) w h) image gs in
+    let P : List (Grid ℤ) → Type 0 = λ (xs : List (Grid ℤ)). IsNetpbmOf (pnm_head (80 ∷ 53 ∷ []) image ++ raster_text (maximum bits) (layers_by (maximum bits) xs) w h) image gs in
     subst P (sym all) (pnm_file 53 w h bits start true gs (λ bytes. refl) wide high stored.0 stored.1 count own)
 
 colour_file : (w h bits start : ℕ) (gs : List (Grid ℤ)) → IsRead Ppm w h false false (Numbers bits) start gs
 colour_file w h bits start gs wide high stored suits out count own =
     let all : take 3 gs ≡ gs = take_all 3 gs (omega (arith, count)) in
     let image = image_by (numbers_header w h false false bits start) in
-    let P : List (Grid ℤ) → Type 0 = λ (xs : List (Grid ℤ)). IsFileOf (pnm_head (80 ∷ 54 ∷ []) image ++ raster_text (maximum bits) (layers_by (maximum bits) xs) w h) image gs in
+    let P : List (Grid ℤ) → Type 0 = λ (xs : List (Grid ℤ)). IsNetpbmOf (pnm_head (80 ∷ 54 ∷ []) image ++ raster_text (maximum bits) (layers_by (maximum bits) xs) w h) image gs in
     subst P (sym all) (pnm_file 54 w h bits start false gs (λ bytes. refl) wide high stored.0 stored.1 count own)
 
 pam_any : (w h bits start : ℕ) (is_grey has_alpha : Bool) (gs : List (Grid ℤ)) → is_side w ≡ true → is_side h ≡ true → IsStorage has_alpha (Numbers bits) → length gs ≡ channel_count is_grey has_alpha →
     ((k : ℕ) (g : Grid ℤ) → slice_get gs k ≡ Some g → IsChannel (numbers_header w h is_grey has_alpha bits start) g) →
-    IsFileOf (pam_head (image_by (numbers_header w h is_grey has_alpha bits start)) ++ raster_text (maximum bits) (layers_by (maximum bits) gs) w h) (image_by (numbers_header w h is_grey has_alpha bits start)) gs
+    IsNetpbmOf (pam_head (image_by (numbers_header w h is_grey has_alpha bits start)) ++ raster_text (maximum bits) (layers_by (maximum bits) gs) w h) (image_by (numbers_header w h is_grey has_alpha bits start)) gs
 pam_any w h bits start true true gs wide high stored count own = pam_file w h bits start true true gs wide high stored.0 stored.1 count own
 pam_any w h bits start true false gs wide high stored count own = pam_file w h bits start true false gs wide high stored.0 stored.1 count own
 pam_any w h bits start false true gs wide high stored count own = pam_file w h bits start false true gs wide high stored.0 stored.1 count own
@@ -56,21 +56,21 @@ pam_any w h bits start false false gs wide high stored count own = pam_file w h 
 pam_with : (w h bits start : ℕ) (is_grey has_alpha : Bool) (gs : List (Grid ℤ)) → IsRead Pam w h is_grey has_alpha (Numbers bits) start gs
 pam_with w h bits start is_grey has_alpha gs wide high stored suits out count own =
     let image = image_by (numbers_header w h is_grey has_alpha bits start) in
-    let P : List Layer → Type 0 = λ (ls : List Layer). IsFileOf (pam_head image ++ raster_text (maximum bits) ls w h) image gs in
+    let P : List Layer → Type 0 = λ (ls : List Layer). IsNetpbmOf (pam_head image ++ raster_text (maximum bits) ls w h) image gs in
     subst P (sym (all_layers w h bits start is_grey has_alpha gs count)) (pam_any w h bits start is_grey has_alpha gs wide high stored count own)
 
 grey_floats : (w h start : ℕ) (little : Bool) (gs : List (Grid ℤ)) → IsRead Pfm w h true false (Floats little) start gs
 grey_floats w h start little gs wide high stored suits out count own =
     let all : take 1 gs ≡ gs = take_all 1 gs (omega (arith, count)) in
     let image = image_by (floats_header w h true little start) in
-    let P : List (Grid ℤ) → Type 0 = λ (xs : List (Grid ℤ)). IsFileOf (pfm_head image ++ float_rows xs w h h) image gs in
+    let P : List (Grid ℤ) → Type 0 = λ (xs : List (Grid ℤ)). IsNetpbmOf (pfm_head image ++ float_rows xs w h h) image gs in
     subst P (sym all) (pfm_file 102 w h start true little gs (λ bytes. refl) wide high count own)
 
 colour_floats : (w h start : ℕ) (little : Bool) (gs : List (Grid ℤ)) → IsRead Pfm w h false false (Floats little) start gs
 colour_floats w h start little gs wide high stored suits out count own =
     let all : take 3 gs ≡ gs = take_all 3 gs (omega (arith, count)) in
     let image = image_by (floats_header w h false little start) in
-    let P : List (Grid ℤ) → Type 0 = λ (xs : List (Grid ℤ)). IsFileOf (pfm_head image ++ float_rows xs w h h) image gs in
+    let P : List (Grid ℤ) → Type 0 = λ (xs : List (Grid ℤ)). IsNetpbmOf (pfm_head image ++ float_rows xs w h h) image gs in
     subst P (sym all) (pfm_file 70 w h start false little gs (λ bytes. refl) wide high count own)
 
 by_cases : (format : Format) (w h : ℕ) (is_grey has_alpha : Bool) (s : Storage) (start : ℕ) (gs : List (Grid ℤ)) → format ≢ Text → IsRead format w h is_grey has_alpha s start gs

@@ -4,7 +4,7 @@ use Rattle.jxlm_base.specs.Grid.{Grid, IsFull, cell}
 use Rattle.jxl_netpbm.specs.Formats.{left_out, suits, text_of}
 use Rattle.jxl_netpbm.specs.declared.format.Format.{Format}
 use Rattle.jxl_netpbm.specs.declared.format.Format.TheVariants.{Text}
-use Rattle.jxl_netpbm_read.specs.Files.{IsFileOf, image_by}
+use Rattle.jxl_netpbm_read.specs.Files.{IsNetpbmOf, image_by}
 use Rattle.jxl_netpbm_read.specs.Parts.{IsHeader}
 use Rattle.jxl_netpbm_read.specs.Samples.{IsSample, channels_of, sample_of}
 use Rattle.jxl_netpbm_read.specs.declared.header.Header.{Header}
@@ -20,4 +20,4 @@ pub record IsChannel (h : Header) (g : Grid ℤ) : Type 0 where
 abbrev pub WrittenAreRead : Type 0
 WrittenAreRead = (format : Format) (h : Header) (channels : List (Grid ℤ)) → IsHeader h → format ≢ Text → suits format (image_by h) ≡ true → left_out format (image_by h) ≡ 0 →
     length channels ≡ channels_of h → ((k : ℕ) (g : Grid ℤ) → slice_get channels k ≡ Some g → IsChannel h g) →
-    IsFileOf (text_of format (image_by h) channels) (image_by h) channels
+    IsNetpbmOf (text_of format (image_by h) channels) (image_by h) channels

@@ -1,11 +1,13 @@
 -- Why the output does not get what is asked for, and the line that says so.
 use Rattle.std.specs.Prelude.{◌≡◌, ◌⊎◌, ℕ, List, [], ◌∷◌, ◌++◌, Bool, true, false, MatchBool, Option, Some, None, if◌then◌else◌, length, codes}
 use Rattle.std.specs.Option.{option_map}
+use Rattle.jxl_command.specs.Extras.{path_of}
+use Rattle.jxl_command.specs.declared.extra.Extra.{Extra}
+use Rattle.jxl_command.specs.declared.extra.Extra.TheVariants as extras
 use Rattle.jxldec.specs.Reasons.{file_text}
 use Rattle.jxldec.specs.declared.failures.Failure.{Failure}
 use Rattle.jxldec.specs.declared.failures.Failure.TheVariants as failures
-use Rattle.jxldec.specs.declared.options.Extra.{Extra}
-use Rattle.jxldec.specs.declared.options.Extra.TheVariants as extras
+use Rattle.jxldec.specs.declared.options.Options.{Options}
 
 -- that a file does not have these data
 abbrev pub missing_text : Extra → List ℕ
@@ -51,9 +53,10 @@ abbrev pub IsOfContent : Failure → Type 0
 IsOfContent failures.OutOfMemory = Unit {0}
 IsOfContent failure = IsOfWriting failure
 
--- the name of what fails: of the file or of the output
-abbrev pub subject : List ℕ → List ℕ → Failure → List ℕ
-subject input output failure = if is_of_output failure then output else input
+-- the name of what fails: of where other data are written, of the output, or of the file
+abbrev pub subject : Options → Failure → List ℕ
+subject options (failures.Unsaved extra error) = path_of options.paths extra
+subject options failure = if is_of_output failure then options.output_name.now else options.input.now
 
 -- a line of the program about what has this name
 abbrev pub line_about : List ℕ → List ℕ → List ℕ

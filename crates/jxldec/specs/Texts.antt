@@ -7,6 +7,8 @@ use Rattle.jxl_container.specs.Files.{HasLaterError}
 use Rattle.jxl_container.specs.Metadata.{HasExif, HasXmp}
 use Rattle.jxl_container.specs.declared.error.FileError.{FileError as BoxError}
 use Rattle.jxl_command.specs.Streams.{IsReadWhole}
+use Rattle.jxl_command.specs.declared.extra.Extra.{Extra}
+use Rattle.jxl_command.specs.declared.extra.Extra.TheVariants as extras
 use Rattle.jxl_image_header.specs.Images.{Image, image_of}
 use Rattle.jxl_netpbm.specs.Formats.{suits, text_of, usual}
 use Rattle.jxl_netpbm.specs.Output.{AppendsBeginning}
@@ -21,8 +23,7 @@ use Rattle.jxldec.specs.Failures.{failure_line, is_of_output, subject}
 use Rattle.jxldec.specs.Warnings.{kinds_left_out, warnings}
 use Rattle.jxldec.specs.declared.failures.Failure.{Failure}
 use Rattle.jxldec.specs.declared.failures.Failure.TheVariants as failures
-use Rattle.jxldec.specs.declared.options.Extra.{Extra}
-use Rattle.jxldec.specs.declared.options.Extra.TheVariants as extras
+use Rattle.jxldec.specs.declared.options.Options.{Options}
 use Rattle.jxldec.specs.declared.options.Task.{Task}
 use Rattle.jxldec.specs.declared.options.Task.TheVariants as tasks
 
@@ -145,9 +146,9 @@ pub record IsDone (task : Task) (quiet saved : Bool) (limits : Limits) (asked : 
   pub none : others ≡ [] → (profile && not saved) ≡ false → error ≡ None → Silent
 
 -- What is asked for is not done, by this failure; the output stays as it was, unless it is what fails; standard error gets
--- the line of the failure, about the input or the output.
-pub record IsFailed (task : Task) (limits : Limits) (asked : Option Format) (input output : List ℕ) (left rest held holds : Option (List ℕ)) (Stays : Type 0) (Gets : Option (List ℕ) → Type 0) : Type 0 where
+-- the line of the failure, about what fails.
+pub record IsFailed (options : Options) (left rest held holds : Option (List ℕ)) (Stays : Type 0) (Gets : Option (List ℕ) → Type 0) : Type 0 where
   pub failure : Failure
-  pub why : InputFails task limits asked left rest held holds failure
+  pub why : InputFails options.task options.limits options.format left rest held holds failure
   pub kept : is_of_output failure ≡ false → Stays
-  pub gets : Gets (failure_line (subject input output failure) failure)
+  pub gets : Gets (failure_line (subject options failure) failure)

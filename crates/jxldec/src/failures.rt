@@ -1,10 +1,10 @@
 //! Why the output does not get what is asked for.
 
 ghost use Rattle.std.specs.Prelude.{◌≡◌};
-ghost use Rattle.jxldec.specs.Failures.{IsOfWriting, failure_text, is_of_output, missing_text as the_missing_text};
+ghost use Rattle.jxldec.specs.Failures.{IsOfWriting, failure_text, missing_text as the_missing_text};
 
-use crate::options::Extra;
 use crate::reason::Reason;
+use jxl_command::extra::Extra;
 use jxl_image_header::size::Size;
 use jxl_lossless::{FileError, Limits};
 use std::io::ErrorKind;
@@ -48,17 +48,6 @@ impl Failure {
             Failure::Closed
         } else {
             Failure::Unwritable(error)
-        }
-    }
-
-    /// Whether the failure is one of the output, and not of the file.
-    pub fn is_of_output(self) -> bool
-        ensures { result ≡ is_of_output self }
-    {
-        match self {
-            Failure::Ending | Failure::Unwritable(_) | Failure::Closed | Failure::Unsaved(_, _) =>
-                true,
-            _ => false,
         }
     }
 }

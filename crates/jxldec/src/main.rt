@@ -11,11 +11,13 @@ mod run;
 mod warning;
 
 use crate::failures::Failure;
-use crate::meter::Meter;
-use crate::options::{Extra, Options};
-use crate::run::{Extras, report, run};
+use crate::meter::SectionMeter;
+use crate::options::Options;
+use crate::run::{report, run};
 use jxl_command::end::End;
+use jxl_command::extra::{Extra, Extras};
 use jxl_command::input::InputFile;
+use jxl_command::meter::Meter;
 use jxl_command::output::OutputFile;
 use std::env;
 use std::io::Read;
@@ -25,11 +27,12 @@ use std::process::ExitCode;
 fn carry_out<R: Read>(rt: &HostRuntime, options: Options<'_>, input: &mut R) -> End {
     let alloc = rt.alloc();
     let errors = &mut rt.stderr();
-    let mut meter = Meter::new(rt, options.input, options.quiet);
+    let mut meter = SectionMeter(Meter::new(rt, "jxldec", options.input, options.quiet));
+    let paths = options.paths;
     let mut extras = Extras {
-        profile: OutputFile::new(rt, options.path_of(Extra::Profile)),
-        exif: OutputFile::new(rt, options.path_of(Extra::Exif)),
-        xmp: OutputFile::new(rt, options.path_of(Extra::Xmp)),
+        profile: OutputFile::new(rt, paths.path_of(Extra::Profile)),
+        exif: OutputFile::new(rt, paths.path_of(Extra::Exif)),
+        xmp: OutputFile::new(rt, paths.path_of(Extra::Xmp)),
     };
     match options.output {
         Some(path) => run(

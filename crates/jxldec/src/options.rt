@@ -3,11 +3,12 @@
 ghost use Rattle.std.specs.Prelude.{◌≡◌, ◌≢◌, MatchOption, Some, map};
 ghost use Rattle.std.specs.Option.{option_copied};
 ghost use Rattle.std.specs.Path.{path_extension};
-ghost use Rattle.jxldec.specs.Failures.{failure_line, subject};
+ghost use Rattle.jxldec.specs.Failures.{subject};
 ghost use Rattle.jxldec.specs.Options.{IsNoFormat, IsWordOf, limits_of as the_limits};
 
 use crate::failures::Failure;
 use clap::{Arg, ArgAction, ArgMatches, Command};
+use jxl_command::extra::ExtraPaths;
 use jxl_netpbm::format::Format;
 use jxl_picture::limits::Limits;
 use std::alloc::{AllocError, Global};
@@ -24,17 +25,6 @@ pub enum Task {
     Nothing,
 }
 
-/// Data that a file may have beside its picture.
-#[derive(Clone, Copy)]
-pub enum Extra {
-    /// The ICC profile.
-    Profile,
-    /// The Exif data.
-    Exif,
-    /// The XMP data.
-    Xmp,
-}
-
 /// What is asked for.
 #[derive(Clone, Copy)]
 pub struct Options<'a> {
@@ -46,12 +36,8 @@ pub struct Options<'a> {
     pub output_name: &'a str,
     /// What is written there.
     pub task: Task,
-    /// The path of the profile, if that is asked for.
-    pub icc: Option<&'a str>,
-    /// The path of the Exif data, if these are asked for.
-    pub exif: Option<&'a str>,
-    /// The path of the XMP data, if these are asked for.
-    pub xmp: Option<&'a str>,
+    /// Where the profile, the Exif data and the XMP data are written, those that are asked for.
+    pub paths: ExtraPaths<'a>,
     /// The format of the picture; where there is none, that of its kind.
     pub format: Option<Format>,
     /// How large a picture may be.
@@ -218,10 +204,11 @@ impl<'a> Options<'a> {
     pub fn of(matches: &ArgMatches<'a>) -> Options<'a> {
         let path = matches.get_str("output").unwrap_or("-");
         let output = if path == "-" { None } else { Some(path) };
-        let icc = matches.get_str("icc");
-        let exif = matches.get_str("exif");
-        let xmp = matches.get_str("xmp");
-        let others = icc.is_some() || exif.is_some() || xmp.is_some();
+        let paths = ExtraPaths {
+            icc: matches.get_str("icc"),
+            exif: matches.get_str("exif"),
+            xmp: matches.get_str("xmp"),
+        };
         let name = matches.get_str("format").or(output.and_then(ending));
         Options {
             input: matches.get_str("input").unwrap_or(""),
@@ -230,11 +217,9 @@ impl<'a> Options<'a> {
             task: task_of(
                 matches.get_flag("info"),
                 matches.get_str("output").is_some(),
-                others,
+                paths.has_some(),
             ),
-            icc,
-            exif,
-            xmp,
+            paths,
             format: name.and_then(format_of),
             limits: limits_of(
                 matches.get_one("pixels"),
@@ -245,30 +230,14 @@ impl<'a> Options<'a> {
         }
     }
 
-    /// The path of these data, which is empty if they are not asked for.
-    pub fn path_of(&self, extra: Extra) -> &'a str {
-        let path = match extra {
-            Extra::Profile => self.icc,
-            Extra::Exif => self.exif,
-            Extra::Xmp => self.xmp,
-        };
-        path.unwrap_or("")
-    }
-
     /// The name of what fails: of the file, of the output, or of where other data are written.
     pub fn name_of(&self, failure: Failure) -> &'a str
-        ensures { failure_line result.now failure
-            ≡ failure_line (subject self.now.input.now self.now.output_name.now failure) failure }
+        ensures { result.now ≡ subject self.now failure }
     {
         match failure {
-            Failure::Unsaved(extra, _) => self.path_of(extra),
-            failure => {
-                if failure.is_of_output() {
-                    self.output_name
-                } else {
-                    self.input
-                }
-            }
+            Failure::Unsaved(extra, _) => self.paths.path_of(extra),
+            Failure::Ending | Failure::Unwritable(_) | Failure::Closed => self.output_name,
+            _ => self.input,
         }
     }
 

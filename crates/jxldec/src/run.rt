@@ -20,20 +20,21 @@ ghost use Rattle.jxldec.specs.Texts.{AskedFails, InfoFails, InputFails, IsAsked,
 ghost use Rattle.jxldec.specs.Warnings.{kinds_left_out, warnings};
 
 use crate::failures::Failure;
-use crate::meter::Line;
-use crate::options::{Extra, Options, Task};
+use crate::options::{Options, Task};
 use crate::warning::{LeftOut, warn};
 use jxl_codestream::error::FrontError;
 use jxl_coding::decoder::EntropyDecoder;
 use jxl_command::end::End;
+use jxl_command::extra::{Extra, Extras};
 use jxl_command::input::read_whole;
+use jxl_command::meter::Line;
 use jxl_command::output::{Flush, write_flushed};
 use jxl_container::error::FileError as BoxError;
 use jxl_container::metadata::{find_exif, find_xmp};
 use jxl_image_header::image::ImageHeader;
 use jxl_info::headers::{Headers, HeadersError, is_boxed};
 use jxl_info::text::info_text;
-use jxl_lossless::{FileError, JxlFile, Limits, Picture, Steps};
+use jxl_lossless::{FileError, JxlFile, Limits, Picture, Progress, Steps};
 use jxl_netpbm::format::Format;
 use jxl_netpbm::output::{WriteError, write_whole};
 use std::alloc::Global;
@@ -55,14 +56,6 @@ pub enum Content {
 pub struct Output {
     pub content: Content,
     pub left_out: LeftOut,
-}
-
-/// Where the profile, the Exif data and the XMP data of a file are written, as far as they are asked for.
-#[derive(Drop)]
-pub struct Extras<F> {
-    pub profile: F,
-    pub exif: F,
-    pub xmp: F,
 }
 
 // The format in which a picture is written: the one that is asked for, where it suits the picture, or that of its kind.
@@ -177,7 +170,7 @@ fn output_of(
 
 /// The picture of a file, with the format that is asked for, or that of its kind. If the headers stand and there is no
 /// such format, or the picture is above the limits, no sample is decoded.
-pub fn picture_of_file<P: Line>(
+pub fn picture_of_file<P: Progress + Line>(
     alloc: Global,
     file: &[u8],
     asked: Option<Format>,
@@ -222,7 +215,7 @@ fn nothing_of_file(alloc: Global, file: &[u8], limits: &Limits) -> Result<Output
 }
 
 // What is asked of the file for the output: what its headers tell, its picture, or nothing.
-fn output_asked<P: Line>(
+fn output_asked<P: Progress + Line>(
     alloc: Global,
     file: &[u8],
     options: &Options<'_>,
@@ -287,17 +280,6 @@ struct Metadata<'a> {
     profile: Option<Vec<u8>>,
     exif: Option<&'a [u8]>,
     xmp: Option<&'a [u8]>,
-}
-
-impl Metadata<'_> {
-    fn profile(&self) -> Option<&[u8]>
-        ensures { option_copied result ≡ bytes_if self.now.profile }
-    {
-        match &self.profile {
-            Some(profile) => Some(profile),
-            None => None,
-        }
-    }
 }
 
 // The profile of a file.
@@ -368,17 +350,17 @@ fn metadata_asked<'a>(
     file: &'a [u8],
     options: &Options<'_>,
 ) -> Result<Metadata<'a>, Failure>
-    ensures profile { IfOk result (λ m. IsFound (is_some options.now.icc)
+    ensures profile { IfOk result (λ m. IsFound (is_some options.now.paths.icc)
         (λ bytes. ProfileOfFile options.now.limits file.now (Some bytes)) (bytes_if m.profile)) }
-    ensures exif { IfOk result (λ m. IsFound (is_some options.now.exif) (λ bytes. HasExif file.now (Some bytes))
+    ensures exif { IfOk result (λ m. IsFound (is_some options.now.paths.exif) (λ bytes. HasExif file.now (Some bytes))
         (option_copied m.exif)) }
-    ensures xmp { IfOk result (λ m. IsFound (is_some options.now.xmp) (λ bytes. HasXmp file.now (Some bytes))
+    ensures xmp { IfOk result (λ m. IsFound (is_some options.now.paths.xmp) (λ bytes. HasXmp file.now (Some bytes))
         (option_copied m.xmp)) }
     ensures err { IfErr result (InfoFails options.now.limits file.now) }
 {
-    let profile = profile_if(alloc, file, &options.limits, options.icc.is_some())?;
-    let exif = exif_if(file, options.exif.is_some())?;
-    let xmp = xmp_if(file, options.xmp.is_some())?;
+    let profile = profile_if(alloc, file, &options.limits, options.paths.icc.is_some())?;
+    let exif = exif_if(file, options.paths.exif.is_some())?;
+    let xmp = xmp_if(file, options.paths.xmp.is_some())?;
     Ok(Metadata { profile, exif, xmp })
 }
 
@@ -407,7 +389,11 @@ fn save_all<F: Flush>(extras: &mut Extras<F>, metadata: &Metadata<'_>) -> Result
         (F.contents extras.new.xmp) (F.is_flushed extras.new.xmp) (extras.new.xmp ≡ extras.old.xmp)) }
     ensures err { IfErr result IsOfSaving }
 {
-    save(&mut extras.profile, metadata.profile(), Extra::Profile)?;
+    save(
+        &mut extras.profile,
+        metadata.profile.as_deref(),
+        Extra::Profile,
+    )?;
     save(&mut extras.exif, metadata.exif, Extra::Exif)?;
     save(&mut extras.xmp, metadata.xmp, Extra::Xmp)?;
     Ok(())
@@ -421,7 +407,7 @@ struct Asked<'a> {
 }
 
 // What is asked of the file, before anything is written.
-fn asked_of_file<'a, P: Line>(
+fn asked_of_file<'a, P: Progress + Line>(
     alloc: Global,
     file: &'a [u8],
     options: &Options<'_>,
@@ -431,11 +417,11 @@ fn asked_of_file<'a, P: Line>(
         (content_text a.output.content) (string_bytes a.output.left_out.channels) a.output.left_out.profile) }
     ensures writable { IfOk result (λ a. IsWritable a.output.content) }
     ensures later { IfOk result (λ a. HasLaterError file.now a.output.left_out.later_error) }
-    ensures profile { IfOk result (λ a. IsFound (is_some options.now.icc)
+    ensures profile { IfOk result (λ a. IsFound (is_some options.now.paths.icc)
         (λ bytes. ProfileOfFile options.now.limits file.now (Some bytes)) (bytes_if a.metadata.profile)) }
-    ensures exif { IfOk result (λ a. IsFound (is_some options.now.exif) (λ bytes. HasExif file.now (Some bytes))
+    ensures exif { IfOk result (λ a. IsFound (is_some options.now.paths.exif) (λ bytes. HasExif file.now (Some bytes))
         (option_copied a.metadata.exif)) }
-    ensures xmp { IfOk result (λ a. IsFound (is_some options.now.xmp) (λ bytes. HasXmp file.now (Some bytes))
+    ensures xmp { IfOk result (λ a. IsFound (is_some options.now.paths.xmp) (λ bytes. HasXmp file.now (Some bytes))
         (option_copied a.metadata.xmp)) }
     ensures err { IfErr result (AskedFails options.now.task options.now.limits options.now.format file.now) }
 {
@@ -447,7 +433,7 @@ fn asked_of_file<'a, P: Line>(
 }
 
 // Reads the file, and writes what is asked of it. It returns what the output leaves out.
-fn carry_out<R: Read, W: Flush, F: Flush, P: Line>(
+fn carry_out<R: Read, W: Flush, F: Flush, P: Progress + Line>(
     alloc: Global,
     options: &Options<'_>,
     input: &mut R,
@@ -459,12 +445,12 @@ fn carry_out<R: Read, W: Flush, F: Flush, P: Line>(
         (R.remaining input.old) (R.remaining input.new) (W.contents output.old) (W.contents output.new)
         (string_bytes l.channels) l.profile l.later_error) }
     ensures saved { OnOk result (IsReadWhole (R.remaining input.old) (R.remaining input.new) (λ file.
-        IsSaved (is_some options.now.icc) (λ bytes. ProfileOfFile options.now.limits file (Some bytes))
+        IsSaved (is_some options.now.paths.icc) (λ bytes. ProfileOfFile options.now.limits file (Some bytes))
         (F.contents extras.old.profile) (F.contents extras.new.profile) (F.is_flushed extras.new.profile)
         (extras.new.profile ≡ extras.old.profile)
-        × IsSaved (is_some options.now.exif) (λ bytes. HasExif file (Some bytes)) (F.contents extras.old.exif)
+        × IsSaved (is_some options.now.paths.exif) (λ bytes. HasExif file (Some bytes)) (F.contents extras.old.exif)
         (F.contents extras.new.exif) (F.is_flushed extras.new.exif) (extras.new.exif ≡ extras.old.exif)
-        × IsSaved (is_some options.now.xmp) (λ bytes. HasXmp file (Some bytes)) (F.contents extras.old.xmp)
+        × IsSaved (is_some options.now.paths.xmp) (λ bytes. HasXmp file (Some bytes)) (F.contents extras.old.xmp)
         (F.contents extras.new.xmp) (F.is_flushed extras.new.xmp) (extras.new.xmp ≡ extras.old.xmp))) }
     ensures failed { IfErr result (InputFails options.now.task options.now.limits options.now.format
         (R.remaining input.old) (R.remaining input.new) (W.contents output.old) (W.contents output.new)) }
@@ -525,7 +511,7 @@ fn succeed<E: Write>(errors: &mut E, options: &Options<'_>, left_out: &LeftOut) 
 /// decoded, and the file has all that is asked for; after a failed write the output holds a beginning of its text. With
 /// status 0 `errors` got nothing but the lines that warn of what is left out, and of the error of the boxes after the
 /// codestream; a profile that is saved is not left out. `progress` is called after each section.
-pub fn run<R: Read, W: Flush, F: Flush, E: Write, P: Line>(
+pub fn run<R: Read, W: Flush, F: Flush, E: Write, P: Progress + Line>(
     alloc: Global,
     options: Options<'_>,
     input: &mut R,
@@ -535,27 +521,26 @@ pub fn run<R: Read, W: Flush, F: Flush, E: Write, P: Line>(
     progress: &mut P,
 ) -> End
     ensures status { result.status ≤ 1 }
-    ensures done { result.status ≡ 0 → IsDone options.entry.task options.entry.quiet (is_some options.entry.icc)
+    ensures done { result.status ≡ 0 → IsDone options.entry.task options.entry.quiet (is_some options.entry.paths.icc)
         options.entry.limits options.entry.format options.entry.input.now (R.remaining input.old)
         (R.remaining input.new) (W.contents output.old) (W.contents output.new)
         (IsReported result.reported (E.contents errors.old) (E.contents errors.new)) (errors.new ≡ errors.old) }
     ensures saved { result.status ≡ 0 → IsReadWhole (R.remaining input.old) (R.remaining input.new) (λ file.
-        IsSaved (is_some options.entry.icc) (λ bytes. ProfileOfFile options.entry.limits file (Some bytes))
+        IsSaved (is_some options.entry.paths.icc) (λ bytes. ProfileOfFile options.entry.limits file (Some bytes))
         (F.contents extras.old.profile) (F.contents extras.new.profile) (F.is_flushed extras.new.profile)
         (extras.new.profile ≡ extras.old.profile)
-        × IsSaved (is_some options.entry.exif) (λ bytes. HasExif file (Some bytes)) (F.contents extras.old.exif)
+        × IsSaved (is_some options.entry.paths.exif) (λ bytes. HasExif file (Some bytes)) (F.contents extras.old.exif)
         (F.contents extras.new.exif) (F.is_flushed extras.new.exif) (extras.new.exif ≡ extras.old.exif)
-        × IsSaved (is_some options.entry.xmp) (λ bytes. HasXmp file (Some bytes)) (F.contents extras.old.xmp)
+        × IsSaved (is_some options.entry.paths.xmp) (λ bytes. HasXmp file (Some bytes)) (F.contents extras.old.xmp)
         (F.contents extras.new.xmp) (F.is_flushed extras.new.xmp) (extras.new.xmp ≡ extras.old.xmp)) }
     ensures flushed { result.status ≡ 0 → W.is_flushed output.new }
-    ensures failed { result.status ≡ 1 → IsFailed options.entry.task options.entry.limits options.entry.format
-        options.entry.input.now options.entry.output_name.now (R.remaining input.old) (R.remaining input.new)
+    ensures failed { result.status ≡ 1 → IsFailed options.entry (R.remaining input.old) (R.remaining input.new)
         (W.contents output.old) (W.contents output.new) ((output.new ≡ output.old) × (extras.new ≡ extras.old))
         (λ line. IfSome line (IsReported result.reported (E.contents errors.old) (E.contents errors.new))) }
 {
     match carry_out(alloc, &options, input, output, extras, progress) {
         Ok(left_out) => {
-            let warned = left_out.but_saved(options.icc.is_some());
+            let warned = left_out.but_saved(options.paths.icc.is_some());
             succeed(errors, &options, &warned)
         }
         Err(failure) => report(errors, options.name_of(failure), failure),

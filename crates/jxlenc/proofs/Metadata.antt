@@ -6,6 +6,7 @@ use Rattle.std.specs.Option.{option_map}
 use Rattle.std.proofs.lemmas.Bool.Decides.{nat_tests}
 use Rattle.std.proofs.lemmas.List.{drop-drop, drop-take, length-take}
 use Rattle.std.proofs.Math.Seq.{drop-append_seam}
+use Rattle.jxl_codestream.specs.FrontParts.{bytes_if}
 use Rattle.jxl_container.specs.Boxes.{outside}
 use Rattle.jxl_container.specs.Files.{Follow, fault}
 use Rattle.jxl_container.specs.Metadata.{HasContents, HasExif, HasXmp, first_contents, has_kind}
@@ -134,12 +135,12 @@ module _ (picture : Picture) (boxed : Bool) (file : List ℕ) where
   pub exif_written : (exif xmp : Option (List ℕ)) → IsWrittenFile picture boxed exif xmp file → IfSome exif (λ bytes. HasExif file (Some bytes))
   exif_written None xmp w = tt
   exif_written (Some bytes) xmp w =
-      exif_kept file w.0 (level_of (image_of picture.header)) bytes xmp
-      (in_boxes _ (file ≡ w.0) _ (or_exif (boxed || is_beyond_five (image_of picture.header)) (is_some xmp)) w.2)
+      exif_kept file w.0 (level_of (image_of picture.header) (bytes_if picture.profile)) bytes xmp
+      (in_boxes _ (file ≡ w.0) _ (or_exif (boxed || is_beyond_five (image_of picture.header) (bytes_if picture.profile)) (is_some xmp)) w.2)
 
   -- and the XMP data
   pub xmp_written : (exif xmp : Option (List ℕ)) → IsWrittenFile picture boxed exif xmp file → IfSome xmp (λ bytes. HasXmp file (Some bytes))
   xmp_written exif None w = tt
   xmp_written exif (Some bytes) w =
-      xmp_kept file w.0 (level_of (image_of picture.header)) exif bytes
-      (in_boxes _ (file ≡ w.0) _ (or_xmp (boxed || is_beyond_five (image_of picture.header)) (is_some exif)) w.2)
+      xmp_kept file w.0 (level_of (image_of picture.header) (bytes_if picture.profile)) exif bytes
+      (in_boxes _ (file ≡ w.0) _ (or_xmp (boxed || is_beyond_five (image_of picture.header) (bytes_if picture.profile)) (is_some exif)) w.2)

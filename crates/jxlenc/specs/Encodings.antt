@@ -1,20 +1,34 @@
 -- What the program writes: the file of the picture that its input is.
-use Rattle.std.specs.Prelude.{◌≡◌, ℕ, List, Bool, false, IfSome, MatchBool, Option, Some, None}
+use Rattle.std.specs.Prelude.{◌≡◌, ℕ, List, Bool, false, is_some, IfSome, MatchBool, Option, Some, None}
 use Rattle.std.specs.Io.KnownBytes.{Appends, Consumes, IsAtEnd}
+use Rattle.jxl_codestream.specs.FrontParts.{bytes_if}
 use Rattle.jxl_command.specs.Streams.{IsReadWhole}
+use Rattle.jxl_command.specs.declared.extra.Extras.{Extras}
 use Rattle.jxl_container.specs.Metadata.{HasExif, HasXmp}
+use Rattle.jxl_encode.specs.Codable.{IsCodableProfile}
 use Rattle.jxl_encode.specs.Files.{IsFileOf, IsWrittenFile}
-use Rattle.jxl_image_header.specs.Images.{image_of}
+use Rattle.jxl_encode.specs.Profiles.{image_with_profile}
+use Rattle.jxl_image_header.specs.Images.{Image, image_of}
 use Rattle.jxl_netpbm.specs.Output.{AppendsBeginning}
-use Rattle.jxl_netpbm_read.specs.Files.{IsErrorOf, IsFileOf as IsNetpbmOf}
+use Rattle.jxl_netpbm_read.specs.Files.{IsErrorOf, IsNetpbmOf}
 use Rattle.jxl_picture.specs.declared.picture.Picture.{Picture}
 use Rattle.jxlenc.specs.Failures.{failure_line, is_of_output, subject}
 use Rattle.jxlenc.specs.declared.failures.Failure.{Failure}
 use Rattle.jxlenc.specs.declared.failures.Failure.TheVariants as failures
+use Rattle.jxlenc.specs.declared.options.Options.{Options}
+use Rattle.jxlenc.specs.declared.run.Metadata.{Metadata}
 
--- the input is a netpbm file of this picture, which has no profile
-abbrev pub IsPictureOf : List ℕ → Picture → Type 0
-IsPictureOf input picture = IsNetpbmOf input (image_of picture.header) picture.channels.items × (picture.profile ≡ None)
+-- the header of a picture that gets this profile, if there is one
+abbrev pub image_with : Option (List ℕ) → Image → Image
+image_with (Some icc) image = image_with_profile image
+image_with None image = image
+
+-- The input is a netpbm file of this picture, which has this profile beside it, if there is one.
+pub record IsPictureOf (input : List ℕ) (icc : Option (List ℕ)) (picture : Picture) : Type 0 where
+  pub image : Image
+  pub netpbm : IsNetpbmOf input image picture.channels.items
+  pub header : image_of picture.header ≡ image_with icc image
+  pub profile : bytes_if picture.profile ≡ icc
 
 -- The bytes are a file that is decoded to this picture: in boxes, if they are asked for or needed, with these Exif and XMP data.
 pub record IsEncodingOf (picture : Picture) (boxed : Bool) (exif xmp : Option (List ℕ)) (file : List ℕ) : Type 0 where
@@ -28,30 +42,34 @@ abbrev pub IsGiven : Bool → Option (List ℕ) → Option (List ℕ) → Type 0
 IsGiven wanted left rest Stays given =
     MatchBool wanted ((bytes : List ℕ) × Consumes left rest bytes × IsAtEnd rest × (given ≡ Some bytes)) (Stays × (given ≡ None))
 
+-- The profile, the Exif data and the XMP data that the options name were read, each to its end: left says what a reader has left.
+pub record AreGiven {F : Type 0} (left : F → Option (List ℕ)) (options : Options) (old new : Extras F) (metadata : Metadata) : Type 0 where
+  pub profile : IsGiven (is_some options.paths.icc) (left old.profile) (left new.profile) (new.profile ≡ old.profile) (bytes_if metadata.profile)
+  pub exif : IsGiven (is_some options.paths.exif) (left old.exif) (left new.exif) (new.exif ≡ old.exif) (bytes_if metadata.exif)
+  pub xmp : IsGiven (is_some options.paths.xmp) (left old.xmp) (left new.xmp) (new.xmp ≡ old.xmp) (bytes_if metadata.xmp)
+
 -- The input was read to its end, from left to rest, and so were the data for the file beside its picture; the bytes are the file
 -- of that picture with these data.
-pub record IsMade (boxed : Bool) (left rest : Option (List ℕ)) (Exif Xmp : Option (List ℕ) → Type 0) (file : List ℕ) : Type 0 where
+pub record IsMade (boxed : Bool) (left rest : Option (List ℕ)) (Given : Metadata → Type 0) (file : List ℕ) : Type 0 where
   pub input : List ℕ
   pub picture : Picture
-  pub exif : Option (List ℕ)
-  pub xmp : Option (List ℕ)
+  pub metadata : Metadata
   pub read : Consumes left rest input
   pub ended : IsAtEnd rest
-  pub pictured : IsPictureOf input picture
-  pub exif_given : Exif exif
-  pub xmp_given : Xmp xmp
-  pub encoded : IsEncodingOf picture boxed exif xmp file
+  pub given : Given metadata
+  pub pictured : IsPictureOf input (bytes_if metadata.profile) picture
+  pub encoded : IsEncodingOf picture boxed (bytes_if metadata.exif) (bytes_if metadata.xmp) file
 
 -- Such a file was written: the output, which held `held`, holds it after that.
-pub record IsDone (boxed : Bool) (left rest : Option (List ℕ)) (Exif Xmp : Option (List ℕ) → Type 0) (held holds : Option (List ℕ)) : Type 0 where
+pub record IsDone (boxed : Bool) (left rest : Option (List ℕ)) (Given : Metadata → Type 0) (held holds : Option (List ℕ)) : Type 0 where
   pub file : List ℕ
-  pub made : IsMade boxed left rest Exif Xmp file
+  pub made : IsMade boxed left rest Given file
   pub written : Appends held holds file
 
 -- A beginning of such a file was written.
-pub record IsBegun (boxed : Bool) (left rest : Option (List ℕ)) (Exif Xmp : Option (List ℕ) → Type 0) (held holds : Option (List ℕ)) : Type 0 where
+pub record IsBegun (boxed : Bool) (left rest : Option (List ℕ)) (Given : Metadata → Type 0) (held holds : Option (List ℕ)) : Type 0 where
   pub file : List ℕ
-  pub made : IsMade boxed left rest Exif Xmp file
+  pub made : IsMade boxed left rest Given file
   pub begun : AppendsBeginning held holds file
 
 -- what each failure says of an input whose picture is not encoded
@@ -59,25 +77,31 @@ abbrev pub PictureFails : List ℕ → Failure → Type 0
 PictureFails input (failures.Picture error) = IsErrorOf input error
 PictureFails input failure = ⊥
 
--- what each failure says of the input, from left to rest, before the output is written: the input was read to its end, but where
--- it or other data cannot be read
-abbrev pub MakingFails : Option (List ℕ) → Option (List ℕ) → Failure → Type 0
-MakingFails left rest (failures.Unreadable error) = Unit {0}
-MakingFails left rest (failures.ExtraUnreadable extra error) = Unit {0}
-MakingFails left rest failures.OutOfMemory = Unit {0}
-MakingFails left rest failure = IsReadWhole left rest (λ input. PictureFails input failure)
+-- what each failure says of a profile, if there is one: no file can hold it
+abbrev pub ProfileFails : Option (List ℕ) → Failure → Type 0
+ProfileFails icc failures.ProfileSize = (bytes : List ℕ) × (icc ≡ Some bytes) × ¬ (IsCodableProfile bytes)
+ProfileFails icc failure = ⊥
+
+-- what each failure says of the input, from left to rest, and of the data beside it, before the output is written: each was read
+-- to its end, but where the input or other data cannot be read
+abbrev pub MakingFails : Option (List ℕ) → Option (List ℕ) → (Metadata → Type 0) → Failure → Type 0
+MakingFails left rest Given (failures.Unreadable error) = Unit {0}
+MakingFails left rest Given (failures.ExtraUnreadable extra error) = Unit {0}
+MakingFails left rest Given failures.ProfileSize = (metadata : Metadata) × Given metadata × ProfileFails (bytes_if metadata.profile) failures.ProfileSize
+MakingFails left rest Given failures.OutOfMemory = Unit {0}
+MakingFails left rest Given failure = IsReadWhole left rest (λ input. PictureFails input failure)
 
 -- what each failure says of the input and of the output, which held `held`: a file was made before the output was written, and the
 -- output holds a beginning of that
-abbrev pub InputFails : Bool → Option (List ℕ) → Option (List ℕ) → (Option (List ℕ) → Type 0) → (Option (List ℕ) → Type 0) → Option (List ℕ) → Option (List ℕ) → Failure → Type 0
-InputFails boxed left rest Exif Xmp held holds (failures.Unwritable error) = IsBegun boxed left rest Exif Xmp held holds
-InputFails boxed left rest Exif Xmp held holds failures.Closed = IsBegun boxed left rest Exif Xmp held holds
-InputFails boxed left rest Exif Xmp held holds failure = MakingFails left rest failure
+abbrev pub InputFails : Bool → Option (List ℕ) → Option (List ℕ) → (Metadata → Type 0) → Option (List ℕ) → Option (List ℕ) → Failure → Type 0
+InputFails boxed left rest Given held holds (failures.Unwritable error) = IsBegun boxed left rest Given held holds
+InputFails boxed left rest Given held holds failures.Closed = IsBegun boxed left rest Given held holds
+InputFails boxed left rest Given held holds failure = MakingFails left rest Given failure
 
 -- The picture is not encoded, by this failure; the output stays as it was, unless it is what fails; standard error gets the line of
--- the failure, about the input or the output.
-pub record IsFailed (boxed : Bool) (input output : List ℕ) (left rest : Option (List ℕ)) (Exif Xmp : Option (List ℕ) → Type 0) (held holds : Option (List ℕ)) (Stays : Type 0) (Gets : Option (List ℕ) → Type 0) : Type 0 where
+-- the failure, about what fails.
+pub record IsFailed (options : Options) (left rest : Option (List ℕ)) (Given : Metadata → Type 0) (held holds : Option (List ℕ)) (Stays : Type 0) (Gets : Option (List ℕ) → Type 0) : Type 0 where
   pub failure : Failure
-  pub why : InputFails boxed left rest Exif Xmp held holds failure
+  pub why : InputFails options.boxed left rest Given held holds failure
   pub kept : is_of_output failure ≡ false → Stays
-  pub gets : Gets (failure_line (subject input output failure) failure)
+  pub gets : Gets (failure_line (subject options failure) failure)

@@ -1,10 +1,13 @@
 -- Why the output does not get the encoded picture, and the line that says so.
 use Rattle.std.specs.Prelude.{ℕ, List, ◌++◌, Bool, true, false, Option, Some, None, if◌then◌else◌, codes}
 use Rattle.std.specs.Option.{option_map}
+use Rattle.jxl_command.specs.Extras.{path_of}
+use Rattle.jxl_command.specs.declared.extra.Extra.TheVariants as extras
 use Rattle.jxl_netpbm_read.specs.declared.error.NetpbmError.{NetpbmError}
 use Rattle.jxl_netpbm_read.specs.declared.error.NetpbmError.TheVariants as pictures
 use Rattle.jxlenc.specs.declared.failures.Failure.{Failure}
 use Rattle.jxlenc.specs.declared.failures.Failure.TheVariants as failures
+use Rattle.jxlenc.specs.declared.options.Options.{Options}
 
 -- why a file is read as no picture
 unfoldable pub picture_text : NetpbmError → List ℕ
@@ -24,6 +27,7 @@ unfoldable pub failure_text : Failure → Option (List ℕ)
 failure_text (failures.Unreadable error) = None
 failure_text (failures.Picture error) = Some (picture_text error)
 failure_text (failures.ExtraUnreadable extra error) = None
+failure_text failures.ProfileSize = Some (codes "a profile of 0 bytes or above 268435456")
 failure_text failures.OutOfMemory = Some (codes "out of memory")
 failure_text failures.Terminal = Some (codes "a terminal; -o OUT writes to a file, -o - to standard output")
 failure_text (failures.Unwritable error) = None
@@ -47,9 +51,11 @@ abbrev pub IsOfExtra : Failure → Type 0
 IsOfExtra (failures.ExtraUnreadable extra error) = Unit {0}
 IsOfExtra failure = ⊥
 
--- the name of what fails: of the picture or of the output
-abbrev pub subject : List ℕ → List ℕ → Failure → List ℕ
-subject input output failure = if is_of_output failure then output else input
+-- the name of what fails: of where other data are read, of the output, or of the picture
+abbrev pub subject : Options → Failure → List ℕ
+subject options (failures.ExtraUnreadable extra error) = path_of options.paths extra
+subject options failures.ProfileSize = path_of options.paths extras.Profile
+subject options failure = if is_of_output failure then options.output_name.now else options.input.now
 
 -- a line of the program about what has this name
 abbrev pub line_about : List ℕ → List ℕ → List ℕ

@@ -1,9 +1,9 @@
 //! Why the output does not get the encoded picture.
 
 ghost use Rattle.std.specs.Prelude.{◌≡◌};
-ghost use Rattle.jxlenc.specs.Failures.{IsOfWriting, failure_text, is_of_output, picture_text as the_picture_text};
+ghost use Rattle.jxlenc.specs.Failures.{IsOfWriting, failure_text, picture_text as the_picture_text};
 
-use crate::options::Extra;
+use jxl_command::extra::Extra;
 use jxl_netpbm_read::error::NetpbmError;
 use std::io::ErrorKind;
 use std::{fmt, io};
@@ -17,6 +17,8 @@ pub enum Failure {
     Picture(NetpbmError),
     /// These data cannot be read, for this reason, or it is out of memory for them.
     ExtraUnreadable(Extra, io::Error),
+    /// No file can hold the profile: it is empty, or has more than 2^28 bytes.
+    ProfileSize,
     /// Out of memory for the file.
     OutOfMemory,
     /// The output is a terminal that was not asked for.
@@ -36,16 +38,6 @@ impl Failure {
             Failure::Closed
         } else {
             Failure::Unwritable(error)
-        }
-    }
-
-    /// Whether the failure is one of the output, and not of what is read.
-    pub fn is_of_output(self) -> bool
-        ensures { result ≡ is_of_output self }
-    {
-        match self {
-            Failure::Terminal | Failure::Unwritable(_) | Failure::Closed => true,
-            _ => false,
         }
     }
 }
@@ -78,6 +70,7 @@ impl fmt::Display for Failure {
                 write!(f, "cannot read: {error}")
             }
             Failure::Picture(error) => f.write_str(picture_text(error)),
+            Failure::ProfileSize => f.write_str("a profile of 0 bytes or above 268435456"),
             Failure::OutOfMemory => f.write_str("out of memory"),
             Failure::Terminal => {
                 f.write_str("a terminal; -o OUT writes to a file, -o - to standard output")

@@ -2,14 +2,18 @@
 #![tactic(auto)]
 
 mod failures;
+mod meter;
 mod options;
 mod run;
 
 use crate::failures::Failure;
-use crate::options::{Extra, Options};
-use crate::run::{Extras, report, run};
+use crate::meter::WayMeter;
+use crate::options::Options;
+use crate::run::{report, run};
 use jxl_command::end::End;
+use jxl_command::extra::{Extra, Extras};
 use jxl_command::input::InputFile;
+use jxl_command::meter::Meter;
 use jxl_command::output::OutputFile;
 use std::env;
 use std::io::{IsTerminal, Read};
@@ -19,10 +23,13 @@ use std::process::ExitCode;
 fn carry_out<R: Read>(rt: &HostRuntime, options: Options<'_>, input: &mut R) -> End {
     let alloc = rt.alloc();
     let errors = &mut rt.stderr();
+    let paths = options.paths;
     let mut extras = Extras {
-        exif: InputFile::new(rt, options.path_of(Extra::Exif)),
-        xmp: InputFile::new(rt, options.path_of(Extra::Xmp)),
+        profile: InputFile::new(rt, paths.path_of(Extra::Profile)),
+        exif: InputFile::new(rt, paths.path_of(Extra::Exif)),
+        xmp: InputFile::new(rt, paths.path_of(Extra::Xmp)),
     };
+    let mut meter = WayMeter(Meter::new(rt, "jxlenc", options.input, options.quiet));
     match options.output {
         Some(path) => run(
             alloc,
@@ -31,8 +38,17 @@ fn carry_out<R: Read>(rt: &HostRuntime, options: Options<'_>, input: &mut R) -> 
             &mut extras,
             &mut OutputFile::new(rt, path),
             errors,
+            &mut meter,
         ),
-        None => run(alloc, options, input, &mut extras, &mut rt.stdout(), errors),
+        None => run(
+            alloc,
+            options,
+            input,
+            &mut extras,
+            &mut rt.stdout(),
+            errors,
+            &mut meter,
+        ),
     }
 }
 

@@ -1,22 +1,14 @@
 //! What the program is asked for on its command line.
 
 ghost use Rattle.std.specs.Prelude.{◌≡◌, MatchOption};
-ghost use Rattle.jxlenc.specs.Failures.{failure_line, subject};
+ghost use Rattle.jxlenc.specs.Failures.{subject};
 ghost use Rattle.jxlenc.specs.Options.{IsName, IsNoName};
 
 use crate::failures::Failure;
 use clap::{Arg, ArgAction, ArgMatches, Command};
+use jxl_command::extra::{Extra, ExtraPaths};
 use jxl_encode::effort::Effort;
 use std::alloc::{AllocError, Global};
-
-/// Data that a file may have beside its picture.
-#[derive(Clone, Copy)]
-pub enum Extra {
-    /// The Exif data.
-    Exif,
-    /// The XMP data.
-    Xmp,
-}
 
 /// What is asked for.
 #[derive(Clone, Copy)]
@@ -33,10 +25,10 @@ pub struct Options<'a> {
     pub effort: Effort,
     /// Whether the file has boxes, also if they hold nothing but the picture.
     pub boxed: bool,
-    /// The path of the Exif data, if the file is to have some.
-    pub exif: Option<&'a str>,
-    /// The path of the XMP data, if the file is to have some.
-    pub xmp: Option<&'a str>,
+    /// Where the profile, the Exif data and the XMP data are read, those that the file is to have.
+    pub paths: ExtraPaths<'a>,
+    /// Whether nothing is printed but errors.
+    pub quiet: bool,
 }
 
 fn input(alloc: Global) -> Arg<'static> {
@@ -70,6 +62,12 @@ fn container(alloc: Global) -> Arg<'static> {
         .help("Write boxes, also without metadata")
 }
 
+fn icc(alloc: Global) -> Arg<'static> {
+    Arg::new(alloc, "icc").long("icc").value_name("FILE").help(
+        "An ICC profile for the file, which describes the picture's colours",
+    )
+}
+
 fn exif(alloc: Global) -> Arg<'static> {
     Arg::new(alloc, "exif")
         .long("exif")
@@ -99,6 +97,7 @@ pub fn command<'a>(alloc: Global) -> Result<Command<'a>, AllocError> {
         output(alloc),
         effort(alloc),
         container(alloc),
+        icc(alloc),
         exif(alloc),
         xmp(alloc),
         quiet(alloc),
@@ -138,34 +137,24 @@ impl<'a> Options<'a> {
             output_name: output.unwrap_or("standard output"),
             effort: effort.unwrap_or(Effort::Usual),
             boxed: matches.get_flag("container"),
-            exif: matches.get_str("exif"),
-            xmp: matches.get_str("xmp"),
+            paths: ExtraPaths {
+                icc: matches.get_str("icc"),
+                exif: matches.get_str("exif"),
+                xmp: matches.get_str("xmp"),
+            },
+            quiet: matches.get_flag("quiet"),
         }
-    }
-
-    /// The path of these data, which is empty if the file is to have none.
-    pub fn path_of(&self, extra: Extra) -> &'a str {
-        let path = match extra {
-            Extra::Exif => self.exif,
-            Extra::Xmp => self.xmp,
-        };
-        path.unwrap_or("")
     }
 
     /// The name of what fails: of the picture, of the output, or of where other data are read.
     pub fn name_of(&self, failure: Failure) -> &'a str
-        ensures { failure_line result.now failure
-            ≡ failure_line (subject self.now.input.now self.now.output_name.now failure) failure }
+        ensures { result.now ≡ subject self.now failure }
     {
         match failure {
-            Failure::ExtraUnreadable(extra, _) => self.path_of(extra),
-            failure => {
-                if failure.is_of_output() {
-                    self.output_name
-                } else {
-                    self.input
-                }
-            }
+            Failure::ExtraUnreadable(extra, _) => self.paths.path_of(extra),
+            Failure::ProfileSize => self.paths.path_of(Extra::Profile),
+            Failure::Terminal | Failure::Unwritable(_) | Failure::Closed => self.output_name,
+            _ => self.input,
         }
     }
 }

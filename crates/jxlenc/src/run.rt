@@ -1,44 +1,45 @@
 //! The program over readers and two writers.
 
-ghost use Rattle.std.specs.Prelude.{◌≡◌, ◌≤◌, is_some, IfErr, IfOk, IfSome, IsTrue, OnOk, false};
+ghost use Rattle.std.specs.Prelude.{◌≡◌, ◌≤◌, is_some, IfErr, IfOk, IfSome, IsTrue, None, OnOk, false};
 ghost use Rattle.std.specs.Option.{option_map};
 ghost use Rattle.std.specs.Io.KnownBytes.{Appends};
 ghost use Rattle.jxl_codestream.specs.FrontParts.{bytes_if};
 ghost use Rattle.jxl_command.specs.Streams.{IsReported};
 ghost use Rattle.jxl_encode.specs.Codable.{IsCodable};
 ghost use Rattle.jxl_image_header.specs.Images.{image_of};
+ghost use Rattle.jxl_netpbm_read.specs.Files.{IsNetpbmOf};
 ghost use Rattle.jxl_picture.specs.Pictures.{IsWhole};
-ghost use Rattle.jxlenc.specs.Encodings.{InputFails, IsDone, IsEncodingOf, IsFailed, IsGiven, IsMade, IsPictureOf, MakingFails, PictureFails};
+ghost use Rattle.jxlenc.specs.Encodings.{AreGiven, InputFails, IsDone, IsEncodingOf, IsFailed, IsGiven, IsMade, MakingFails, PictureFails, ProfileFails, image_with};
 ghost use Rattle.jxlenc.specs.Failures.{IsOfExtra, failure_line, is_of_output};
 
 use crate::failures::Failure;
-use crate::options::{Extra, Options};
+use crate::options::Options;
 use jxl_command::end::End;
+use jxl_command::extra::{Extra, Extras};
 use jxl_command::input::read_whole;
+use jxl_command::meter::Line;
 use jxl_command::output::{Flush, write_flushed};
-use jxl_encode::file::encode_with;
+use jxl_encode::codable::is_codable_profile;
+use jxl_encode::file::encode_with_progress;
+use jxl_encode::profile::with_profile;
+use jxl_encode::progress::Progress;
 use jxl_netpbm_read::picture::read_netpbm;
 use jxl_picture::picture::Picture;
 use std::alloc::Global;
 use std::io::{Read, Write};
 
-/// Where the Exif data and the XMP data of the file are read, as far as it is to have them.
+/// What the file is to hold beside the picture's samples.
 #[derive(Drop)]
-pub struct Extras<F> {
-    pub exif: F,
-    pub xmp: F,
-}
-
-// What the file is to hold beside the picture.
-#[derive(Drop)]
-struct Metadata {
-    exif: Option<Vec<u8>>,
-    xmp: Option<Vec<u8>>,
+pub struct Metadata {
+    pub profile: Option<Vec<u8>>,
+    pub exif: Option<Vec<u8>>,
+    pub xmp: Option<Vec<u8>>,
 }
 
 // The picture of an input. Each that is read can be coded.
 fn picture_of_input(alloc: Global, input: &[u8]) -> Result<Picture, Failure>
-    ensures ok { IfOk result (IsPictureOf input.now) }
+    ensures netpbm { IfOk result (λ p. IsNetpbmOf input.now (image_of p.header) p.channels.items) }
+    ensures plain { IfOk result (λ p. p.profile ≡ None) }
     ensures whole { IfOk result (λ p. IsWhole (image_of p.header) p.channels.items) }
     ensures codable { IfOk result IsCodable }
     ensures err { IfErr result (PictureFails input.now) }
@@ -75,94 +76,113 @@ fn metadata_given<F: Read>(
     options: &Options<'_>,
     extras: &mut Extras<F>,
 ) -> Result<Metadata, Failure>
-    ensures exif { IfOk result (λ m. IsGiven (is_some options.now.exif) (F.remaining extras.old.exif)
-        (F.remaining extras.new.exif) (extras.new.exif ≡ extras.old.exif) (bytes_if m.exif)) }
-    ensures xmp { IfOk result (λ m. IsGiven (is_some options.now.xmp) (F.remaining extras.old.xmp)
-        (F.remaining extras.new.xmp) (extras.new.xmp ≡ extras.old.xmp) (bytes_if m.xmp)) }
+    ensures ok { IfOk result (AreGiven F.remaining options.now extras.old extras.new) }
     ensures err { IfErr result IsOfExtra }
 {
-    let exif = extra_if(alloc, &mut extras.exif, options.exif.is_some(), Extra::Exif)?;
-    let xmp = extra_if(alloc, &mut extras.xmp, options.xmp.is_some(), Extra::Xmp)?;
-    Ok(Metadata { exif, xmp })
+    let paths = options.paths;
+    let profile = extra_if(
+        alloc,
+        &mut extras.profile,
+        paths.icc.is_some(),
+        Extra::Profile,
+    )?;
+    let exif = extra_if(alloc, &mut extras.exif, paths.exif.is_some(), Extra::Exif)?;
+    let xmp = extra_if(alloc, &mut extras.xmp, paths.xmp.is_some(), Extra::Xmp)?;
+    Ok(Metadata { profile, exif, xmp })
 }
 
-// The bytes, if there are some.
-fn slice_if(bytes: &Option<Vec<u8>>) -> Option<&[u8]>
-    ensures { option_map (λ s. s.now) result ≡ bytes_if bytes.now }
+// The picture with this profile, if there is one.
+fn picture_with(picture: Picture, profile: Option<Vec<u8>>) -> Result<Picture, Failure>
+    requires plain { picture.profile ≡ None }
+    requires whole { IsWhole (image_of picture.header) picture.channels.items }
+    requires codable { IsCodable picture }
+    ensures header { IfOk result (λ p. image_of p.header
+        ≡ image_with (bytes_if profile) (image_of picture.header)) }
+    ensures channels { IfOk result (λ p. p.channels ≡ picture.channels) }
+    ensures profile { IfOk result (λ p. bytes_if p.profile ≡ bytes_if profile) }
+    ensures whole { IfOk result (λ p. IsWhole (image_of p.header) p.channels.items) }
+    ensures codable { IfOk result IsCodable }
+    ensures err { IfErr result (ProfileFails (bytes_if profile)) }
 {
-    match bytes {
-        Some(bytes) => Some(bytes),
-        None => None,
+    match profile {
+        Some(icc) => {
+            if is_codable_profile(&icc) {
+                Ok(with_profile(picture, icc))
+            } else {
+                Err(Failure::ProfileSize)
+            }
+        }
+        None => Ok(picture),
     }
 }
 
-// The file of a picture, with what it is to hold beside it.
-fn file_of_picture(
+// The file of a picture, with these Exif and XMP data, if there are some.
+fn file_of_picture<P: Progress>(
     alloc: Global,
     picture: &Picture,
     options: &Options<'_>,
-    metadata: &Metadata,
+    exif: &Option<Vec<u8>>,
+    xmp: &Option<Vec<u8>>,
+    progress: &mut P,
 ) -> Result<Vec<u8>, Failure>
     requires whole { IsWhole (image_of picture.now.header) picture.now.channels.items }
     requires codable { IsCodable picture.now }
-    ensures ok { IfOk result (λ v. IsEncodingOf picture.now options.now.boxed (bytes_if metadata.now.exif)
-        (bytes_if metadata.now.xmp) v.items) }
+    ensures ok { IfOk result (λ v. IsEncodingOf picture.now options.now.boxed (bytes_if exif.now) (bytes_if xmp.now)
+        v.items) }
     ensures err { IfErr result (λ failure. failure ≡ Failure.OutOfMemory) }
 {
-    let exif = slice_if(&metadata.exif);
-    let xmp = slice_if(&metadata.xmp);
-    match encode_with(alloc, picture, options.effort, options.boxed, exif, xmp) {
+    let (effort, boxed) = (options.effort, options.boxed);
+    let exif = exif.as_deref();
+    let xmp = xmp.as_deref();
+    match encode_with_progress(alloc, picture, effort, boxed, exif, xmp, progress) {
         Ok(file) => Ok(file),
         Err(_) => Err(Failure::OutOfMemory),
     }
 }
 
 // The file that is asked for, before anything is written.
-fn file_asked<R: Read, F: Read>(
+fn file_asked<R: Read, F: Read, P: Progress + Line>(
     alloc: Global,
     options: &Options<'_>,
     input: &mut R,
     extras: &mut Extras<F>,
+    progress: &mut P,
 ) -> Result<Vec<u8>, Failure>
     ensures ok { IfOk result (λ v. IsMade options.now.boxed (R.remaining input.old) (R.remaining input.new)
-        (IsGiven (is_some options.now.exif) (F.remaining extras.old.exif) (F.remaining extras.new.exif)
-        (extras.new.exif ≡ extras.old.exif))
-        (IsGiven (is_some options.now.xmp) (F.remaining extras.old.xmp) (F.remaining extras.new.xmp)
-        (extras.new.xmp ≡ extras.old.xmp)) v.items) }
-    ensures err { IfErr result (MakingFails (R.remaining input.old) (R.remaining input.new)) }
+        (AreGiven F.remaining options.now extras.old extras.new) v.items) }
+    ensures err { IfErr result (MakingFails (R.remaining input.old) (R.remaining input.new)
+        (AreGiven F.remaining options.now extras.old extras.new)) }
 {
     let bytes = match read_whole(alloc, input) {
         Ok(bytes) => bytes,
         Err(error) => return Err(Failure::Unreadable(error)),
     };
     let picture = picture_of_input(alloc, &bytes)?;
-    let metadata = metadata_given(alloc, options, extras)?;
-    let file = file_of_picture(alloc, &picture, options, &metadata)?;
+    let Metadata { profile, exif, xmp } = metadata_given(alloc, options, extras)?;
+    let picture = picture_with(picture, profile)?;
+    let made = file_of_picture(alloc, &picture, options, &exif, &xmp, progress);
+    progress.clear();
+    let file = made?;
     Ok(file)
 }
 
 // Reads the picture, and writes its file.
-fn carry_out<R: Read, F: Read, W: Flush>(
+fn carry_out<R: Read, F: Read, W: Flush, P: Progress + Line>(
     alloc: Global,
     options: &Options<'_>,
     input: &mut R,
     extras: &mut Extras<F>,
     output: &mut W,
+    progress: &mut P,
 ) -> Result<(), Failure>
     ensures done { OnOk result (IsDone options.now.boxed (R.remaining input.old) (R.remaining input.new)
-        (IsGiven (is_some options.now.exif) (F.remaining extras.old.exif) (F.remaining extras.new.exif)
-        (extras.new.exif ≡ extras.old.exif))
-        (IsGiven (is_some options.now.xmp) (F.remaining extras.old.xmp) (F.remaining extras.new.xmp)
-        (extras.new.xmp ≡ extras.old.xmp)) (W.contents output.old) (W.contents output.new)) }
+        (AreGiven F.remaining options.now extras.old extras.new) (W.contents output.old) (W.contents output.new)) }
     ensures failed { IfErr result (InputFails options.now.boxed (R.remaining input.old) (R.remaining input.new)
-        (IsGiven (is_some options.now.exif) (F.remaining extras.old.exif) (F.remaining extras.new.exif)
-        (extras.new.exif ≡ extras.old.exif))
-        (IsGiven (is_some options.now.xmp) (F.remaining extras.old.xmp) (F.remaining extras.new.xmp)
-        (extras.new.xmp ≡ extras.old.xmp)) (W.contents output.old) (W.contents output.new)) }
+        (AreGiven F.remaining options.now extras.old extras.new) (W.contents output.old) (W.contents output.new)) }
     ensures flushed { OnOk result (W.is_flushed output.new) }
     ensures kept { IfErr result (λ failure. is_of_output failure ≡ false → output.new ≡ output.old) }
 {
-    let file = file_asked(alloc, options, input, extras)?;
+    let file = file_asked(alloc, options, input, extras, progress)?;
     match write_flushed(output, &file) {
         Ok(()) => Ok(()),
         Err(error) => Err(Failure::of_write(error)),
@@ -187,36 +207,31 @@ pub fn report<E: Write>(errors: &mut E, name: &str, failure: Failure) -> End
     }
 }
 
-/// Reads a picture in a netpbm format from `input`, and the Exif data and the XMP data from `extras`, those that are
+/// Reads a picture in a netpbm format from `input`, and a profile, Exif data and XMP data from `extras`, those that are
 /// asked for, and writes a JPEG XL file of them to `output`. It returns the status to end with: 0 where `output` got the
 /// whole file, and has passed it on, and `errors` got nothing; else 1, and `errors` got the line of a failure that holds,
 /// unless the output is a pipe that was closed. Nothing is written before the whole file is encoded; after a failed write
-/// the output holds a beginning of the file.
-pub fn run<R: Read, F: Read, W: Flush, E: Write>(
+/// the output holds a beginning of the file. `progress` is called after each way to code the picture that was tried.
+pub fn run<R: Read, F: Read, W: Flush, E: Write, P: Progress + Line>(
     alloc: Global,
     options: Options<'_>,
     input: &mut R,
     extras: &mut Extras<F>,
     output: &mut W,
     errors: &mut E,
+    progress: &mut P,
 ) -> End
     ensures status { result.status ≤ 1 }
     ensures done { result.status ≡ 0 → IsDone options.entry.boxed (R.remaining input.old) (R.remaining input.new)
-        (IsGiven (is_some options.entry.exif) (F.remaining extras.old.exif) (F.remaining extras.new.exif)
-        (extras.new.exif ≡ extras.old.exif))
-        (IsGiven (is_some options.entry.xmp) (F.remaining extras.old.xmp) (F.remaining extras.new.xmp)
-        (extras.new.xmp ≡ extras.old.xmp)) (W.contents output.old) (W.contents output.new) }
+        (AreGiven F.remaining options.entry extras.old extras.new) (W.contents output.old) (W.contents output.new) }
     ensures flushed { result.status ≡ 0 → W.is_flushed output.new }
     ensures silent { result.status ≡ 0 → errors.new ≡ errors.old }
-    ensures failed { result.status ≡ 1 → IsFailed options.entry.boxed options.entry.input.now
-        options.entry.output_name.now (R.remaining input.old) (R.remaining input.new)
-        (IsGiven (is_some options.entry.exif) (F.remaining extras.old.exif) (F.remaining extras.new.exif)
-        (extras.new.exif ≡ extras.old.exif))
-        (IsGiven (is_some options.entry.xmp) (F.remaining extras.old.xmp) (F.remaining extras.new.xmp)
-        (extras.new.xmp ≡ extras.old.xmp)) (W.contents output.old) (W.contents output.new) (output.new ≡ output.old)
+    ensures failed { result.status ≡ 1 → IsFailed options.entry (R.remaining input.old) (R.remaining input.new)
+        (AreGiven F.remaining options.entry extras.old extras.new) (W.contents output.old) (W.contents output.new)
+        (output.new ≡ output.old)
         (λ line. IfSome line (IsReported result.reported (E.contents errors.old) (E.contents errors.new))) }
 {
-    match carry_out(alloc, &options, input, extras, output) {
+    match carry_out(alloc, &options, input, extras, output, progress) {
         Ok(()) => End {
             status: 0,
             reported: false,

@@ -22,4 +22,4 @@ FailsChannel h bytes e = (e ≡ OutOfMemory) ⊎ FailsRow h bytes e
 -- these are the first n channels
 pub record HoldsChannels (h : Header) (bytes : List ℕ) (n : ℕ) (channels : List (Grid ℤ)) : Type 0 where
   pub count : length channels ≡ n
-  pub held : (k : ℕ) (g : Grid ℤ) → slice_get channels k ≡ Some g → HoldsChannel h bytes k g
+  pub samples : (k : ℕ) (g : Grid ℤ) → slice_get channels k ≡ Some g → HoldsChannel h bytes k g

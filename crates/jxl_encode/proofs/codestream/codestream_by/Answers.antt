@@ -1,5 +1,6 @@
 use Rattle.std.proofs.Common.{◌≡◌, ◌∙◌, ◌++◌, List, ℕ, Option, length, map, ap, sym, subst}
 use Rattle.std.specs.Global.{Vec}
+use Rattle.std.specs.Prelude.{◌<◌, ◌^◌, IfSome}
 use Rattle.jxl_codestream.specs.FrontParts.{bytes_if}
 use Rattle.jxl_codestream.specs.LayoutParts.{parts_of}
 use Rattle.jxl_codestream.proofs.Fronts.{layout_is}
@@ -11,6 +12,7 @@ use Rattle.jxl_image_header.specs.Images.{image_of}
 use Rattle.jxl_encode.specs.Files.{IsCodestreamOf}
 use Rattle.jxl_encode.proofs.Given.{few_extra}
 use Rattle.jxl_encode.proofs.Codestreams.{codestream_of}
+use Rattle.jxl_encode.proofs.ProfiledPictures.{few_bytes, some_byte}
 use Rattle.jxl_encode.proofs.codestream.codestream_by.Goals as goal
 
 pub channels_of-requires-clause-few : goal.channels_of-requires-clause-few
@@ -21,6 +23,15 @@ frame_sections-requires-clause-layout c =
     let image = image_of c.args.picture.now.header in
     layout_is image (still_frame image 1) (parts_of c.in-Some.layout) c.in-Some.ensures
 
+-- a profile that a file can hold has a byte, and fewer than 2^30
+pub write_front_with_profile-requires-clause-some : goal.write_front_with_profile-requires-clause-some
+write_front_with_profile-requires-clause-some c =
+    subst (λ (o : Option (List ℕ)). IfSome o (λ icc. 0 < length icc)) (sym c.as_deref-profile.ensures.value) (some_byte (bytes_if c.args.picture.now.profile) c.requires.codable.profile)
+
+pub write_front_with_profile-requires-clause-fits : goal.write_front_with_profile-requires-clause-fits
+write_front_with_profile-requires-clause-fits c =
+    subst (λ (o : Option (List ℕ)). IfSome o (λ icc. length icc < 2 ^ 30)) (sym c.as_deref-profile.ensures.value) (few_bytes (bytes_if c.args.picture.now.profile) c.requires.codable.profile)
+
 pub returns : goal.returns
 returns c =
     let picture = c.args.picture.now in
@@ -30,6 +41,6 @@ returns c =
     let bytes : c.add_sections.new.bytes.items ≡ c.in_ok-bytes.bytes.items ++ joined (map (λ (s : Vec ℕ). s.items) sections) =
     c.in_ok-add_sections.ensures ∙ ap (λ (vs : List (Vec ℕ)). c.in_ok-bytes.bytes.items ++ joined (map (λ (s : Vec ℕ). s.items) vs)) c.deref-4.ensures.value in
     let front : IsProfiledFront (entropy decoder_at) (image_of picture.header) (bytes_if picture.profile) 1 c.deref-3.result.now c.in_ok-bytes.bytes.items =
-    subst (λ (icc : Option (List ℕ)). IsProfiledFront (entropy decoder_at) (image_of picture.header) icc 1 c.deref-3.result.now c.in_ok-bytes.bytes.items) c.profile_of-profile.ensures c.in_ok-bytes.ensures in
+    subst (λ (icc : Option (List ℕ)). IsProfiledFront (entropy decoder_at) (image_of picture.header) icc 1 c.deref-3.result.now c.in_ok-bytes.bytes.items) c.as_deref-profile.ensures.value c.in_ok-bytes.ensures in
     subst (λ (v : List ℕ). IsCodestreamOf picture v) (sym bytes)
     (codestream_of picture c.requires.codable c.deref-3.result.now c.in_ok-bytes.bytes.items front (map (λ (s : Vec ℕ). s.items) sections) sizes c.in-Ok.ensures.ok)

@@ -23,10 +23,10 @@ pub returns-clause-picture : goal.returns-clause-picture
 returns-clause-picture c = record {
   header = c.in_ok-header.header;
   is_header = sym c.in_ok-header.ensures.value;
-  described = c.in_ok-image.ensures.ok;
+  image_is = c.in_ok-image.ensures.ok;
   long = omega (arith, c.in_ok-header.ensures.inside, c.if-file-header.false, c.samples_size.ensures);
   count = c.in_ok-channels.ensures.ok.count;
-  held = c.in_ok-channels.ensures.ok.held;
+  samples = c.in_ok-channels.ensures.ok.samples;
 }
 
 pub returns-clause-upright : goal.returns-clause-upright

@@ -8,7 +8,7 @@ returns-clause-saved g c = record {
   file = c.deref.result.now;
   read = search rules;
   ended = search rules;
-  held = (
+  is = (
     saved _ _ _ _ _ _ _ c.in_ok-asked.ensures.profile c.in_ok-save_all.ensures.profile,
     saved _ _ _ _ _ _ _ c.in_ok-asked.ensures.exif c.in_ok-save_all.ensures.exif,
     saved _ _ _ _ _ _ _ c.in_ok-asked.ensures.xmp c.in_ok-save_all.ensures.xmp,
@@ -22,7 +22,7 @@ returns-in_err-save_all-clause-failed g c =
       file = c.deref.result.now;
       read = search rules;
       ended = search rules;
-      held = record {
+      is = record {
         text = _;
         others = _;
         profile = _;

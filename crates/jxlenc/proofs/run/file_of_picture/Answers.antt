@@ -6,15 +6,15 @@ use Rattle.jxlenc.proofs.Metadata.{exif_written, xmp_written}
 use Rattle.jxlenc.proofs.run.file_of_picture.Goals as goal
 
 pub returns-in-Ok-clause-ok : goal.returns-in-Ok-clause-ok
-returns-in-Ok-clause-ok c =
+returns-in-Ok-clause-ok g c =
     let picture = c.args.picture.now in
     let boxed = c.args.options.now.boxed in
-    let exif = bytes_if c.args.metadata.now.exif in
-    let xmp = bytes_if c.args.metadata.now.xmp in
+    let exif = bytes_if c.args.exif.now in
+    let xmp = bytes_if c.args.xmp.now in
     let file = c.in-Ok.file.items in
     let written : IsWrittenFile picture boxed exif xmp file =
-    subst (λ (e : Option (List ℕ)). IsWrittenFile picture boxed e xmp file) c.slice_if-exif.ensures
-    (subst (λ (x : Option (List ℕ)). IsWrittenFile picture boxed (option_map (λ s. s.now) c.slice_if-exif.result) x file) c.slice_if-xmp.ensures c.in-Ok.ensures.written) in
+    subst (λ (e : Option (List ℕ)). IsWrittenFile picture boxed e xmp file) c.as_deref-exif.ensures.value
+    (subst (λ (x : Option (List ℕ)). IsWrittenFile picture boxed (option_map (λ s. s.now) c.as_deref-exif.result) x file) c.as_deref-xmp.ensures.value c.in-Ok.ensures.written) in
     record {
       decoded = c.in-Ok.ensures.picture;
       written = written;

@@ -1,7 +1,8 @@
-use Rattle.std.proofs.Common.{ℕ, Option, length, ap, sym, subst, ◌∙◌}
-use Rattle.std.specs.Prelude.{◌<◌, ◌^◌, IfSome, is_some}
+use Rattle.std.proofs.Common.{ℕ, Option, ap, sym, subst, ◌∙◌}
+use Rattle.std.specs.Prelude.{IfSome, is_some}
 use Rattle.std.specs.Global.{Vec}
 use Rattle.jxl_codestream.specs.FrontParts.{bytes_if}
+use Rattle.jxl_encode.specs.Codable.{IsCodableProfile}
 use Rattle.jxlenc.proofs.run.picture_of_input.Goals as goal
 
 pub returns-in-Ok-clause-codable : goal.returns-in-Ok-clause-codable
@@ -13,7 +14,6 @@ returns-in-Ok-clause-codable c =
       upright = e.upright;
       wide = e.wide;
       high = e.high;
-      asked = e.plain ∙ sym (ap (λ (o : Option (Vec ℕ)). is_some (bytes_if o)) e.profile);
-      some = subst (λ (o : Option (Vec ℕ)). IfSome (bytes_if o) (λ icc. 0 < length icc)) (sym e.profile) tt;
-      fits = subst (λ (o : Option (Vec ℕ)). IfSome (bytes_if o) (λ icc. length icc < 2 ^ 30)) (sym e.profile) tt;
+      want_icc = e.plain ∙ sym (ap (λ (o : Option (Vec ℕ)). is_some (bytes_if o)) e.profile);
+      profile = subst (λ (o : Option (Vec ℕ)). IfSome (bytes_if o) IsCodableProfile) (sym e.profile) tt;
     }

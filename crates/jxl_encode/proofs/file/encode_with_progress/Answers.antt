@@ -4,10 +4,10 @@ use Rattle.std.specs.Option.{option_map}
 use Rattle.jxl_container.specs.Files.{HasCodestream}
 use Rattle.jxl_container_write.specs.Containers.{HasBoxes, boxes_of}
 use Rattle.jxl_container_write.specs.declared.container.Level.{Level}
-use Rattle.jxl_encode.proofs.file.encode_with.Goals as goal
+use Rattle.jxl_encode.proofs.file.encode_with_progress.Goals as goal
 
 pub returns-clause-picture : goal.returns-clause-picture
-returns-clause-picture c =
+returns-clause-picture g c =
     c.in_ok-codestream.ensures.file c.in_ok-file.file.items
     (subst (λ (bytes : List ℕ). HasCodestream c.in_ok-file.file.items (Ok bytes)) c.deref.ensures.value c.in_ok-file.ensures.codestream)
 
@@ -15,7 +15,7 @@ first_case : (b : Bool) (P Q : Type 0) → b ≡ true → P → MatchBool b P Q
 first_case b P Q is h = subst (λ (v : Bool). MatchBool v P Q) (sym is) h
 
 pub returns-clause-written : goal.returns-clause-written
-returns-clause-written c =
+returns-clause-written g c =
     let boxes = subst (λ (bytes : List ℕ). HasBoxes c.in_ok-file.file.items (boxes_of bytes c.level_of-level.result (option_map (λ s. s.now) c.args.exif) (option_map (λ s. s.now) c.args.xmp))) c.deref.ensures.value
     c.in_ok-file.ensures.boxes in
     let leveled = subst (λ (level : Level). HasBoxes c.in_ok-file.file.items (boxes_of c.in_ok-codestream.codestream.items level (option_map (λ s. s.now) c.args.exif) (option_map (λ s. s.now) c.args.xmp)))
