@@ -9,6 +9,7 @@ use crate::numbers::{MORE, push_number};
 use crate::stream::joined;
 use crate::tags::encode_tags;
 use jxl_icc::decode::decode_profile;
+use jxl_icc::error::ProfileError;
 use jxl_icc::header::HEADER;
 use std::alloc::{AllocError, Global};
 
@@ -38,13 +39,14 @@ fn encode_literally(alloc: Global, icc: &[u8]) -> Result<Vec<u8>, AllocError>
     Ok(encoded)
 }
 
-/// Whether these bytes are decoded to this profile. Out of memory counts as no.
-fn gives(alloc: Global, encoded: &[u8], icc: &[u8]) -> bool
-    ensures { IsTrue result → icc_of (length icc.now) encoded.now ≡ Ok icc.now }
+/// Whether these bytes are decoded to this profile.
+fn gives(alloc: Global, encoded: &[u8], icc: &[u8]) -> Result<bool, AllocError>
+    ensures { IfOk result (λ same. IsTrue same → icc_of (length icc.now) encoded.now ≡ Ok icc.now) }
 {
     match decode_profile(alloc, encoded, icc.len() as u64) {
-        Ok(profile) => profile.as_slice() == icc,
-        Err(_) => false,
+        Ok(profile) => Ok(profile.as_slice() == icc),
+        Err(ProfileError::OutOfMemory) => Err(AllocError),
+        Err(_) => Ok(false),
     }
 }
 
@@ -57,7 +59,7 @@ pub fn encode_profile(alloc: Global, icc: &[u8]) -> Result<Vec<u8>, AllocError>
 {
     let literal = encode_literally(alloc, icc)?;
     if let Some(short) = encode_tags(alloc, icc)? {
-        if short.len() < literal.len() && gives(alloc, &short, icc) {
+        if short.len() < literal.len() && gives(alloc, &short, icc)? {
             return Ok(short);
         }
     }
