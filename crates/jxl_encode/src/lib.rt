@@ -12,4 +12,3 @@ mod frame;
 mod level;
 mod sizes;
 mod trees;
-mod values;
