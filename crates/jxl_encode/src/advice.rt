@@ -58,6 +58,9 @@ const MAX_ERROR: u32 = 15;
 /// The kind of colour transform that is luma and two differences.
 const LUMA: u32 = 6;
 
+/// How much larger the cuts between slopes are at most: deep samples are often as smooth as others.
+const MAX_SLOPE_SCALE: i32 = 8;
+
 /// The cuts, of samples that are larger by this factor.
 fn scaled(alloc: Global, cuts: &[i32], scale: i32) -> Result<Vec<i32>, OutOfMemory> {
     let mut list = Vec::new(alloc);
@@ -99,8 +102,10 @@ fn scaled_axis(
 fn slope_axes(alloc: Global, depth: BitDepth, slopes: usize) -> Result<Vec<Axis>, OutOfMemory> {
     let mut axes = Vec::new(alloc);
     axes.push(Axis::new(alloc, CHANNEL, &CHANNEL_CUTS)?)?;
+    let scale = scale_of(depth).min(MAX_SLOPE_SCALE);
     for slope in SLOPES.iter().take(slopes) {
-        axes.push(scaled_axis(alloc, *slope, &NEAR_CUTS, scale_of(depth))?)?;
+        let axis = scaled_axis(alloc, *slope, &NEAR_CUTS, scale)?;
+        axes.push(axis)?;
     }
     Ok(axes)
 }
@@ -169,21 +174,21 @@ fn care_of(effort: Effort) -> (usize, Care) {
         Effort::Fast => (
             2,
             Care {
-                samples: 1 << 17,
+                samples: 1 << 15,
                 clusters: 8,
             },
         ),
         Effort::Usual => (
             2,
             Care {
-                samples: 1 << 19,
+                samples: 1 << 18,
                 clusters: 16,
             },
         ),
         Effort::Best => (
             3,
             Care {
-                samples: 1 << 21,
+                samples: 1 << 20,
                 clusters: 64,
             },
         ),
