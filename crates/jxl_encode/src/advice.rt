@@ -8,8 +8,11 @@ ghost use Rattle.jxl_image_header.specs.Images.{image_of};
 ghost use Rattle.jxl_lossless.specs.Frames.{channels_given};
 
 use crate::effort::Effort;
-use crate::trees::{Axis, grid_of};
-use crate::values::{Sight, advice_by_values};
+use crate::trees::grid_of;
+use jxl_encode_advice::axis::Axis;
+use jxl_encode_advice::residuals::{Care, scheme_by_residuals};
+use jxl_encode_advice::scheme::Scheme;
+use jxl_encode_advice::values::scheme_by_values;
 use jxl_image_header::channel::BitDepth;
 use jxl_image_header::image::ImageHeader;
 use jxl_picture::picture::{Picture, is_grey};
@@ -32,7 +35,7 @@ pub(crate) struct Advice {
 const MAX_LEAVES: usize = 256;
 
 /// The cuts between differences of two neighbours of eight bits.
-const NEAR_CUTS: [i32; 4] = [-20, -4, 3, 19];
+const NEAR_CUTS: [i32; 6] = [-40, -12, -3, 2, 11, 39];
 
 /// The cuts between true errors of the weighted predictor, of samples of eight bits.
 const ERROR_CUTS: [i32; 33] = [
@@ -41,37 +44,22 @@ const ERROR_CUTS: [i32; 33] = [
 ];
 
 /// The cuts between the colours of a picture, by the number of their channel.
-const CHANNEL_CUTS: [i32; 2] = [0, 1];
+const CHANNEL_CUTS: [i32; 3] = [0, 1, 2];
 
 /// The property that is the number of the channel.
 const CHANNEL: u32 = 0;
 
-/// The property that is the sample to the left less the one above left.
-const WEST_SLOPE: u32 = 10;
-
-/// The property that is the sample above left less the one above.
-const NORTH_SLOPE: u32 = 11;
-
-/// The property that is the sample above less the one above right.
-const EAST_SLOPE: u32 = 12;
+/// The properties that are the slopes from above left to the left and above, and from above right to above.
+const SLOPES: [u32; 3] = [10, 11, 12];
 
 /// The property that is the greatest error of the weighted predictor nearby.
 const MAX_ERROR: u32 = 15;
 
-/// Which tree a picture is coded by.
-#[derive(Clone, Copy)]
-enum Model {
-    /// One leaf.
-    Plain,
-    /// The slopes of the samples nearby.
-    Slopes,
-    /// The errors of the weighted predictor.
-    Errors,
-    /// The errors of the weighted predictor in each channel of colours.
-    ChannelErrors,
-    /// Three slopes of the samples nearby.
-    MoreSlopes,
-}
+/// The kind of colour transform that is luma and two differences.
+const LUMA: u32 = 6;
+
+/// How much larger the cuts between slopes are at most: deep samples are often as smooth as others.
+const MAX_SLOPE_SCALE: i32 = 8;
 
 /// The cuts, of samples that are larger by this factor.
 fn scaled(alloc: Global, cuts: &[i32], scale: i32) -> Result<Vec<i32>, OutOfMemory> {
@@ -110,42 +98,26 @@ fn scaled_axis(
     })
 }
 
-impl Model {
-    /// What its leaves are told apart by.
-    fn axes(self, alloc: Global, scale: i32) -> Result<Vec<Axis>, OutOfMemory> {
-        let mut axes = Vec::new(alloc);
-        match self {
-            Model::Plain => {}
-            Model::Slopes => {
-                axes.push(scaled_axis(alloc, WEST_SLOPE, &NEAR_CUTS, scale)?)?;
-                axes.push(scaled_axis(alloc, NORTH_SLOPE, &NEAR_CUTS, scale)?)?;
-            }
-            Model::Errors => {
-                axes.push(scaled_axis(alloc, MAX_ERROR, &ERROR_CUTS, scale)?)?;
-            }
-            Model::ChannelErrors => {
-                axes.push(scaled_axis(alloc, CHANNEL, &CHANNEL_CUTS, 1)?)?;
-                axes.push(scaled_axis(alloc, MAX_ERROR, &ERROR_CUTS, scale)?)?;
-            }
-            Model::MoreSlopes => {
-                axes.push(scaled_axis(alloc, WEST_SLOPE, &NEAR_CUTS, scale)?)?;
-                axes.push(scaled_axis(alloc, NORTH_SLOPE, &NEAR_CUTS, scale)?)?;
-                axes.push(scaled_axis(alloc, EAST_SLOPE, &NEAR_CUTS, scale)?)?;
-            }
-        }
-        Ok(axes)
+/// The channel, and this number of slopes.
+fn slope_axes(alloc: Global, depth: BitDepth, slopes: usize) -> Result<Vec<Axis>, OutOfMemory> {
+    let mut axes = Vec::new(alloc);
+    axes.push(Axis::new(alloc, CHANNEL, &CHANNEL_CUTS)?)?;
+    let scale = scale_of(depth).min(MAX_SLOPE_SCALE);
+    for slope in SLOPES.iter().take(slopes) {
+        let axis = scaled_axis(alloc, *slope, &NEAR_CUTS, scale)?;
+        axes.push(axis)?;
     }
+    Ok(axes)
+}
 
-    /// The predictor of its leaves.
-    fn predictor(self) -> Predictor {
-        match self {
-            Model::Plain => Predictor::Gradient,
-            Model::Slopes => Predictor::Gradient,
-            Model::MoreSlopes => Predictor::Gradient,
-            Model::Errors => Predictor::SelfCorrecting,
-            Model::ChannelErrors => Predictor::SelfCorrecting,
-        }
+/// The greatest error of the weighted predictor nearby, and the channel, if `channels` says so.
+fn error_axes(alloc: Global, depth: BitDepth, channels: bool) -> Result<Vec<Axis>, OutOfMemory> {
+    let mut axes = Vec::new(alloc);
+    if channels {
+        axes.push(Axis::new(alloc, CHANNEL, &CHANNEL_CUTS)?)?;
     }
+    axes.push(scaled_axis(alloc, MAX_ERROR, &ERROR_CUTS, scale_of(depth))?)?;
+    Ok(axes)
 }
 
 /// A cluster for each leaf.
@@ -161,15 +133,15 @@ fn clusters_of(alloc: Global, nodes: &[EncodeNode]) -> Result<Vec<u8>, OutOfMemo
     Ok(clusters)
 }
 
-/// A way to code a picture of this depth.
-fn advice_by(
+/// A way to code a picture of this depth by the errors of the weighted predictor.
+fn advice_by_errors(
     alloc: Global,
     depth: BitDepth,
-    model: Model,
+    channels: bool,
     colour: Option<u32>,
 ) -> Result<Advice, OutOfMemory> {
-    let axes = model.axes(alloc, scale_of(depth))?;
-    let nodes = grid_of(alloc, &axes, model.predictor())?.nodes;
+    let axes = error_axes(alloc, depth, channels)?;
+    let nodes = grid_of(alloc, &axes, Predictor::SelfCorrecting)?;
     let clusters = clusters_of(alloc, &nodes)?;
     Ok(Advice {
         nodes,
@@ -178,19 +150,75 @@ fn advice_by(
     })
 }
 
-/// The models to try.
-fn models(effort: Effort, floats: bool) -> &'static [Model] {
-    match (effort, floats) {
-        (Effort::Fast, _) => &[Model::Plain, Model::Slopes],
-        (_, true) => &[Model::Plain, Model::Slopes],
-        (Effort::Usual, false) => &[Model::Plain, Model::Slopes, Model::Errors],
-        (Effort::Best, false) => &[
-            Model::Plain,
-            Model::Slopes,
-            Model::Errors,
-            Model::ChannelErrors,
-            Model::MoreSlopes,
-        ],
+/// The cheaper of two ways, the first of which may be absent.
+fn cheaper(
+    best: Option<(Scheme, Option<u32>)>,
+    other: Scheme,
+    colour: Option<u32>,
+) -> Option<(Scheme, Option<u32>)> {
+    match best {
+        Some(old) => {
+            if old.0.cost <= other.cost {
+                Some(old)
+            } else {
+                Some((other, colour))
+            }
+        }
+        None => Some((other, colour)),
+    }
+}
+
+/// By how many slopes samples are told apart, and how much is tried.
+fn care_of(effort: Effort) -> (usize, Care) {
+    match effort {
+        Effort::Fast => (
+            2,
+            Care {
+                samples: 1 << 15,
+                clusters: 8,
+            },
+        ),
+        Effort::Usual => (
+            2,
+            Care {
+                samples: 1 << 18,
+                clusters: 16,
+            },
+        ),
+        Effort::Best => (
+            3,
+            Care {
+                samples: 1 << 20,
+                clusters: 64,
+            },
+        ),
+    }
+}
+
+/// A way to code a picture by what its samples are like.
+fn learnt(
+    alloc: Global,
+    picture: &Picture,
+    effort: Effort,
+    colours: &[Option<u32>],
+) -> Result<Option<Advice>, OutOfMemory> {
+    let (slopes, care) = care_of(effort);
+    let mut best = None;
+    if let Some(scheme) = scheme_by_values(alloc, &picture.channels)? {
+        best = cheaper(best, scheme, None);
+    }
+    for colour in colours {
+        let axes = slope_axes(alloc, picture.header.bit_depth, slopes)?;
+        let scheme = scheme_by_residuals(alloc, &picture.channels, colour.is_some(), axes, care)?;
+        best = cheaper(best, scheme, *colour);
+    }
+    match best {
+        Some((scheme, colour)) => Ok(Some(Advice {
+            nodes: scheme.nodes,
+            clusters: scheme.clusters,
+            colour,
+        })),
+        None => Ok(None),
     }
 }
 
@@ -204,20 +232,22 @@ pub(crate) fn advices_for(
     let depth = header.bit_depth;
     let floats = depth.exp_bits != 0;
     let mut list = Vec::new(alloc);
-    let colour = if is_grey(header) || floats || depth.bits_per_sample > 24 {
-        None
+    let colours: &[Option<u32>] = if is_grey(header) || floats || depth.bits_per_sample > 24 {
+        &[None]
     } else {
-        Some(6)
+        &[None, Some(LUMA)]
     };
-    for model in models(effort, floats) {
-        list.push(advice_by(alloc, depth, *model, colour)?)?;
-        if matches!(effort, Effort::Best) && colour.is_some() {
-            list.push(advice_by(alloc, depth, *model, None)?)?;
-        }
+    if let Some(advice) = learnt(alloc, picture, effort, colours)? {
+        list.push(advice)?;
     }
-    for sight in &[Sight::Narrow, Sight::Wide, Sight::ByChannel] {
-        if let Some(advice) = advice_by_values(alloc, &picture.channels, *sight)? {
-            list.push(advice)?;
+    if floats || matches!(effort, Effort::Fast) {
+        return Ok(list);
+    }
+    let colour = colours.last().copied().unwrap_or(None);
+    list.push(advice_by_errors(alloc, depth, false, colour)?)?;
+    if matches!(effort, Effort::Best) {
+        for colour in colours {
+            list.push(advice_by_errors(alloc, depth, true, *colour)?)?;
         }
     }
     Ok(list)

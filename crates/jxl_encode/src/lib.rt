@@ -14,4 +14,3 @@ pub mod profile;
 pub mod progress;
 mod sizes;
 mod trees;
-mod values;

@@ -1,0 +1,93 @@
+//! Trees that choose a predictor and a code by the slopes of the samples nearby.
+
+use crate::axis::Axis;
+use crate::costs::Prices;
+use crate::near::{Near, PREDICTORS};
+use crate::rows::{Rows, Source};
+use crate::scheme::{Scheme, scheme_of};
+use crate::symbols::{SYMBOLS, symbol_of};
+use crate::table::Table;
+use jxlm_base::grid::{AlignedGrid, OutOfMemory};
+use std::alloc::Global;
+
+/// How much is tried.
+#[derive(Clone, Copy)]
+pub struct Care {
+    /// About how many samples are looked at.
+    pub samples: usize,
+    /// The most clusters of leaves.
+    pub clusters: usize,
+}
+
+/// Counts the residuals of a sample.
+fn add_sample(table: &mut Table, near: Near, sample: i32) {
+    let class = near.class(&table.axes);
+    for kind in 0..table.kinds {
+        let residual = sample.wrapping_sub(near.predicted(kind));
+        table.add(class, kind, symbol_of(residual));
+    }
+}
+
+/// Counts the residuals of a row.
+fn add_row(table: &mut Table, channel: i32, rows: &Rows) {
+    for x in 0..rows.here.len() {
+        let near = Near::of(channel, rows, x);
+        add_sample(table, near, rows.here[x]);
+    }
+}
+
+/// Counts the residuals of a channel, in one row of `step`.
+fn add_channel(
+    table: &mut Table,
+    rows: &mut Rows,
+    source: Source<'_>,
+    channel: usize,
+    step: usize,
+) -> Result<(), OutOfMemory> {
+    let height = match source.channels.get(channel) {
+        Some(grid) => grid.height(),
+        None => 0,
+    };
+    for y in 0..height {
+        if y.wrapping_mul(40503) / 16 % step.max(1) == 0 {
+            rows.go(source, channel, y)?;
+            add_row(table, channel.min(255) as i32, rows);
+        }
+    }
+    Ok(())
+}
+
+/// The number of samples.
+fn samples_in(channels: &[AlignedGrid<i32>]) -> usize {
+    let mut samples: usize = 0;
+    for channel in channels {
+        samples = samples.saturating_add(channel.buf().len());
+    }
+    samples
+}
+
+/// The scheme that is learnt by these axes from a part of the samples of the channels, the first three of which are coded
+/// as luma and two differences if `luma` says so.
+pub fn scheme_by_residuals(
+    alloc: Global,
+    channels: &[AlignedGrid<i32>],
+    luma: bool,
+    axes: Vec<Axis>,
+    care: Care,
+) -> Result<Scheme, OutOfMemory> {
+    let step = (samples_in(channels) / care.samples.max(1)).max(1);
+    let source = Source { channels, luma };
+    let mut table = Table::new(alloc, axes, PREDICTORS.len(), SYMBOLS)?;
+    let mut rows = Rows::new(alloc);
+    for channel in 0..channels.len() {
+        add_channel(&mut table, &mut rows, source, channel, step)?;
+    }
+    let prices = Prices {
+        scale: step as u64,
+        decision: 28,
+        leaf: 25,
+        symbol: 6,
+        other: 0,
+    };
+    scheme_of(alloc, &table, prices, &[], care.clusters)
+}

@@ -1,0 +1,132 @@
+//! A tree with the clusters of its leaves.
+
+use crate::clusters::Clusters;
+use crate::costs::{BIT, Prices};
+use crate::learn::{Learner, Learnt};
+use crate::near::PREDICTORS;
+use crate::symbols::symbol_of;
+use crate::table::{Table, clear, zeros};
+use jxlm_base::grid::OutOfMemory;
+use jxlm_encode_write::tree::EncodeNode;
+use jxlm_predictor::predictor::Predictor;
+use std::alloc::Global;
+
+/// A tree, level by level, with the clusters of its leaves in their order, and what samples cost by it.
+#[derive(Drop)]
+pub struct Scheme {
+    /// Its nodes.
+    pub nodes: Vec<EncodeNode>,
+    /// The clusters of its leaves.
+    pub clusters: Vec<u8>,
+    /// What samples, codes and tree cost, nearly, in bits times 65,536.
+    pub cost: u64,
+}
+
+/// The number of the greatest count.
+fn top_of(counts: &[u32]) -> usize {
+    let mut top: usize = 0;
+    let mut most = 0;
+    for symbol in 0..counts.len() {
+        if counts[symbol] > most {
+            most = counts[symbol];
+            top = symbol;
+        }
+    }
+    top
+}
+
+/// Counts the residuals of samples of these values, of which the counts are given, to one of them.
+fn count_values(residuals: &mut [u32], values: &[i32], counts: &[u32], offset: i32) {
+    clear(residuals);
+    for at in 0..values.len() {
+        let count = counts.get(at).copied().unwrap_or(0);
+        let symbol = symbol_of(values[at].wrapping_sub(offset));
+        if let Some(sum) = residuals.get_mut(symbol) {
+            *sum = sum.saturating_add(count);
+        }
+    }
+}
+
+/// A scheme that is being made of learnt nodes.
+#[derive(Drop)]
+struct Maker<'a> {
+    values: &'a [i32],
+    scheme: Scheme,
+    clusters: Clusters,
+    residuals: Vec<u32>,
+}
+
+impl Maker<'_> {
+    /// Adds a leaf of which samples have these counts.
+    fn add_leaf(&mut self, kind: usize, counts: &[u32]) -> Result<(), OutOfMemory> {
+        let mut predictor = PREDICTORS.get(kind).copied().unwrap_or(Predictor::Zero);
+        let mut offset = 0;
+        if self.values.is_empty() {
+            let cluster = self.clusters.put(counts)?;
+            self.scheme.clusters.push(cluster)?;
+        } else {
+            predictor = Predictor::Zero;
+            offset = self.values.get(top_of(counts)).copied().unwrap_or(0);
+            count_values(&mut self.residuals, self.values, counts, offset);
+            let cluster = self.clusters.put(&self.residuals)?;
+            self.scheme.clusters.push(cluster)?;
+        }
+        self.scheme
+            .nodes
+            .push(EncodeNode::Leaf { predictor, offset })?;
+        Ok(())
+    }
+
+    /// Adds a node.
+    fn add(&mut self, learner: &mut Learner<'_>, node: Learnt) -> Result<(), OutOfMemory> {
+        match node {
+            Learnt::Decision { property, value } => {
+                self.scheme
+                    .nodes
+                    .push(EncodeNode::Decision { property, value })?;
+            }
+            Learnt::Leaf(span) => {
+                let counts = learner.counts(span);
+                self.add_leaf(span.kind, counts)?;
+            }
+        }
+        Ok(())
+    }
+}
+
+/// The scheme that is learnt from this table, of residuals, or of samples of these values, with at
+/// most this number of clusters.
+pub(crate) fn scheme_of(
+    alloc: Global,
+    table: &Table,
+    prices: Prices,
+    values: &[i32],
+    most: usize,
+) -> Result<Scheme, OutOfMemory> {
+    let mut learner = Learner::new(alloc, table, prices)?;
+    let learnt = learner.learn(alloc)?;
+    let mut maker = Maker {
+        values,
+        scheme: Scheme {
+            nodes: Vec::new(alloc),
+            clusters: Vec::new(alloc),
+            cost: 0,
+        },
+        clusters: Clusters::new(alloc, prices.scale, most),
+        residuals: zeros(alloc, 1)?,
+    };
+    for node in &learnt {
+        maker.add(&mut learner, *node)?;
+    }
+    let decisions = learnt.len() as u64 / 2;
+    let tree = decisions
+        .saturating_mul(prices.decision)
+        .saturating_mul(BIT);
+    let Maker {
+        mut scheme,
+        clusters,
+        ..
+    } = maker;
+    scheme.cost = clusters.cost().saturating_add(tree);
+    Ok(scheme)
+}
