@@ -4,6 +4,7 @@ use Rattle.std.specs.Prelude.{nat_lt, is_some}
 use Rattle.std.specs.Int.{w32, leading_zeros}
 use Rattle.std.proofs.lemmas.Bool.{lt-ltb, le-ltb}
 use Rattle.std.proofs.lemmas.Nat.{pow_pos}
+use Rattle.std.proofs.Math.Nat.{pow-le-pow_right}
 use Rattle.jxl_coding_codes.specs.IntegerConfigs.{IsConfig}
 use Rattle.jxl_coding_codes.specs.declared.config.IntegerConfig.{IntegerConfig}
 use Rattle.jxl_coding_write.specs.HybridIntegers.{IsSpelled, long_symbol, symbol_of}
@@ -29,6 +30,20 @@ rest_spelled h valid n token low few least most beyond fits e l =
     spelled h valid n token few least most long beyond fits in
     subst (λ (s : ℕ). IsSpelled h token s (n - (h.msb_in_token + h.lsb_in_token)) (token / low % 2 ^ (n - (h.msb_in_token + h.lsb_in_token)))) (symbol_long h n token beyond e)
     (subst (λ (x : ℕ). IsSpelled h token (long_symbol h n token) (n - (h.msb_in_token + h.lsb_in_token)) (token / x % 2 ^ (n - (h.msb_in_token + h.lsb_in_token)))) (sym l) all)
+
+-- if the symbol has none of the lowest bits
+pub upper_spelled : (h : IntegerConfig) → IsConfig h → (n token : ℕ) → n < 32 → 2 ^ n ≤ token → token < 2 ^ (n + 1) → 2 ^ h.split_exponent ≤ token → n ≡ 31 - leading_zeros w32 token → h.lsb_in_token ≡ 0 →
+    IsSpelled h token (symbol_of h token) (n - h.msb_in_token) (token % 2 ^ (n - h.msb_in_token))
+upper_spelled h valid n token few least most beyond e none =
+    let short : n + 1 ≤ 32 = omega (arith, few) in
+    let top : 2 ^ (n + 1) ≤ 2 ^ 32 = pow-le-pow_right {n = 2} (omega arith) short in
+    let w : n - (h.msb_in_token + h.lsb_in_token) ≡ n - h.msb_in_token = omega (arith, none) in
+    let one : 2 ^ h.lsb_in_token ≡ 1 = ap (λ x. 2 ^ x) none in
+    let d : token / 1 ≡ token = omega arith in
+    let all : IsSpelled h token (symbol_of h token) (n - (h.msb_in_token + h.lsb_in_token)) (token / 1 % 2 ^ (n - (h.msb_in_token + h.lsb_in_token))) =
+    rest_spelled h valid n token 1 few least most beyond (omega (arith, top, most)) e (sym one) in
+    subst (λ (k : ℕ). IsSpelled h token (symbol_of h token) k (token % 2 ^ k)) w
+    (subst (λ (x : ℕ). IsSpelled h token (symbol_of h token) (n - (h.msb_in_token + h.lsb_in_token)) (x % 2 ^ (n - (h.msb_in_token + h.lsb_in_token)))) d all)
 
 -- the bits below the leading one are at least those that the symbol tells
 pub known_below : (h : IntegerConfig) → IsConfig h → (n token : ℕ) → 2 ^ h.split_exponent ≤ token → token < 2 ^ (n + 1) → h.msb_in_token + h.lsb_in_token ≤ n
@@ -107,3 +122,25 @@ module _ (h : IntegerConfig) (valid : IsConfig h) (n token steps : ℕ) (few : n
       let b : token % 2 ^ h.lsb_in_token ≡ token % 1 = ap (λ x. token % x) one in
       let s = symbol_is e in
       omega (arith, a, b, s)
+
+  lead_upper : h.lsb_in_token ≡ 0 → lead_of ≡ token / 2 ^ (n - h.msb_in_token)
+  lead_upper none =
+      let one : 2 ^ h.lsb_in_token ≡ 1 = ap (λ x. 2 ^ x) none in
+      let d : token / 1 ≡ token = omega arith in
+      let w : n - (h.msb_in_token + h.lsb_in_token) ≡ n - h.msb_in_token = omega (arith, none) in
+      ap (λ x. token / x / 2 ^ (n - (h.msb_in_token + h.lsb_in_token))) one
+      ∙ ap (λ x. x / 2 ^ (n - (h.msb_in_token + h.lsb_in_token))) d
+      ∙ ap (λ x. token / 2 ^ x) w
+
+  module _ (none : h.lsb_in_token ≡ 0) (high wide : ℕ) (high_is : high ≡ 2 ^ h.msb_in_token) (wide_is : wide ≡ 2 ^ (n - h.msb_in_token)) where
+    by_powers : (n - h.split_exponent + steps) * high + token / wide ≡ (n - h.split_exponent + steps) * 2 ^ h.msb_in_token + lead_of
+    by_powers =
+        ap (λ x. (n - h.split_exponent + steps) * x + token / wide) high_is
+        ∙ ap (λ x. (n - h.split_exponent + steps) * 2 ^ h.msb_in_token + token / x) wide_is
+        ∙ ap (λ x. (n - h.split_exponent + steps) * 2 ^ h.msb_in_token + x) (sym (lead_upper none))
+
+    pub upper_fits : (n - h.split_exponent + steps) * high + token / wide < 2 ^ 21
+    upper_fits = subst (λ (x : ℕ). x < 2 ^ 21) (sym by_powers) upper_small
+
+    pub upper_symbol : n ≡ 31 - leading_zeros w32 token → (n - h.split_exponent + steps) * high + token / wide ≡ symbol_of h token
+    upper_symbol e = by_powers ∙ symbol_is_upper e none

@@ -30,7 +30,7 @@ pub struct ClusterWriter {
     // Tokens below it are their own symbols, and these are not the only one.
     pub(crate) coded: u32,
     // The symbols of a leading one at the split, in steps of its next bits, less one.
-    steps: u32,
+    pub(crate) steps: u32,
     ghost rule: { IsConfig config },
     ghost is_only: { only ≡ only_from 0 slots.counts.items },
     ghost split_is: { split ≡ 2 ^ config.split_exponent },

@@ -26,8 +26,11 @@ returns-then-is_some-clause-reads c = λ tokens reads.
 pub returns-clause-reads : goal.returns-clause-reads
 returns-clause-reads c = λ tokens reads.
     let l = c.in_ok-first-2.ensures in
-    let m = c.in_ok-before-2.ensures in
+    let m = c.in_ok-before-3.ensures in
     rest_read c.args.self.now c.args.token c.requires.slot c.index-codes-token.result (c.index-codes-token.is ∙ ap (λ xs. get_or xs c.args.token.cluster c.index-codes-token.result) c.requires.codes)
     c.args.after.state (bits_back c.args.after.first c.args.words.now.items)
     l.0 l.1 l.2 (bits_back c.in_ok-first-2.first c.prepend_rest-2.new.words.items) l.3 (sym c.is_some.ensures ∙ c.if-is_some.false)
-    c.long_symbol-symbol.result c.in_ok-before-2.before.state m.0 m.1 c.long_symbol-symbol.ensures m.2 (bits_back c.in_ok-before-2.before.first c.write_symbol-2.new.words.items) m.3 tokens reads
+    c.long_symbol-symbol.result c.in_ok-before-3.before.state m.0 m.1 c.long_symbol-symbol.ensures m.2 (bits_back c.in_ok-before-3.before.first c.write_symbol-2.new.words.items) m.3 tokens reads
+
+pub write_upper-requires-clause-code : goal.write_upper-requires-clause-code
+write_upper-requires-clause-code c = c.index-codes-token.is ∙ ap (λ xs. get_or xs c.args.token.cluster c.index-codes-token.result) c.requires.codes
