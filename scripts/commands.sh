@@ -328,9 +328,9 @@ encode_rows() {
     cp grey.pgm ./-x.pgm
     expect 0 - -o c.jxl -- -x.pgm
     expect 0 - -h
-    begins out 'Encodes a netpbm picture'
+    begins out 'Encodes a PNG or netpbm picture'
     expect 0 - --help
-    begins out 'Encodes a netpbm picture'
+    begins out 'Encodes a PNG or netpbm picture'
     expect 0 - -V
     begins out 'jxlenc '
     expect 0 - --version
@@ -392,6 +392,51 @@ encode_rows() {
     absent d.jxl
     expect 2 'error: ' grey.pgm -o d.jxl --icc
 
+    # PNG files, which python's zlib made: the same pictures as above; of 1 bit; of a palette; and with Exif and XMP data.
+    printf '\211\120\116\107\015\012\032\012\000\000\000\015\111\110\104\122\000\000\000\003\000\000\000\002\010\000\000\000\000\270\037\071\306\000\000\000\020\111\104\101\124\170\332\143\140\144\142\146\140\141\145\003\000\000\106\000\026\237\364\147\360\000\000\000\000\111\105\116\104\256\102\140\202' > grey.png
+    printf '\211\120\116\107\015\012\032\012\000\000\000\015\111\110\104\122\000\000\000\002\000\000\000\001\010\002\000\000\000\173\100\350\335\000\000\000\017\111\104\101\124\170\332\143\140\144\142\146\141\145\003\000\000\077\000\026\230\301\150\023\000\000\000\000\111\105\116\104\256\102\140\202' > rgb.png
+    printf '\211\120\116\107\015\012\032\012\000\000\000\015\111\110\104\122\000\000\000\002\000\000\000\001\020\004\000\000\000\016\273\153\102\000\000\000\021\111\104\101\124\170\332\143\140\144\142\146\141\145\143\347\000\000\000\201\000\045\345\232\117\201\000\000\000\000\111\105\116\104\256\102\140\202' > alpha.png
+    printf '\211\120\116\107\015\012\032\012\000\000\000\015\111\110\104\122\000\000\000\011\000\000\000\002\001\000\000\000\000\242\055\313\176\000\000\000\016\111\104\101\124\170\332\143\330\324\300\340\313\000\000\006\032\001\200\114\177\144\204\000\000\000\000\111\105\116\104\256\102\140\202' > two.png
+    printf '\211\120\116\107\015\012\032\012\000\000\000\015\111\110\104\122\000\000\000\004\000\000\000\001\002\003\000\000\000\204\122\347\136\000\000\000\014\120\114\124\105\001\002\003\004\005\006\007\010\011\012\013\014\334\143\067\254\000\000\000\012\111\104\101\124\170\332\143\220\006\000\000\035\000\034\043\174\217\254\000\000\000\000\111\105\116\104\256\102\140\202' > palette.png
+    printf '\211\120\116\107\015\012\032\012\000\000\000\015\111\110\104\122\000\000\000\003\000\000\000\002\010\000\000\000\000\270\037\071\306\000\000\000\005\145\130\111\146\111\111\052\000\000\377\045\012\142\000\000\000\032\151\124\130\164\130\115\114\072\143\157\155\056\141\144\157\142\145\056\170\155\160\000\000\000\000\000\074\170\057\076\226\247\167\143\000\000\000\020\111\104\101\124\170\332\143\140\144\142\146\140\141\145\003\000\000\106\000\026\237\364\147\360\000\000\000\000\111\105\116\104\256\102\140\202' > data.png
+    printf '\211\120\116\107\015\012\032\012\000\000\000\015\111\110\104\122\000\000\000\004\000\000\000\001\002\003\000\000\000\204\122\347\136\000\000\000\011\120\114\124\105\001\002\003\004\005\006\007\010\011\045\205\126\360\000\000\000\012\111\104\101\124\170\332\143\220\006\000\000\035\000\034\043\174\217\254\000\000\000\000\111\105\116\104\256\102\140\202' > index.png
+    printf '\211\120\116\107\015\012\032\012\000\000\000\015\111\110\104\122\000\000\000\003\000\000\000\002\010\000\000\000\000\270\037\071\306\000\000\000\020\111\104\101\124\170\332\143\140\144\142\146\140\141' > short.png
+    printf '\211\120\116\107\015\012\032\012\000\000\000\015\111\110\104\122\000\000\000\003\000\000\000\002\010\000\000\000\000\270\037\071\306\000\000\000\020\111\104\101\124\170\332\143\140\144\142\146\140\141\145\003\000\000\106\000\026\237\364\147\360\000\000\000\000\111\105\116\104\256\102\140\203' > crc.png
+    printf '\211\120\116\107\015\012\032\012\000\000\000\015\111\110\104\122\000\000\000\003\000\000\000\002\010\000\000\000\000\270\037\071\306\000\000\000\020\111\104\101\124\170\332\143\140\144\142\146\140\141\145\003\000\000\106\000\027\350\363\127\146\000\000\000\000\111\105\116\104\256\102\140\202' > adler.png
+    printf '\211\120\116\107\015\012\032\012\000\000\000\015\111\110\104\122\000\000\000\003\000\000\000\002\010\000\000\000\000\270\037\071\306\000\000\000\017\111\104\101\124\170\332\143\140\144\142\146\140\141\005\000\000\060\000\020\224\102\115\213\000\000\000\000\111\105\116\104\256\102\140\202' > few.png
+    printf '\211\120\116\107\015\012\032\012\000\000\000\015\111\110\104\122\000\020\000\000\000\020\000\000\001\000\000\000\000\143\123\235\150\000\000\000\010\111\104\101\124\170\332\003\000\000\000\000\001\157\335\311\221\000\000\000\000\111\105\116\104\256\102\140\202' > huge.png
+    printf 'P5\n9 2\n1\n\001\000\001\001\000\000\001\000\001\000\001\000\000\001\001\000\001\000' > two.pgm
+    printf 'P6\n4 1\n255\n\001\002\003\004\005\006\007\010\011\012\013\014' > palette.ppm
+    for pair in 'grey pgm' 'rgb ppm' 'alpha pam' 'two pgm' 'palette ppm'; do
+        name=${pair% *}
+        expect 0 - "$name.png" -o c.jxl
+        "$decoder" c.jxl -o "again.${pair#* }" && cmp -s "$name.${pair#* }" "again.${pair#* }"
+        judge $? "the picture of $name.png is another one"
+    done
+    input=grey.png
+    expect 0 - - -o c.jxl
+    cmp -s c.jxl grey.jxl
+    judge $? 'a PNG file on standard input is encoded otherwise than the same picture in PGM'
+    input=/dev/null
+    expect 0 - data.png -o c.jxl
+    rm -f out.exif out.xmp
+    "$decoder" c.jxl --exif out.exif --xmp out.xmp && cmp -s in.exif out.exif && cmp -s in.xmp out.xmp
+    judge $? 'the Exif or XMP data of a PNG file are not kept'
+    printf 'MM' > other.exif
+    expect 0 - data.png --exif other.exif -o c.jxl
+    "$decoder" c.jxl --exif out.exif --xmp out.xmp && cmp -s other.exif out.exif && cmp -s in.xmp out.xmp
+    judge $? '--exif does not replace the Exif data of a PNG file, or the XMP data are not kept'
+    expect 0 - data.png --icc p.icc -o c.jxl
+    "$decoder" c.jxl -o again.pgm --icc out.icc --exif out.exif && cmp -s grey.pgm again.pgm && cmp -s p.icc out.icc && cmp -s in.exif out.exif
+    judge $? 'a PNG file does not get the profile of --icc, or its Exif data are not kept'
+    expect 1 'jxlenc: short.png: truncated' short.png -o d.jxl
+    expect 1 'jxlenc: crc.png: wrong CRC' crc.png -o d.jxl
+    expect 1 'jxlenc: adler.png: wrong checksum' adler.png -o d.jxl
+    expect 1 'jxlenc: few.png: too little data' few.png -o d.jxl
+    expect 1 'jxlenc: index.png: index above the palette' index.png -o d.jxl
+    expect 1 'jxlenc: huge.png: above the limits' huge.png -o d.jxl
+    absent d.jxl
+
     # Pictures that cannot be read: an output that exists keeps its contents.
     printf 'kept' > b.jxl
     printf 'P5\n3 2\n255\n\001\002\003\004\005' > short.pgm
@@ -414,7 +459,7 @@ encode_rows() {
     expect 1 'jxlenc: none.pgm: cannot read: No such file or directory (os error 2)' none.pgm -o b.jxl
     expect 1 'jxlenc: folder: cannot read: Is a directory (os error 21)' folder -o b.jxl
     for name in other.jxl empty.jxl grey.jxl bits.pbm plain.pgm; do
-        expect 1 "jxlenc: $name: not a PGM, PPM, PAM or PFM file" $name -o b.jxl
+        expect 1 "jxlenc: $name: not a PNG, PGM, PPM, PAM or PFM file" $name -o b.jxl
     done
     for name in short.pgm header.pgm huge.pgm; do
         expect 1 "jxlenc: $name: truncated" $name -o b.jxl
@@ -435,7 +480,7 @@ encode_rows() {
     expect 1 'jxlenc: above.pgm: a sample above the maximum' above.pgm -o b.jxl
     expect 1 'jxlenc: above.pgm: a sample above the maximum' above.pgm -q -o b.jxl
     expect 1 'jxlenc: above.pgm: a sample above the maximum' above.pgm --exif none.exif -o b.jxl
-    expect 1 'jxlenc: -: not a PGM, PPM, PAM or PFM file' - -o b.jxl
+    expect 1 'jxlenc: -: not a PNG, PGM, PPM, PAM or PFM file' - -o b.jxl
     begins b.jxl kept
     expect 2 'error: ' -o b.jxl
     expect 2 'error: ' grey.pgm rgb.ppm -o b.jxl

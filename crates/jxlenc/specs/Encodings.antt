@@ -1,5 +1,6 @@
 -- What the program writes: the file of the picture that its input is.
-use Rattle.std.specs.Prelude.{◌≡◌, ℕ, List, Bool, false, is_some, IfSome, MatchBool, Option, Some, None}
+use Rattle.std.specs.Prelude.{◌≡◌, ◌⊎◌, ◌^◌, ℕ, ℤ, List, Bool, false, is_some, IfSome, MatchBool, Option, Some, None}
+use Rattle.std.specs.Option.{option_or}
 use Rattle.std.specs.Io.KnownBytes.{Appends, Consumes, IsAtEnd}
 use Rattle.jxl_codestream.specs.FrontParts.{bytes_if}
 use Rattle.jxl_command.specs.Streams.{IsReadWhole}
@@ -11,7 +12,10 @@ use Rattle.jxl_encode.specs.Profiles.{image_with_profile}
 use Rattle.jxl_image_header.specs.Images.{Image, image_of}
 use Rattle.jxl_netpbm.specs.Output.{AppendsBeginning}
 use Rattle.jxl_netpbm_read.specs.Files.{IsErrorOf, IsNetpbmOf}
+use Rattle.jxl_picture.specs.declared.limits.Limits.{Limits}
 use Rattle.jxl_picture.specs.declared.picture.Picture.{Picture}
+use Rattle.jxl_png_read.specs.Files.{IsErrorOf as IsPngErrorOf, IsPngOf}
+use Rattle.jxlm_base.specs.Grid.{Grid}
 use Rattle.jxlenc.specs.Failures.{failure_line, is_of_output, subject}
 use Rattle.jxlenc.specs.declared.failures.Failure.{Failure}
 use Rattle.jxlenc.specs.declared.failures.Failure.TheVariants as failures
@@ -23,12 +27,18 @@ abbrev pub image_with : Option (List ℕ) → Image → Image
 image_with (Some icc) image = image_with_profile image
 image_with None image = image
 
--- The input is a netpbm file of this picture, which has this profile beside it, if there is one.
-pub record IsPictureOf (input : List ℕ) (icc : Option (List ℕ)) (picture : Picture) : Type 0 where
+-- The input is a PNG file of this picture, with this profile and these Exif and XMP data; or a netpbm file, which has none of these.
+abbrev pub IsSource : List ℕ → Image → List (Grid ℤ) → Option (List ℕ) → Option (List ℕ) → Option (List ℕ) → Type 0
+IsSource input image channels icc exif xmp =
+    IsPngOf input image channels icc exif xmp ⊎ (IsNetpbmOf input image channels × (icc ≡ None) × (exif ≡ None) × (xmp ≡ None))
+
+-- The input is a file of this picture and of these Exif and XMP data; the picture has this profile, if there is one, in place of its own.
+pub record IsPictureOf (input : List ℕ) (icc : Option (List ℕ)) (picture : Picture) (exif xmp : Option (List ℕ)) : Type 0 where
   pub image : Image
-  pub netpbm : IsNetpbmOf input image picture.channels.items
+  pub own : Option (List ℕ)
+  pub source : IsSource input image picture.channels.items own exif xmp
   pub header : image_of picture.header ≡ image_with icc image
-  pub profile : bytes_if picture.profile ≡ icc
+  pub profile : bytes_if picture.profile ≡ option_or icc own
 
 -- The bytes are a file that is decoded to this picture: in boxes, if they are asked for or needed, with these Exif and XMP data.
 pub record IsEncodingOf (picture : Picture) (boxed : Bool) (exif xmp : Option (List ℕ)) (file : List ℕ) : Type 0 where
@@ -49,7 +59,7 @@ pub record AreGiven {F : Type 0} (left : F → Option (List ℕ)) (options : Opt
   pub xmp : IsGiven (is_some options.paths.xmp) (left old.xmp) (left new.xmp) (new.xmp ≡ old.xmp) (bytes_if metadata.xmp)
 
 -- The input was read to its end, from left to rest, and so were the data for the file beside its picture; the bytes are the file
--- of that picture with these data.
+-- of that picture with these data, and with those of the input in place of what is not given.
 pub record IsMade (boxed : Bool) (left rest : Option (List ℕ)) (Given : Metadata → Type 0) (file : List ℕ) : Type 0 where
   pub input : List ℕ
   pub picture : Picture
@@ -57,8 +67,10 @@ pub record IsMade (boxed : Bool) (left rest : Option (List ℕ)) (Given : Metada
   pub read : Consumes left rest input
   pub ended : IsAtEnd rest
   pub given : Given metadata
-  pub pictured : IsPictureOf input (bytes_if metadata.profile) picture
-  pub encoded : IsEncodingOf picture boxed (bytes_if metadata.exif) (bytes_if metadata.xmp) file
+  pub exif : Option (List ℕ)
+  pub xmp : Option (List ℕ)
+  pub pictured : IsPictureOf input (bytes_if metadata.profile) picture exif xmp
+  pub encoded : IsEncodingOf picture boxed (option_or (bytes_if metadata.exif) exif) (option_or (bytes_if metadata.xmp) xmp) file
 
 -- Such a file was written: the output, which held `held`, holds it after that.
 pub record IsDone (boxed : Bool) (left rest : Option (List ℕ)) (Given : Metadata → Type 0) (held holds : Option (List ℕ)) : Type 0 where
@@ -72,9 +84,14 @@ pub record IsBegun (boxed : Bool) (left rest : Option (List ℕ)) (Given : Metad
   pub made : IsMade boxed left rest Given file
   pub begun : AppendsBeginning held holds file
 
+-- the limits of PNG files that are read: those that the decoder of .jxl files has by default
+abbrev pub usual_limits : Limits
+usual_limits = record { pixels = 2 ^ 28; channels = 256; bytes = 2 ^ 31; profile = 2 ^ 24; decisions = 128 }
+
 -- what each failure says of an input whose picture is not encoded
 abbrev pub PictureFails : List ℕ → Failure → Type 0
 PictureFails input (failures.Picture error) = IsErrorOf input error
+PictureFails input (failures.Png error) = IsPngErrorOf usual_limits input error
 PictureFails input failure = ⊥
 
 -- what each failure says of a profile, if there is one: no file can hold it

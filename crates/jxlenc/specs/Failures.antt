@@ -5,13 +5,14 @@ use Rattle.jxl_command.specs.Extras.{path_of}
 use Rattle.jxl_command.specs.declared.extra.Extra.TheVariants as extras
 use Rattle.jxl_netpbm_read.specs.declared.error.NetpbmError.{NetpbmError}
 use Rattle.jxl_netpbm_read.specs.declared.error.NetpbmError.TheVariants as pictures
+use Rattle.jxlenc.specs.Reasons.{png_text}
 use Rattle.jxlenc.specs.declared.failures.Failure.{Failure}
 use Rattle.jxlenc.specs.declared.failures.Failure.TheVariants as failures
 use Rattle.jxlenc.specs.declared.options.Options.{Options}
 
--- why a file is read as no picture
+-- why a file is read as no netpbm picture
 unfoldable pub picture_text : NetpbmError → List ℕ
-picture_text pictures.Magic = codes "not a PGM, PPM, PAM or PFM file"
+picture_text pictures.Magic = codes "not a PNG, PGM, PPM, PAM or PFM file"
 picture_text pictures.Truncated = codes "truncated"
 picture_text pictures.InvalidHeader = codes "invalid header"
 picture_text pictures.MissingLine = codes "invalid header: a line is missing"
@@ -26,6 +27,7 @@ picture_text pictures.OutOfMemory = codes "out of memory"
 unfoldable pub failure_text : Failure → Option (List ℕ)
 failure_text (failures.Unreadable error) = None
 failure_text (failures.Picture error) = Some (picture_text error)
+failure_text (failures.Png error) = Some (png_text error)
 failure_text (failures.ExtraUnreadable extra error) = None
 failure_text failures.ProfileSize = Some (codes "a profile of 0 bytes or above 268435456")
 failure_text failures.OutOfMemory = Some (codes "out of memory")

@@ -1,3 +1,4 @@
 pub mod Encodings
 pub mod Failures
 pub mod Options
+pub mod Reasons

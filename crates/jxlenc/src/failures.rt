@@ -3,8 +3,10 @@
 ghost use Rattle.std.specs.Prelude.{◌≡◌};
 ghost use Rattle.jxlenc.specs.Failures.{IsOfWriting, failure_text, picture_text as the_picture_text};
 
+use crate::reason::png_text;
 use jxl_command::extra::Extra;
 use jxl_netpbm_read::error::NetpbmError;
+use jxl_png_read::error::ReadError;
 use std::io::ErrorKind;
 use std::{fmt, io};
 
@@ -13,8 +15,10 @@ use std::{fmt, io};
 pub enum Failure {
     /// The input cannot be read, for this reason, or it is out of memory for it.
     Unreadable(io::Error),
-    /// The input is no picture that is read, by this error.
+    /// The input is no netpbm file that is read, by this error, and no PNG file.
     Picture(NetpbmError),
+    /// The input is a PNG file that is read as no picture, by this error.
+    Png(ReadError),
     /// These data cannot be read, for this reason, or it is out of memory for them.
     ExtraUnreadable(Extra, io::Error),
     /// No file can hold the profile: it is empty, or has more than 2^28 bytes.
@@ -48,7 +52,7 @@ fn picture_text(error: NetpbmError) -> &'static str
     ensures { result.now ≡ the_picture_text error }
 {
     match error {
-        NetpbmError::Magic => "not a PGM, PPM, PAM or PFM file",
+        NetpbmError::Magic => "not a PNG, PGM, PPM, PAM or PFM file",
         NetpbmError::Truncated => "truncated",
         NetpbmError::InvalidHeader => "invalid header",
         NetpbmError::MissingLine => "invalid header: a line is missing",
@@ -70,6 +74,7 @@ impl fmt::Display for Failure {
                 write!(f, "cannot read: {error}")
             }
             Failure::Picture(error) => f.write_str(picture_text(error)),
+            Failure::Png(error) => f.write_str(png_text(error)),
             Failure::ProfileSize => f.write_str("a profile of 0 bytes or above 268435456"),
             Failure::OutOfMemory => f.write_str("out of memory"),
             Failure::Terminal => {

@@ -1,10 +1,12 @@
-//! Encodes a picture in a netpbm format to a lossless JPEG XL file.
+//! Encodes a picture in PNG or a netpbm format to a lossless JPEG XL file.
 #![tactic(auto)]
 
 mod failures;
 mod meter;
 mod options;
+mod reason;
 mod run;
+mod source;
 
 use crate::failures::Failure;
 use crate::meter::WayMeter;

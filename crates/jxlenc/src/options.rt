@@ -35,7 +35,7 @@ fn input(alloc: Global) -> Arg<'static> {
     Arg::new(alloc, "input")
         .value_name("PICTURE")
         .required(true)
-        .help("The picture, in PGM, PPM, PAM or PFM [-: standard input]")
+        .help("The picture, in PNG, PGM, PPM, PAM or PFM [-: standard input]")
 }
 
 fn output(alloc: Global) -> Arg<'static> {
@@ -104,7 +104,7 @@ pub fn command<'a>(alloc: Global) -> Result<Command<'a>, AllocError> {
     ]?;
     Command::new(alloc, "jxlenc")
         .version("0.1.0")
-        .about("Encodes a netpbm picture to a lossless JPEG XL file")
+        .about("Encodes a PNG or netpbm picture to a lossless JPEG XL file")
         .args(args)
 }
 

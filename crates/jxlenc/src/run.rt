@@ -1,19 +1,19 @@
 //! The program over readers and two writers.
 
 ghost use Rattle.std.specs.Prelude.{◌≡◌, ◌≤◌, is_some, IfErr, IfOk, IfSome, IsTrue, None, OnOk, false};
-ghost use Rattle.std.specs.Option.{option_map};
+ghost use Rattle.std.specs.Option.{option_map, option_or};
 ghost use Rattle.std.specs.Io.KnownBytes.{Appends};
 ghost use Rattle.jxl_codestream.specs.FrontParts.{bytes_if};
 ghost use Rattle.jxl_command.specs.Streams.{IsReported};
 ghost use Rattle.jxl_encode.specs.Codable.{IsCodable};
 ghost use Rattle.jxl_image_header.specs.Images.{image_of};
-ghost use Rattle.jxl_netpbm_read.specs.Files.{IsNetpbmOf};
 ghost use Rattle.jxl_picture.specs.Pictures.{IsWhole};
-ghost use Rattle.jxlenc.specs.Encodings.{AreGiven, InputFails, IsDone, IsEncodingOf, IsFailed, IsGiven, IsMade, MakingFails, PictureFails, ProfileFails, image_with};
+ghost use Rattle.jxlenc.specs.Encodings.{AreGiven, InputFails, IsDone, IsEncodingOf, IsFailed, IsGiven, IsMade, MakingFails, ProfileFails, image_with};
 ghost use Rattle.jxlenc.specs.Failures.{IsOfExtra, failure_line, is_of_output};
 
 use crate::failures::Failure;
 use crate::options::Options;
+use crate::source::{Source, source_of_input};
 use jxl_command::end::End;
 use jxl_command::extra::{Extra, Extras};
 use jxl_command::input::read_whole;
@@ -23,7 +23,6 @@ use jxl_encode::codable::is_codable_profile;
 use jxl_encode::file::encode_with_progress;
 use jxl_encode::profile::with_profile;
 use jxl_encode::progress::Progress;
-use jxl_netpbm_read::picture::read_netpbm;
 use jxl_picture::picture::Picture;
 use std::alloc::Global;
 use std::io::{Read, Write};
@@ -34,20 +33,6 @@ pub struct Metadata {
     pub profile: Option<Vec<u8>>,
     pub exif: Option<Vec<u8>>,
     pub xmp: Option<Vec<u8>>,
-}
-
-// The picture of an input. Each that is read can be coded.
-fn picture_of_input(alloc: Global, input: &[u8]) -> Result<Picture, Failure>
-    ensures netpbm { IfOk result (λ p. IsNetpbmOf input.now (image_of p.header) p.channels.items) }
-    ensures plain { IfOk result (λ p. p.profile ≡ None) }
-    ensures whole { IfOk result (λ p. IsWhole (image_of p.header) p.channels.items) }
-    ensures codable { IfOk result IsCodable }
-    ensures err { IfErr result (PictureFails input.now) }
-{
-    match read_netpbm(alloc, input) {
-        Ok(picture) => Ok(picture),
-        Err(error) => Err(Failure::Picture(error)),
-    }
 }
 
 // Reads these data, if they are wanted.
@@ -91,15 +76,14 @@ fn metadata_given<F: Read>(
     Ok(Metadata { profile, exif, xmp })
 }
 
-// The picture with this profile, if there is one.
+// The picture with this profile, if there is one, in place of its own.
 fn picture_with(picture: Picture, profile: Option<Vec<u8>>) -> Result<Picture, Failure>
-    requires plain { picture.profile ≡ None }
     requires whole { IsWhole (image_of picture.header) picture.channels.items }
     requires codable { IsCodable picture }
     ensures header { IfOk result (λ p. image_of p.header
         ≡ image_with (bytes_if profile) (image_of picture.header)) }
     ensures channels { IfOk result (λ p. p.channels ≡ picture.channels) }
-    ensures profile { IfOk result (λ p. bytes_if p.profile ≡ bytes_if profile) }
+    ensures profile { IfOk result (λ p. bytes_if p.profile ≡ option_or (bytes_if profile) (bytes_if picture.profile)) }
     ensures whole { IfOk result (λ p. IsWhole (image_of p.header) p.channels.items) }
     ensures codable { IfOk result IsCodable }
     ensures err { IfErr result (ProfileFails (bytes_if profile)) }
@@ -157,9 +141,11 @@ fn file_asked<R: Read, F: Read, P: Progress + Line>(
         Ok(bytes) => bytes,
         Err(error) => return Err(Failure::Unreadable(error)),
     };
-    let picture = picture_of_input(alloc, &bytes)?;
+    let source = source_of_input(alloc, &bytes)?;
     let Metadata { profile, exif, xmp } = metadata_given(alloc, options, extras)?;
-    let picture = picture_with(picture, profile)?;
+    let exif = exif.or(source.exif);
+    let xmp = xmp.or(source.xmp);
+    let picture = picture_with(source.picture, profile)?;
     let made = file_of_picture(alloc, &picture, options, &exif, &xmp, progress);
     progress.clear();
     let file = made?;
@@ -207,8 +193,8 @@ pub fn report<E: Write>(errors: &mut E, name: &str, failure: Failure) -> End
     }
 }
 
-/// Reads a picture in a netpbm format from `input`, and a profile, Exif data and XMP data from `extras`, those that are
-/// asked for, and writes a JPEG XL file of them to `output`. It returns the status to end with: 0 where `output` got the
+/// Reads a picture in PNG or a netpbm format from `input`, and a profile, Exif data and XMP data from `extras`, those that are
+/// asked for, in place of those of the input, and writes a JPEG XL file of them to `output`. It returns the status to end with: 0 where `output` got the
 /// whole file, and has passed it on, and `errors` got nothing; else 1, and `errors` got the line of a failure that holds,
 /// unless the output is a pipe that was closed. Nothing is written before the whole file is encoded; after a failed write
 /// the output holds a beginning of the file. `progress` is called after each way to code the picture that was tried.

@@ -1,9 +1,9 @@
-use Rattle.std.proofs.Common.{ℕ, Option, ap, sym, subst, ◌∙◌}
+use Rattle.std.proofs.Common.{ℕ, Option, ap, sym, subst, ◌∙◌, inr, refl}
 use Rattle.std.specs.Prelude.{IfSome, is_some}
 use Rattle.std.specs.Global.{Vec}
 use Rattle.jxl_codestream.specs.FrontParts.{bytes_if}
 use Rattle.jxl_encode.specs.Codable.{IsCodableProfile}
-use Rattle.jxlenc.proofs.run.picture_of_input.Goals as goal
+use Rattle.jxlenc.proofs.source.netpbm_source.Goals as goal
 
 pub returns-in-Ok-clause-codable : goal.returns-in-Ok-clause-codable
 returns-in-Ok-clause-codable c =
@@ -17,3 +17,8 @@ returns-in-Ok-clause-codable c =
       want_icc = e.plain ∙ sym (ap (λ (o : Option (Vec ℕ)). is_some (bytes_if o)) e.profile);
       profile = subst (λ (o : Option (Vec ℕ)). IfSome (bytes_if o) IsCodableProfile) (sym e.profile) tt;
     }
+
+pub returns-in-Ok-clause-source : goal.returns-in-Ok-clause-source
+returns-in-Ok-clause-source c =
+    let e = c.in-Ok.ensures in
+    inr (e.picture, ap (λ (o : Option (Vec ℕ)). bytes_if o) e.profile, refl, refl)

@@ -1,0 +1,62 @@
+//! The picture that the input is.
+
+ghost use Rattle.std.specs.Prelude.{None, IfErr, IfOk};
+ghost use Rattle.jxl_codestream.specs.FrontParts.{bytes_if};
+ghost use Rattle.jxl_encode.specs.Codable.{IsCodable};
+ghost use Rattle.jxl_image_header.specs.Images.{image_of};
+ghost use Rattle.jxl_picture.specs.Pictures.{IsWhole};
+ghost use Rattle.jxlenc.specs.Encodings.{IsSource, PictureFails};
+
+use crate::failures::Failure;
+use jxl_netpbm_read::picture::read_netpbm;
+use jxl_picture::limits::Limits;
+use jxl_picture::picture::Picture;
+use jxl_png::error::PngError;
+use jxl_png_read::error::ReadError;
+use jxl_png_read::file::read_png;
+use std::alloc::Global;
+
+/// A picture that was read, and the Exif and XMP data of its file.
+#[derive(Drop)]
+pub struct Source {
+    pub picture: Picture,
+    pub exif: Option<Vec<u8>>,
+    pub xmp: Option<Vec<u8>>,
+}
+
+// The picture of a netpbm file. Each that is read can be coded.
+fn netpbm_source(alloc: Global, input: &[u8]) -> Result<Source, Failure>
+    ensures source { IfOk result (λ s. IsSource input.now (image_of s.picture.header) s.picture.channels.items
+        (bytes_if s.picture.profile) (bytes_if s.exif) (bytes_if s.xmp)) }
+    ensures whole { IfOk result (λ s. IsWhole (image_of s.picture.header) s.picture.channels.items) }
+    ensures codable { IfOk result (λ s. IsCodable s.picture) }
+    ensures err { IfErr result (PictureFails input.now) }
+{
+    match read_netpbm(alloc, input) {
+        Ok(picture) => Ok(Source {
+            picture,
+            exif: None,
+            xmp: None,
+        }),
+        Err(error) => Err(Failure::Picture(error)),
+    }
+}
+
+/// The picture of an input: a PNG file if it has the signature of one, else a netpbm file. Each that is read can be coded.
+pub fn source_of_input(alloc: Global, input: &[u8]) -> Result<Source, Failure>
+    ensures source { IfOk result (λ s. IsSource input.now (image_of s.picture.header) s.picture.channels.items
+        (bytes_if s.picture.profile) (bytes_if s.exif) (bytes_if s.xmp)) }
+    ensures whole { IfOk result (λ s. IsWhole (image_of s.picture.header) s.picture.channels.items) }
+    ensures codable { IfOk result (λ s. IsCodable s.picture) }
+    ensures err { IfErr result (PictureFails input.now) }
+{
+    match read_png(alloc, input, &Limits::usual()) {
+        Ok(image) => Ok(Source {
+            picture: image.picture,
+            exif: image.exif,
+            xmp: image.xmp,
+        }),
+        Err(ReadError::Png(PngError::Signature)) => netpbm_source(alloc, input),
+        Err(error) => Err(Failure::Png(error)),
+    }
+}
