@@ -5,7 +5,8 @@ ghost use Rattle.jxl_codestream.specs.FrontParts.{bytes_if};
 ghost use Rattle.jxl_encode.specs.Codable.{IsCodable};
 ghost use Rattle.jxl_image_header.specs.Images.{image_of};
 ghost use Rattle.jxl_picture.specs.Pictures.{IsWhole};
-ghost use Rattle.jxlenc.specs.Encodings.{IsSource, PictureFails};
+ghost use Rattle.jxl_png_read.specs.Files.{IsErrorOf};
+ghost use Rattle.jxlenc.specs.Encodings.{IsSource, PictureFails, usual_limits};
 
 use crate::failures::Failure;
 use jxl_netpbm_read::picture::read_netpbm;
@@ -42,6 +43,21 @@ fn netpbm_source(alloc: Global, input: &[u8]) -> Result<Source, Failure>
     }
 }
 
+// The picture of an input that is no PNG file, by this error: a netpbm file, if it has not the signature of one.
+fn unless_png(alloc: Global, input: &[u8], error: ReadError) -> Result<Source, Failure>
+    requires { IsErrorOf usual_limits input.now error }
+    ensures source { IfOk result (λ s. IsSource input.now (image_of s.picture.header) s.picture.channels.items
+        (bytes_if s.picture.profile) (bytes_if s.exif) (bytes_if s.xmp)) }
+    ensures whole { IfOk result (λ s. IsWhole (image_of s.picture.header) s.picture.channels.items) }
+    ensures codable { IfOk result (λ s. IsCodable s.picture) }
+    ensures err { IfErr result (PictureFails input.now) }
+{
+    match error {
+        ReadError::Png(PngError::Signature) => netpbm_source(alloc, input),
+        _ => Err(Failure::Png(error)),
+    }
+}
+
 /// The picture of an input: a PNG file if it has the signature of one, else a netpbm file. Each that is read can be coded.
 pub fn source_of_input(alloc: Global, input: &[u8]) -> Result<Source, Failure>
     ensures source { IfOk result (λ s. IsSource input.now (image_of s.picture.header) s.picture.channels.items
@@ -56,7 +72,6 @@ pub fn source_of_input(alloc: Global, input: &[u8]) -> Result<Source, Failure>
             exif: image.exif,
             xmp: image.xmp,
         }),
-        Err(ReadError::Png(PngError::Signature)) => netpbm_source(alloc, input),
-        Err(error) => Err(Failure::Png(error)),
+        Err(error) => unless_png(alloc, input, error),
     }
 }

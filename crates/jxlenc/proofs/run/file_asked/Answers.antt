@@ -1,24 +1,42 @@
-use Rattle.std.proofs.Common.{ℤ, rules, sym, subst}
+use Rattle.std.proofs.Common.{◌≡◌, ℕ, ℤ, List, Option, Some, None, rules, refl, sym, ap, subst, ◌∙◌}
 use Rattle.std.specs.Global.{Vec}
+use Rattle.std.specs.Option.{option_or}
 use Rattle.jxlm_base.specs.Grid.{Grid}
+use Rattle.jxl_codestream.specs.FrontParts.{bytes_if}
 use Rattle.jxl_image_header.specs.Images.{image_of}
-use Rattle.jxl_netpbm_read.specs.Files.{IsNetpbmOf}
+use Rattle.jxlenc.specs.Encodings.{IsEncodingOf, IsSource}
 use Rattle.jxlenc.proofs.run.file_asked.Goals as goal
 
+-- the bytes of what is given, else of what the input has
+or_bytes : (given own : Option (Vec ℕ)) → bytes_if (option_or given own) ≡ option_or (bytes_if given) (bytes_if own)
+or_bytes None own = refl
+or_bytes (Some v) own = refl
+
 pub returns-clause-ok : goal.returns-clause-ok
-returns-clause-ok g c = record {
-  input = c.deref.result.now;
-  picture = c.in_ok-picture-2.picture;
-  metadata = _;
-  read = search rules;
-  ended = search rules;
-  given = c.in_ok-profile.ensures.ok;
-  pictured = record {
-    image = image_of c.in_ok-picture.picture.header;
-    netpbm = subst (λ (gs : Vec (Grid ℤ)). IsNetpbmOf c.deref.result.now (image_of c.in_ok-picture.picture.header) gs.items)
-        (sym c.in_ok-picture-2.ensures.channels) c.in_ok-picture.ensures.netpbm;
-    header = c.in_ok-picture-2.ensures.header;
-    profile = c.in_ok-picture-2.ensures.profile;
-  };
-  encoded = search rules;
-}
+returns-clause-ok g c =
+    let source = c.in_ok-source.source in
+    let picture = c.in_ok-picture.picture in
+    let boxed = c.args.options.now.boxed in
+    let file = c.in_ok-file.file.items in
+    let exif : bytes_if c.or-exif.result ≡ option_or (bytes_if c.in_ok-profile.field-0.exif) (bytes_if source.exif) = ap (λ (o : Option (Vec ℕ)). bytes_if o) c.or-exif.ensures ∙ or_bytes c.in_ok-profile.field-0.exif source.exif in
+    let xmp : bytes_if c.or-xmp.result ≡ option_or (bytes_if c.in_ok-profile.field-0.xmp) (bytes_if source.xmp) = ap (λ (o : Option (Vec ℕ)). bytes_if o) c.or-xmp.ensures ∙ or_bytes c.in_ok-profile.field-0.xmp source.xmp in
+    record {
+      input = c.deref.result.now;
+      picture = picture;
+      metadata = c.in_ok-profile.field-0;
+      read = search rules;
+      ended = search rules;
+      given = c.in_ok-profile.ensures.ok;
+      exif = bytes_if source.exif;
+      xmp = bytes_if source.xmp;
+      pictured = record {
+        image = image_of source.picture.header;
+        own = bytes_if source.picture.profile;
+        source = subst (λ (gs : Vec (Grid ℤ)). IsSource c.deref.result.now (image_of source.picture.header) gs.items (bytes_if source.picture.profile) (bytes_if source.exif) (bytes_if source.xmp))
+            (sym c.in_ok-picture.ensures.channels) c.in_ok-source.ensures.source;
+        header = c.in_ok-picture.ensures.header;
+        profile = c.in_ok-picture.ensures.profile;
+      };
+      encoded = subst (λ (x : Option (List ℕ)). IsEncodingOf picture boxed x (option_or (bytes_if c.in_ok-profile.field-0.xmp) (bytes_if source.xmp)) file) exif
+          (subst (λ (y : Option (List ℕ)). IsEncodingOf picture boxed (bytes_if c.or-exif.result) y file) xmp c.in_ok-file.ensures.ok);
+    }
