@@ -22,7 +22,7 @@ returns-in-Ok-clause-codable c =
       high = e.high;
       want_icc = e.want_icc;
       profile = codable_profile (bytes_if c.in-Ok.image.picture.profile) e.some
-        (subst (λ (n : ℕ). IfSome (bytes_if c.in-Ok.image.picture.profile) (λ bytes. length bytes ≤ n)) (ap (λ (l : Limits). l.profile) c.usual.ensures) e.within);
+          (subst (λ (n : ℕ). IfSome (bytes_if c.in-Ok.image.picture.profile) (λ bytes. length bytes ≤ n)) (ap (λ (l : Limits). l.profile) c.usual.ensures) e.within);
     }
 
 pub unless_png-requires : goal.unless_png-requires
