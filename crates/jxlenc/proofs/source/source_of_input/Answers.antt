@@ -1,6 +1,5 @@
-use Rattle.std.proofs.Common.{ℕ, ◌≡◌, ◌≤◌, ◌<◌, ◌^◌, List, length, Option, Some, None, inl, arith, ap, subst}
+use Rattle.std.proofs.Common.{ℕ, ◌≤◌, ◌<◌, ◌^◌, List, length, Option, Some, None, arith, ap, subst}
 use Rattle.std.specs.Prelude.{IfSome}
-use Rattle.std.specs.Global.{Vec}
 use Rattle.jxl_codestream.specs.FrontParts.{bytes_if}
 use Rattle.jxl_encode.specs.Codable.{IsCodableProfile}
 use Rattle.jxl_picture.specs.declared.limits.Limits.{Limits}
