@@ -60,8 +60,8 @@ fn byte_of(shape: &str, text: &[u8], state: &mut u64) -> Option<u8> {
         "two" => drawn % 2,
         "flat" => drawn % 256,
         "steep" => drawn.leading_zeros(),
-        "period" => byte_before(text, 3) + drawn % 64 / 63,
-        "row" => byte_before(text, 32) + drawn % 4 / 3,
+        "period" => byte_before(text, 3).wrapping_add(drawn % 64 / 63),
+        "row" => byte_before(text, 32).wrapping_add(drawn % 4 / 3),
         _ => return None,
     };
     Some((byte % 256) as u8)
