@@ -1,5 +1,6 @@
-//! Checks rows of tables of JPEG XL files, of decoders of entropy codes and of commands, files that the arguments name:
-//! each row says what is asked, and what is expected of it. A line that begins with # says what the rows after it are.
+//! Checks rows of tables of JPEG XL files, of decoders of entropy codes, of deflate streams and of commands, files that
+//! the arguments name: each row says what is asked, and what is expected of it. A line that begins with # says what the
+//! rows after it are.
 #![tactic(auto)]
 
 mod command;
@@ -7,6 +8,7 @@ mod example;
 mod files;
 mod netpbm;
 mod pictures;
+mod png;
 mod printing;
 mod profiles;
 mod streams;
@@ -53,11 +55,12 @@ fn seen_of_commands(alloc: Global, row: &Row<'_>) -> Option<String> {
         "words" => words::seen(alloc, row.asked),
         "print" => printing::seen(alloc, row.asked),
         "netpbm" => netpbm::seen(alloc, row.asked),
+        "png" => png::seen(alloc, row.asked),
         _ => None,
     }
 }
 
-/// The kinds of rows of files, of decoders of entropy codes and of commands.
+/// The kinds of rows of files, of decoders of entropy codes, of deflate streams and of commands.
 struct FileRows;
 
 impl Kinds for FileRows {
@@ -69,6 +72,9 @@ impl Kinds for FileRows {
             return Some(seen);
         }
         if let Some(seen) = check_encoder::seen(alloc, row) {
+            return Some(seen);
+        }
+        if let Some(seen) = check_deflate::seen(alloc, row) {
             return Some(seen);
         }
         if let Some(seen) = seen_of_files(alloc, row) {
