@@ -1,13 +1,13 @@
 -- What comparing a tree with the limit says.
-use Rattle.std.proofs.Common.{◌≡◌, ◌∙◌, ℕ, ◌<◌, ◌≤◌, nat_lt, inl, inr, Bool, true, false, IsTrue, List, Option, Result, Ok, Err, ap, refl, subst, sym}
-use Rattle.std.specs.Prelude.{IfOk, MatchBool, ◌⊎◌, ◌↔◌}
+use Rattle.std.proofs.Common.{◌≡◌, ◌∙◌, ℕ, ◌<◌, ◌≤◌, nat_lt, inr, Bool, true, false, IsTrue, List, Option, Result, Ok, Err, ap, refl, subst, sym}
+use Rattle.std.specs.Prelude.{IfOk, MatchBool, ◌↔◌}
 use Rattle.std.proofs.lemmas.Bool.{ltb-false, ltb-true}
 use Rattle.jxlm_bits.specs.Decoding.{Found, Meaning}
-use Rattle.jxlm_bits.specs.Grammar.{flag}
-use Rattle.jxlm_bits.specs.ErrorKind.{ErrorAt, ErrorKind, Eof, BadEnum, BadProfile, BadTree, NoGlobalTree, BadRct, BadPalette, BadSqueeze, OfDecoder, NoMemory, UnlessMemory}
+use Rattle.jxlm_bits.specs.Grammar.{IsErrorAt, flag}
+use Rattle.jxlm_bits.specs.ErrorKind.{ErrorAt, ErrorKind, UnlessNoMemory, Eof, BadEnum, BadProfile, BadTree, NoGlobalTree, BadRct, BadPalette, BadSqueeze, OfDecoder, NoMemory, UnlessMemory}
 use Rattle.jxlm_bits.specs.declared.decoder.DecoderError.TheVariants.{UnexpectedEof, Invalid, OutOfMemory}
 use Rattle.jxlm_transform.specs.Channels.{ChannelList}
-use Rattle.jxlm_tree.specs.Tree.{Config, depth}
+use Rattle.jxlm_tree.specs.Tree.{Config}
 use Rattle.jxlm_tree_depth.specs.Depths.{DepthSays, UsesGlobalAt}
 use Rattle.jxlm_tree_depth.specs.Inner.{TreeSays, is_memory}
 
@@ -59,6 +59,23 @@ flag_missing bytes p e gives = (
 -- where the header does not use the global tree, its tree is its own
 pub own_says : {D E : Type 0} (d : Meaning D) (global : Option (Config D)) (given : ChannelList) (deepest : ℕ) (bytes : List ℕ) (p : ℕ) (result : Result Bool E) (b : Bool) → b ≡ false → IsTrue b ↔ UsesGlobalAt bytes p →
     IfOk result (TreeSays d global given deepest bytes p) → IfOk result (DepthSays d global given deepest bytes p)
-own_says d global given deepest bytes p (Ok true) b none flag says = (λ uses. never (sym (flag.1 uses) ∙ none), says)
-own_says d global given deepest bytes p (Ok false) b none flag says = inr says
-own_says d global given deepest bytes p (Err e) b none flag says = tt
+own_says d global given deepest bytes p (Ok true) b none uses says = (λ here. never (sym (uses.1 here) ∙ none), says)
+own_says d global given deepest bytes p (Ok false) b none uses says = inr says
+own_says d global given deepest bytes p (Err e) b none uses says = tt
+
+-- an error that is not out of memory is that of the reading
+pub refused : {Y : Type 0} (k : ErrorKind) (reading : Result Y ErrorAt) (q : ℕ) → is_memory k ≡ false → UnlessNoMemory k (IsErrorAt reading k q) → (error : ErrorAt) × (reading ≡ Err error)
+refused k reading q e h = by k e h where
+  by : (k : ErrorKind) → is_memory k ≡ false → UnlessNoMemory k (IsErrorAt reading k q) → (error : ErrorAt) × (reading ≡ Err error)
+  by Eof e h = (record { error = Eof; position = h.place }, h.refuses)
+  by (BadEnum name value) e h = (record { error = BadEnum name value; position = h.place }, h.refuses)
+  by (BadProfile text) e h = (record { error = BadProfile text; position = h.place }, h.refuses)
+  by BadTree e h = (record { error = BadTree; position = h.place }, h.refuses)
+  by NoGlobalTree e h = (record { error = NoGlobalTree; position = h.place }, h.refuses)
+  by BadRct e h = (record { error = BadRct; position = h.place }, h.refuses)
+  by BadPalette e h = (record { error = BadPalette; position = h.place }, h.refuses)
+  by BadSqueeze e h = (record { error = BadSqueeze; position = h.place }, h.refuses)
+  by (OfDecoder UnexpectedEof) e h = (record { error = OfDecoder UnexpectedEof; position = h.place }, h.refuses)
+  by (OfDecoder (Invalid k)) e h = (record { error = OfDecoder (Invalid k); position = h.place }, h.refuses)
+  by (OfDecoder OutOfMemory) e h = never e
+  by NoMemory e h = never e

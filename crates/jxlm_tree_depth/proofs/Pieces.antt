@@ -3,12 +3,14 @@ use Rattle.std.proofs.Common.{◌≡◌, ◌∙◌, ℕ, ◌*◌, List, [], ◌�
 use Rattle.std.specs.List.{All}
 use Rattle.std.proofs.lemmas.List.{length-replicate}
 use Rattle.std.proofs.lemmas.List.Elements.{All-map}
+use Rattle.jxlm_base.specs.Grid.{Grid}
 use Rattle.jxlm_base.specs.declared.subgrid.Region.{Region}
 use Rattle.jxlm_chain.specs.Placed.{GoesOn}
 use Rattle.jxlm_chain.specs.declared.placed.PlacedChannels.{PlacedChannels}
 use Rattle.jxlm_chain.proofs.LayoutLaws.{lie_after_all, lie_first}
-use Rattle.jxlm_groups.specs.Passes.{Pass}
-use Rattle.jxlm_groups.specs.Pieces.{SectionPart, in_store, pieces, within}
+use Rattle.jxlm_groups.specs.Pieces.{in_store, pieces, within}
+use Rattle.jxlm_groups.specs.declared.part.SectionPart.{SectionPart}
+use Rattle.jxlm_groups.specs.declared.pass.Pass.{Pass}
 use Rattle.jxlm_groups.proofs.PieceFacts.{each_inside}
 use Rattle.jxlm_header.specs.declared.header.ModularHeader.{ModularHeader}
 use Rattle.jxlm_nested.specs.Opened.{IsOpened, steps_of_header}
@@ -34,7 +36,7 @@ piece_ends dim passes l coded part sides ends =
     record { column = omega (arith, wide, column); row = omega (arith, high, row) })
 
 -- there are buffers of these sides
-fit : (sides : List Sides) → HasBuffers sides (zeros 0 sides)
+fit : (sides : List Sides) → HasBuffers {S = ℕ} sides (zeros 0 sides)
 fit [] = tt
 fit (s ∷ sides) = (record { same_width = refl; same_height = refl; full = length-replicate (s.width * s.height) 0 }, fit sides)
 
@@ -44,7 +46,7 @@ pub coded_sides : (given : List Channel) (old : PlacedChannels) (header : Modula
     GoesOn (steps_of_header header) old new → IsOpened (list_of old.channels) (header, new) → AreRegionsOf (infos new.channels.placed.items) (regions new.channels.placed.items)
 coded_sides given old header new list first goes opened =
     let steps = steps_of_header header in
-    let store = zeros 0 (buffers_of given steps) in
+    let store : List (Grid ℕ) = zeros 0 (buffers_of given steps) in
     let here = lie_first given steps store (fit (buffers_of given steps)) in
     let leaves = subst (λ (l : ChannelList). list_after_all steps l ≡ Ok (list_of new.channels)) list opened.leaves in
     let there = (lie_after_all steps (record { channels = given; nb_meta = 0 }) (list_of new.channels) (first_layout given) store leaves opened.steps here.0 here.1).0 in

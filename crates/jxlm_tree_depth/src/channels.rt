@@ -1,8 +1,7 @@
 //! The channels of an image, given and coded, for which headers are read.
 
-ghost use Rattle.std.specs.Prelude.{◌≡◌, IfOk};
+ghost use Rattle.std.specs.Prelude.{◌≡◌, IfOk, IfSome};
 ghost use Rattle.std.specs.List.{All};
-ghost use Rattle.jxlm_transform.specs.Channels.{AreRegionsOf, IsNarrow, infos, regions};
 ghost use Rattle.jxlm_transform.specs.Params.{IsGroupDim};
 
 use crate::depth::{is_deeper, is_memory, uses_global};
@@ -26,8 +25,6 @@ pub struct GivenChannels {
     pub channels: Vec<ModularChannelInfo>,
     /// The side of a group.
     pub group_dim: u32,
-    ghost narrow: { All IsNarrow channels.items },
-    ghost groups: { IsGroupDim group_dim },
 }
 
 /// The coded channels that an image's header leaves of the given ones, cut into groups.
@@ -39,9 +36,6 @@ pub struct CodedChannels {
     pub group_dim: u32,
     /// The passes by which the groups are numbered.
     pub passes: Vec<Pass>,
-    ghost narrow: { All IsNarrow (infos channels.placed.items) },
-    ghost sides: { AreRegionsOf (infos channels.placed.items) (regions channels.placed.items) },
-    ghost groups: { IsGroupDim group_dim },
 }
 
 impl GivenChannels {
@@ -54,7 +48,7 @@ impl GivenChannels {
     ghost use Rattle.jxlm_transform.specs.Lists.{layout_of, list_of};
     ghost use Rattle.jxlm_transform.specs.Params.{IsValidChannel};
     ghost use Rattle.jxlm_tree_depth.specs.Depths.{DepthSays};
-    ghost use Rattle.jxlm_tree_depth.specs.Openings.{OpensCoded};
+    ghost use Rattle.jxlm_tree_depth.specs.Openings.{AreCoded, AreGiven, OpensCoded};
 
     /// The channels of these parameters.
     pub fn new(
@@ -66,6 +60,7 @@ impl GivenChannels {
         requires groups { IsGroupDim group_dim }
         ensures channels { IfOk result (λ given. nested_list given.channels.items ≡ image_list params.now) }
         ensures group_dim { IfOk result (λ given. given.group_dim ≡ group_dim) }
+        ensures given { IfOk result AreGiven }
     {
         match image_channels(alloc, params) {
             Ok(channels) => Ok(GivenChannels {
@@ -97,6 +92,7 @@ impl GivenChannels {
         global: Option<&MaConfig<D>>,
         deepest: u64,
     ) -> Result<bool, OutOfMemory>
+        requires { AreGiven self.now }
         ensures { IfOk result (DepthSays D.meaning (option_copied global.entry) (nested_list self.now.channels.items)
             deepest (bytes_of bits.entry) (position_of bits.entry)) }
     {
@@ -115,13 +111,16 @@ impl GivenChannels {
         passes: Vec<Pass>,
         has_global: bool,
     ) -> Result<Option<CodedChannels>, OutOfMemory>
-        ensures { IfOk result (OpensCoded has_global (nested_list self.now.channels.items) self.now.group_dim
-            passes.entry.items (bytes_of bits.entry) (position_of bits.entry)) }
+        requires { AreGiven self.now }
+        ensures opens { IfOk result (OpensCoded has_global (nested_list self.now.channels.items) self.now.group_dim
+            passes.items (bytes_of bits.entry) (position_of bits.entry)) }
+        ensures coded { IfOk result (λ made. IfSome made AreCoded) }
     {
         let whole = self.whole(alloc)?;
         let mut ahead = bits;
         match open(alloc, &mut ahead, whole, has_global) {
-            Ok((_, placed)) => {
+            Ok((header, placed)) => {
+                drop(header);
                 let PlacedChannels { channels, .. } = placed;
                 Ok(Some(CodedChannels {
                     channels,
@@ -143,12 +142,14 @@ impl CodedChannels {
     ghost use Rattle.std.specs.Option.{option_copied};
     ghost use Rattle.jxlm_bits.specs.Bits.{bytes_of, position_of};
     ghost use Rattle.jxlm_chain.specs.Placed.{IsPlaced};
+    ghost use Rattle.jxlm_transform.specs.Channels.{IsNarrow, infos};
     ghost use Rattle.jxlm_transform.specs.Lists.{list_of};
     ghost use Rattle.jxlm_tree_depth.specs.Depths.{DepthSays};
-    ghost use Rattle.jxlm_tree_depth.specs.Openings.{list_of_part};
+    ghost use Rattle.jxlm_tree_depth.specs.Openings.{AreCoded, list_of_part};
 
     // What a part has of the channels, as a header of its own finds it.
     fn part(&self, alloc: Global, part: SectionPart) -> Result<PlacedChannels, OutOfMemory>
+        requires { AreCoded self.now }
         ensures list { IfOk result (λ p. list_of p.channels ≡ list_of_part self.now.group_dim self.now.passes.items
             (list_of self.now.channels) part) }
         ensures narrow { IfOk result (λ p. All IsNarrow (infos p.channels.placed.items)) }
@@ -173,6 +174,7 @@ impl CodedChannels {
         global: Option<&MaConfig<D>>,
         deepest: u64,
     ) -> Result<bool, OutOfMemory>
+        requires { AreCoded self.now }
         ensures { IfOk result (DepthSays D.meaning (option_copied global.entry) (list_of_part self.now.group_dim
             self.now.passes.items (list_of self.now.channels) part) deepest (bytes_of bits.entry)
             (position_of bits.entry)) }

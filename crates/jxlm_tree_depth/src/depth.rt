@@ -56,11 +56,11 @@ fn tree_depth<D: Decoder>(
     requires narrow { All IsNarrow (list_of given.channels).channels }
     requires placed { IsPlaced given }
     ensures depth { IfOk result (λ n. (own : Start D.meaning (option_copied global.entry) (bytes_of bits.old)
-        (list_of given.entry.channels) (position_of bits.old)) × (n ≡ depth own.config.tree)) }
+        (list_of given.channels) (position_of bits.old)) × (n ≡ depth own.config.tree)) }
     ensures err { IfErr result (λ e. UnlessMemory (kind_of e) (IsErrorAt (opening_at (option_copied global.entry)
-        (bytes_of bits.old) (list_of given.entry.channels) (position_of bits.old)) (kind_of e)
+        (bytes_of bits.old) (list_of given.channels) (position_of bits.old)) (kind_of e)
         (position_of bits.new) ⊎ IsTreeErrorAt D.meaning (option_copied global.entry) (bytes_of bits.old)
-        (list_of given.entry.channels) (position_of bits.old) (kind_of e) (position_of bits.new))) }
+        (list_of given.channels) (position_of bits.old) (kind_of e) (position_of bits.new))) }
 {
     let (header, placed) = open(alloc, bits, given, global.is_some())?;
     let config = tree_of(alloc, bits, &header, &placed.channels.placed, global)?;
@@ -78,7 +78,7 @@ pub(crate) fn is_deeper<D: Decoder>(
 ) -> std::result::Result<bool, OutOfMemory>
     requires narrow { All IsNarrow (list_of given.channels).channels }
     requires placed { IsPlaced given }
-    ensures { IfOk result (TreeSays D.meaning (option_copied global.entry) (list_of given.entry.channels) deepest
+    ensures { IfOk result (TreeSays D.meaning (option_copied global.entry) (list_of given.channels) deepest
         (bytes_of bits.entry) (position_of bits.entry)) }
 {
     let mut ahead = bits;

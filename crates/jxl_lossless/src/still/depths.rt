@@ -7,7 +7,7 @@ ghost use Rattle.jxlm_bits.specs.Bits.{bytes_of, position_of};
 ghost use Rattle.jxlm_groups.specs.Passes.{passes_of};
 ghost use Rattle.jxlm_nested.specs.NestedParts.{nested_list};
 ghost use Rattle.jxlm_transform.specs.Lists.{list_of};
-ghost use Rattle.jxlm_tree_depth.specs.Openings.{list_of_part};
+ghost use Rattle.jxlm_tree_depth.specs.Openings.{AreCoded, AreGiven, list_of_part};
 ghost use Rattle.jxl_lossless.specs.Inner.Depths.{SectionSays, SectionsSay, TreesSay, UsesGlobal};
 
 use jxl_modular::sections::Section;
@@ -52,6 +52,7 @@ fn is_deep<D: Decoder>(
     global: Option<&MaConfig<D>>,
     deepest: u64,
 ) -> Result<bool, OutOfMemory>
+    requires coded { AreCoded coded.now }
     ensures { IfOk result (SectionSays D.meaning (option_copied global.entry) (list_of_part coded.now.group_dim
         coded.now.passes.items (list_of coded.now.channels)) deepest section.now) }
 {
@@ -69,6 +70,7 @@ fn some_section_deep<D: Decoder>(
     global: Option<&MaConfig<D>>,
     deepest: u64,
 ) -> Result<bool, OutOfMemory>
+    requires coded { AreCoded coded.now }
     ensures { IfOk result (SectionsSay D.meaning (option_copied global.entry) (list_of_part coded.now.group_dim
         coded.now.passes.items (list_of coded.now.channels)) deepest sections.now) }
 {
@@ -92,6 +94,7 @@ pub(crate) fn some_deep<D: Decoder>(
     global: Option<&MaConfig<D>>,
     deepest: u64,
 ) -> Result<bool, OutOfMemory>
+    requires given { AreGiven given.now }
     ensures { IfOk result (TreesSay D.meaning (option_copied global.entry) (nested_list given.now.channels.items)
         given.now.group_dim (bytes_of first.entry) (position_of first.entry) (passes_of pass_shifts.now.entries)
         deepest sections.now) }
