@@ -103,6 +103,9 @@ pub fn decode_frame<'a, S: Sample, D: Decoder, P: Progress>(
         params.entry.bit_depth (bytes_of first.entry) (position_of first.entry) (own_passes places.entry)
         (section_at places.entry) deepest) }
 {
+    if params.channels.is_empty() {
+        return Ok(None);
+    }
     let global = params.ma_config;
     let given = GivenChannels::new(alloc, &params.channels, params.group_dim)?;
     let mut bits = first;

@@ -21,8 +21,8 @@ returns-then-all_use_global g c = λ head q e. (
   all_global g.D.Decoder.meaning (option_copied c.args.global) (list_of_part c.args.given.now.group_dim (passes_of c.args.pass_shifts.now.entries) head.coded.list) c.args.deepest c.args.sections.now (c.all_use_global.ensures c.if-all_use_global.true),
 )
 
-pub some_section_deep-requires-clause-coded : goal.some_section_deep-requires-clause-coded
-some_section_deep-requires-clause-coded g c = at_some AreCoded c.in_ok-opened.opened c.in-Some.coded c.in-Some.is c.in_ok-opened.ensures.coded
+pub some_section_deep-requires : goal.some_section_deep-requires
+some_section_deep-requires g c = record { coded = at_some AreCoded c.in_ok-opened.opened c.in-Some.coded c.in-Some.is c.in_ok-opened.ensures.coded }
 
 pub returns-in-Some : goal.returns-in-Some
 returns-in-Some g c =
