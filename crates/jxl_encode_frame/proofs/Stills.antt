@@ -182,6 +182,7 @@ module _ {D : Type 0} (d : Meaning D) (w : Width) (config : Config D) (ps : List
   IsShallow s = IsShallowAt d (Some config) (list_in x passes s.part) deepest (bytes_of s.bits) 0
 
   listed_shallow : (qs : List SectionPart) (all : All IsOne qs) → All IsShallow (listed qs all)
+  unfolding group_nested
   listed_shallow [] all = All-nil IsShallow
   listed_shallow (q ∷ qs) all =
       let g = All-head IsOne q qs all in

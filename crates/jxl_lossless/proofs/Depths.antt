@@ -1,5 +1,5 @@
 -- What the comparison of trees with the limit says.
-use Rattle.std.proofs.Common.{◌≡◌, ◌∙◌, zero, suc, ◌<◌, inl, inr, Bool, true, false, not, IsTrue, ℕ, List, ◌∷◌, Option, Some, None, is_some, Result, Ok, Err, ap, refl, subst, sym, arith}
+use Rattle.std.proofs.Common.{◌≡◌, ◌∙◌, zero, suc, inl, inr, Bool, true, false, not, IsTrue, ℕ, List, ◌∷◌, Option, Some, None, is_some, Result, Ok, Err, ap, refl, subst, sym, arith}
 use Rattle.std.specs.Prelude.{Any, IfOk, ◌↔◌}
 use Rattle.std.specs.List.{All}
 use Rattle.jxlm_bits.specs.Bits.{bytes_of, position_of}

@@ -1,5 +1,5 @@
 -- What decoding a frame gives.
-use Rattle.std.proofs.Common.{◌≡◌, ◌∙◌, ℕ, pos, ℤ, List, [], get_or, length, Option, Result, Ok, Err, ap, sym, subst}
+use Rattle.std.proofs.Common.{◌≡◌, ◌∙◌, ℕ, ℤ, List, [], get_or, length, Option, Result, Ok, Err, ap, sym, subst}
 use Rattle.std.specs.Prelude.{IfErr, IfOk}
 use Rattle.std.specs.Int.{w32}
 use Rattle.jxlm_bits.specs.Decoding.{Found, Meaning}

@@ -40,7 +40,7 @@ use Rattle.jxl_lossless.specs.Places.{own_passes, section_at}
 use Rattle.jxl_lossless.proofs.Complete.{all_ones, complete, each_one, exist, sections_in_order, unlike}
 use Rattle.jxl_lossless.proofs.Order.{streams_rise}
 use Rattle.jxl_lossless.proofs.Weighted.{all_plain, none_there, some_weighted, stands_there}
-use Rattle.jxl_lossless.specs.Stills.{AreShallow, CanDecode, HasSections, HeaderStands, IsDeepAt, IsShallowAt, IsStill, OneIsDeep, StillFails}
+use Rattle.jxl_lossless.specs.Stills.{AreShallow, CanDecode, HasSections, HeaderStands, IsDeepAt, IsShallowAt, IsStill, StillFails}
 use Rattle.jxl_lossless.specs.Inner.Depths.{DepthsSay, IsDeep, IsShallow, SectionsSay, TreesSay}
 use Rattle.jxl_lossless.specs.Inner.Listing.{AreListed, IsOfGroup, Lacks, ListingFails, SamplesStop}
 use Rattle.jxl_lossless.specs.Inner.Openings.{OpenFails, Opens}

@@ -1,5 +1,5 @@
 -- What the first section of a frame and those of its groups code, or why they do not, from a bit position on.
-use Rattle.std.specs.Prelude.{ℕ, pos, ℤ, List, length, Option}
+use Rattle.std.specs.Prelude.{ℕ, ℤ, List, length, Option}
 use Rattle.std.specs.Int.{Width, w32}
 use Rattle.jxlm_bits.specs.Decoding.{Meaning}
 use Rattle.jxlm_bits.specs.ErrorKind.{UnlessMemory, kind_of}

@@ -1,5 +1,5 @@
 -- How deep the trees of a frame's sections are, as the code compares them.
-use Rattle.std.specs.Prelude.{◌≡◌, ℕ, ◌⊎◌, List, Any, Bool, true, false, MatchBool, Option, Ok, is_some}
+use Rattle.std.specs.Prelude.{◌≡◌, ℕ, ◌⊎◌, List, Any, Bool, true, false, MatchBool, Option, Ok}
 use Rattle.std.specs.List.{All}
 use Rattle.jxlm_bits.specs.Bits.{bytes_of, position_of}
 use Rattle.jxlm_bits.specs.Decoding.{Meaning}

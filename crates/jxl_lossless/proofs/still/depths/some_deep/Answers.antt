@@ -1,4 +1,4 @@
-use Rattle.std.proofs.Common.{◌≡◌, ◌∙◌, inl, false, true, Bool, None, Option, Some, is_some, subst, sym}
+use Rattle.std.proofs.Common.{◌≡◌, ◌∙◌, inl, false, None, Option, Some, is_some, subst, sym}
 use Rattle.std.specs.Option.{option_copied}
 use Rattle.jxlm_bits.specs.Bits.{bytes_of, position_of}
 use Rattle.jxlm_groups.specs.Passes.{passes_of}
