@@ -41,11 +41,11 @@ coding_frame {D} d image slots bytes frame grids fit c before =
     let given = subst (λ (l : ChannelList). AreSections d w32 c.config l frame.header.group_dim (passes_of (pass_shifts frame.header.passes)) c.first c.end
     (section_of (layout_in image frame.header) (sections_in bytes frame)) grids) (sym are) of_size in
     let (after, still) = sections_still d w32 c.config _ frame.header.group_dim image.bit_depth.bits_per_sample (passes_of (pass_shifts frame.header.passes)) (layout_in image frame.header) c.first c.end
-    (sections_in bytes frame) grids ok one can given before in
+    (sections_in bytes frame) frame.deepest grids c.within ok one can given before in
     let own = subst (λ (l : ChannelList). IsStill d w32 (Some c.config) l frame.header.group_dim image.bit_depth.bits_per_sample c.first c.end (passes_of (pass_shifts frame.header.passes))
-    (section_of (layout_in image frame.header) (sections_in bytes frame)) grids before after) are still in
+    (section_of (layout_in image frame.header) (sections_in bytes frame)) frame.deepest grids before after) are still in
     let there = subst (λ (b : List ℕ). IsStill d w32 (Some c.config) (channels_given image size) frame.header.group_dim image.bit_depth.bits_per_sample b c.end (passes_of (pass_shifts frame.header.passes))
-    (section_of (layout_in image frame.header) (sections_in bytes frame)) grids before after) c.first_is own in
+    (section_of (layout_in image frame.header) (sections_in bytes frame)) frame.deepest grids before after) c.first_is own in
     let shared : SharedTree d c.size (channel_count image) frame.deepest c.first 0 (Some c.config) c.end =
     record { there = true; begin = c.tree_at; start = c.start; tree = (c.config, refl, c.tree, c.within) } in (
       after,

@@ -1,5 +1,5 @@
 -- Sections that were written are a frame.
-use Rattle.std.proofs.Common.{◌≡◌, ◌≢◌, ◌↔◌, ℕ, zero, suc, ◌+◌, ◌*◌, ◌/◌, ◌%◌, ◌<◌, ◌≤◌, ℤ, pos, List, [], ◌∷◌, length, map, get_or, true, false, Option, Some, None, Ok, refl, sym, ap, ◌∙◌, subst, arith}
+use Rattle.std.proofs.Common.{◌≡◌, ◌≢◌, ◌↔◌, ℕ, zero, suc, ◌+◌, ◌*◌, ◌/◌, ◌%◌, ◌<◌, ◌≤◌, ℤ, pos, List, [], ◌∷◌, length, map, get_or, true, false, inl, inr, Option, Some, None, Ok, refl, sym, ap, ◌∙◌, subst, arith}
 use Rattle.std.specs.Prelude.{Any, IsTrue, sum}
 use Rattle.std.specs.Int.{Width}
 use Rattle.std.specs.List.{All, AllPairs, AllZip}
@@ -33,11 +33,11 @@ use Rattle.jxlm_encode_write.specs.Laws.{IsWritten}
 use Rattle.jxl_modular.specs.Groups.{channels_in, part_in, pieces_of}
 use Rattle.jxl_modular.specs.Image.{Image}
 use Rattle.jxlm_section_split.specs.CutPicture.{image_by}
-use Rattle.jxl_modular.specs.Sections.{CodesNested, CodesPart, CodesWhole, IsComplete}
+use Rattle.jxl_modular.specs.Sections.{CodesNested, CodesPart, CodesWhole, IsComplete, list_in}
 use Rattle.jxl_modular.specs.declared.sections.Section.{Section}
 use Rattle.jxl_codestream.specs.Layouts.{Layout}
 use Rattle.jxl_lossless.specs.Sections.{section_of}
-use Rattle.jxl_lossless.specs.Stills.{HeaderStands, IsStill, IsWeightedAt}
+use Rattle.jxl_lossless.specs.Stills.{HeaderStands, IsShallowAt, IsStill, IsWeightedAt}
 use Rattle.jxl_lossless.proofs.Complete.{all_ones, complete, each_one, sections_in_order}
 use Rattle.jxl_lossless.proofs.Order.{Before, Ordered}
 use Rattle.jxl_encode_image.specs.Preparations.{shared_header}
@@ -51,7 +51,7 @@ use Rattle.jxl_encode_frame.proofs.Streams.{streams_rise}
 use Rattle.jxl_encode_frame.proofs.Within.{header_ends}
 
 module _ {D : Type 0} (d : Meaning D) (w : Width) (config : Config D) (ps : List ModularChannelParams) (group_dim bit_depth : ℕ)
-    (passes : List Pass) (layout : Layout) (first : List ℕ) (p : ℕ) (sections : List (List ℕ)) (image : List (Grid ℤ))
+    (passes : List Pass) (layout : Layout) (first : List ℕ) (p : ℕ) (sections : List (List ℕ)) (deepest : ℕ) (image : List (Grid ℤ)) (low : depth config.tree ≤ deepest)
     (valid : All IsValidChannel ps) (one : IsTrue (one_picture (image_list ps).channels)) (can : IsTrue (can_group passes []))
     (c : AreSections d w config (image_list ps) group_dim passes first p (section_of layout sections) image) where
   abbrev given : ChannelList
@@ -178,13 +178,23 @@ module _ {D : Type 0} (d : Meaning D) (w : Width) (config : Config D) (ps : List
   global_codes : Codes of_global (cost (channels_in x passes parts.Global))
   global_codes = global_whole
 
+  abbrev IsShallow : Section → Type 0
+  IsShallow s = IsShallowAt d (Some config) (list_in x passes s.part) deepest (bytes_of s.bits) 0
+
+  listed_shallow : (qs : List SectionPart) (all : All IsOne qs) → All IsShallow (listed qs all)
+  unfolding group_nested
+  listed_shallow [] all = All-nil IsShallow
+  listed_shallow (q ∷ qs) all =
+      let g = All-head IsOne q qs all in
+      All-cons IsShallow (of_part q g) (listed qs (All-tail IsOne q qs all)) (inr (inl ((group_nested q g).start, low))) (listed_shallow qs (All-tail IsOne q qs all))
+
   -- ---- all of them
 
   abbrev chain_given : Chain w bit_depth x.steps given image c.ready.samples
   chain_given = c.ready.chain bit_depth
 
   abbrev Still : ℕ → ℕ → Type 0
-  Still before after = IsStill d w (Some config) given group_dim bit_depth first p passes (section_of layout sections) image before after
+  Still before after = IsStill d w (Some config) given group_dim bit_depth first p passes (section_of layout sections) deepest image before after
 
   made : (qs : List SectionPart) (ones : All IsOne qs) → ((part : SectionPart) → IsOne part ↔ Any (λ s. s.part ≡ part) (listed qs ones)) →
       AllPairs (λ s t. s.stream_index < t.stream_index) (listed qs ones) → IsComplete x passes (of_global ∷ listed qs ones) → (before : ℕ) → Still before before
@@ -204,6 +214,7 @@ module _ {D : Type 0} (d : Meaning D) (w : Width) (config : Config D) (ps : List
       goes_on = place_is first c.global.samples_at header_within;
       is = refl;
     };
+    shallow = record { image = inr (inl (stands.start, low)); groups = listed_shallow qs ones };
     decoded = record {
       coded = c.ready.samples;
       sizes = prepared_sides w given image c.ready;
@@ -239,5 +250,5 @@ module _ {D : Type 0} (d : Meaning D) (w : Width) (config : Config D) (ps : List
   )
 
 pub sections_still : {D : Type 0} (d : Meaning D) (w : Width) → SectionsAreStill d w
-sections_still d w config ps group_dim bit_depth passes layout first p sections image valid one can c before =
-    still d w config ps group_dim bit_depth passes layout first p sections image valid one can c before
+sections_still d w config ps group_dim bit_depth passes layout first p sections deepest image low valid one can c before =
+    still d w config ps group_dim bit_depth passes layout first p sections deepest image low valid one can c before

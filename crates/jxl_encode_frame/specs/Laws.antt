@@ -14,7 +14,7 @@ use Rattle.jxlm_transform.specs.ChannelSteps.{CodedList}
 use Rattle.jxlm_transform.specs.Params.{IsSide, IsValidChannel}
 use Rattle.jxlm_transform.specs.declared.param.ModularChannelParams.{ModularChannelParams}
 use Rattle.jxlm_transform.specs.Transforms.{Transform}
-use Rattle.jxlm_tree.specs.Tree.{Config}
+use Rattle.jxlm_tree.specs.Tree.{Config, depth}
 use Rattle.jxlm_encode.specs.Encoded.{AreAccepted}
 use Rattle.jxlm_section_split.specs.CutPicture.{one_pass}
 use Rattle.jxl_image_header.specs.declared.size.Size.{Size}
@@ -42,14 +42,14 @@ OneSectionIsAll {D} d = (w : Width) (config : Config D) (given : List ModularCha
     (section_of : SectionPart → Option (List ℕ × ℕ)) (image : List (Grid ℤ)) →
     IsOneSection d w config (image_list given) group_dim bytes p image → AreSections d w config (image_list given) group_dim passes bytes p section_of image
 
--- The sections of an image are a frame of it, as the decoder defines it: its channels are of one picture, and the passes can cut
--- it.
+-- The sections of an image are a frame of it, as the decoder defines it: its channels are of one picture, the passes can cut it,
+-- and the tree that they share is not too deep.
 abbrev pub SectionsAreStill : {D : Type 0} → Meaning D → Width → Type 0
 SectionsAreStill {D} d w = (config : Config D) (given : List ModularChannelParams) (group_dim bit_depth : ℕ) (passes : List Pass) (layout : Layout)
-    (first : List ℕ) (p : ℕ) (sections : List (List ℕ)) (image : List (Grid ℤ)) →
+    (first : List ℕ) (p : ℕ) (sections : List (List ℕ)) (deepest : ℕ) (image : List (Grid ℤ)) → depth config.tree ≤ deepest →
     All IsValidChannel given → IsTrue (one_picture (image_list given).channels) → IsTrue (can_group passes []) →
     AreSections d w config (image_list given) group_dim passes first p (section_of layout sections) image → (before : ℕ) → (after : ℕ) ×
-    IsStill d w (Some config) (image_list given) group_dim bit_depth first p passes (section_of layout sections) image before after
+    IsStill d w (Some config) (image_list given) group_dim bit_depth first p passes (section_of layout sections) deepest image before after
 
 -- the channel is of a picture of this size
 abbrev pub IsOfSize : Size → ModularChannelParams → Type 0

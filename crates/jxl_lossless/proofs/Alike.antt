@@ -9,12 +9,12 @@ use Rattle.jxlm_tree.specs.Tree.{Config}
 use Rattle.jxlm_transform.specs.Channels.{ChannelList}
 use Rattle.jxlm_groups.specs.declared.part.SectionPart.{SectionPart}
 use Rattle.jxlm_groups.specs.declared.pass.Pass.{Pass}
-use Rattle.jxl_lossless.specs.Stills.{CanDecode, HasSections, HeaderStands, IsStill, StillFails}
+use Rattle.jxl_lossless.specs.Stills.{AreShallow, CanDecode, HasSections, HeaderStands, IsStill, StillFails}
 use Rattle.jxl_lossless.specs.declared.still.error.FrameError.{FrameError}
 use Rattle.jxl_lossless.specs.declared.still.error.FrameError.TheVariants as errors
 
 module _ {D : Type 0} (d : Meaning D) (w : Width) (global : Option (Config D)) (given : ChannelList) (group_dim bit_depth : ℕ) (bytes : List ℕ) (p : ℕ)
-    (passes : List Pass) (one other : SectionPart → Option (List ℕ × ℕ)) (alike : (part : SectionPart) → one part ≡ other part) where
+    (passes : List Pass) (deepest : ℕ) (one other : SectionPart → Option (List ℕ × ℕ)) (alike : (part : SectionPart) → one part ≡ other part) where
   abbrev Stands : (SectionPart → Option (List ℕ × ℕ)) → Type 0
   Stands f = HeaderStands d w global given group_dim bit_depth bytes p passes f
 
@@ -25,7 +25,7 @@ module _ {D : Type 0} (d : Meaning D) (w : Width) (global : Option (Config D)) (
   Can f = CanDecode d w global given group_dim bit_depth bytes p passes f
 
   abbrev Fails : (SectionPart → Option (List ℕ × ℕ)) → FrameError → Type 0
-  Fails f = StillFails d w global given group_dim bit_depth bytes p passes f
+  Fails f = StillFails d w global given group_dim bit_depth bytes p passes f deepest
 
   abbrev stands_too : Stands one → Stands other
   stands_too s = record { plain = s.plain; start = s.start }
@@ -43,10 +43,13 @@ module _ {D : Type 0} (d : Meaning D) (w : Width) (global : Option (Config D)) (
   abbrev can_too : Can one → Can other
   can_too s = record { has = has_too s.has; plain = s.plain; first = s.first; bytes_are = s.bytes_are; goes_on = s.goes_on; is = s.is }
 
+  shallow_too : (s : Can one) → AreShallow d w global given group_dim bit_depth bytes p passes one deepest s → AreShallow d w global given group_dim bit_depth bytes p passes other deepest (can_too s)
+  shallow_too s h = record { image = h.image; groups = h.groups }
+
   -- the channels of a frame
-  pub still_too : (grids : List (Grid ℤ)) (before after : ℕ) → IsStill d w global given group_dim bit_depth bytes p passes one grids before after →
-      IsStill d w global given group_dim bit_depth bytes p passes other grids before after
-  still_too grids before after s = record { can = can_too s.can; decoded = s.decoded }
+  pub still_too : (grids : List (Grid ℤ)) (before after : ℕ) → IsStill d w global given group_dim bit_depth bytes p passes one deepest grids before after →
+      IsStill d w global given group_dim bit_depth bytes p passes other deepest grids before after
+  still_too grids before after s = record { can = can_too s.can; shallow = shallow_too s.can s.shallow; decoded = s.decoded }
 
   -- why it has none
   pub fails_too : (e : FrameError) → Fails one e → Fails other e
@@ -55,5 +58,6 @@ module _ {D : Type 0} (d : Meaning D) (w : Width) (global : Option (Config D)) (
   fails_too errors.NoGroups h = (stands_too h.0, h.1)
   fails_too errors.NoSection h = let (s, cut, part, is, none) = h in (stands_too s, cut, part, is, sym (alike part) ∙ none)
   fails_too errors.GroupWeightedPalette h = (has_too h.0, h.1)
-  fails_too (errors.Samples e) h = unless_so (kind_of e) (λ f. let (s, coded, failing, others, is, all, fails) = f in (can_too s, coded, failing, others, is, all, fails)) h
+  fails_too errors.TooManyDecisions h = (can_too h.0, h.1)
+  fails_too (errors.Samples e) h = unless_so (kind_of e) (λ f. let (s, shallow, coded, failing, others, is, all, fails) = f in (can_too s, shallow_too s shallow, coded, failing, others, is, all, fails)) h
   fails_too errors.OutOfMemory h = tt

@@ -1,5 +1,5 @@
 -- What stopping sections say by their bits alone: which are coded, and how the next one fails.
-use Rattle.std.proofs.Common.{◌≡◌, ◌∙◌, ℕ, ◌+◌, ◌*◌, ◌<◌, pos, Bool, true, false, inl, inr, List, [], ◌∷◌, ◌++◌, Ok, Err, ℤ, Result, refl, sym, ap, subst}
+use Rattle.std.proofs.Common.{◌≡◌, ◌∙◌, ℕ, ◌+◌, ◌*◌, pos, Bool, true, false, inl, inr, List, [], ◌∷◌, ◌++◌, Ok, Err, ℤ, Result, refl, sym, ap, subst}
 use Rattle.std.specs.Prelude.{◌⊎◌, MatchBool, Option, nat_lt}
 use Rattle.std.specs.Int.{Width}
 use Rattle.std.specs.List.{All}

@@ -1,5 +1,5 @@
 -- What decoding a frame gives.
-use Rattle.std.proofs.Common.{◌≡◌, ◌∙◌, ℕ, pos, ℤ, List, [], get_or, length, Option, Result, Ok, Err, ap, sym, subst}
+use Rattle.std.proofs.Common.{◌≡◌, ◌∙◌, ℕ, ℤ, List, [], get_or, length, Option, Result, Ok, Err, ap, sym, subst}
 use Rattle.std.specs.Prelude.{IfErr, IfOk}
 use Rattle.std.specs.Int.{w32}
 use Rattle.jxlm_bits.specs.Decoding.{Found, Meaning}
@@ -82,20 +82,20 @@ module _ {D : Type 0} (d : Meaning D) (image : Image) (slots : Slots) (bytes : L
   its = section_of (layout_in image frame.header) (sections_in bytes frame)
 
   abbrev Still : Option (Config D) → ℕ → List Pass → (SectionPart → Option (List ℕ × ℕ)) → List (Grid ℤ) → ℕ → ℕ → Type 0
-  Still global begin ps f = IsStill d w32 global (channels_given image size) frame.header.group_dim image.bit_depth.bits_per_sample first begin ps f
+  Still global begin ps f = IsStill d w32 global (channels_given image size) frame.header.group_dim image.bit_depth.bits_per_sample first begin ps f frame.deepest
 
   abbrev Fails : Option (Config D) → ℕ → List Pass → (SectionPart → Option (List ℕ × ℕ)) → FrameError → Type 0
-  Fails global begin ps f = StillFails d w32 global (channels_given image size) frame.header.group_dim image.bit_depth.bits_per_sample first begin ps f
+  Fails global begin ps f = StillFails d w32 global (channels_given image size) frame.header.group_dim image.bit_depth.bits_per_sample first begin ps f frame.deepest
 
   -- the places are those of the frame
   still_of : (global : Option (Config D)) (begin : ℕ) (grids : List (Grid ℤ)) (before after : ℕ) → Still global begin (own_passes places) (section_at places) grids before after → Still global begin told its grids before after
   still_of global begin grids before after s =
-      still_too d w32 global (channels_given image size) frame.header.group_dim image.bit_depth.bits_per_sample first begin told (section_at places) its alike grids before after
+      still_too d w32 global (channels_given image size) frame.header.group_dim image.bit_depth.bits_per_sample first begin told frame.deepest (section_at places) its alike grids before after
       (subst (λ (ps : List Pass). Still global begin ps (section_at places) grids before after) (ap passes_of passes) s)
 
   fails_of : (global : Option (Config D)) (begin : ℕ) (e : FrameError) → Fails global begin (own_passes places) (section_at places) e → Fails global begin told its e
   fails_of global begin e s =
-      fails_too d w32 global (channels_given image size) frame.header.group_dim image.bit_depth.bits_per_sample first begin told (section_at places) its alike e
+      fails_too d w32 global (channels_given image size) frame.header.group_dim image.bit_depth.bits_per_sample first begin told frame.deepest (section_at places) its alike e
       (subst (λ (ps : List Pass). Fails global begin ps (section_at places) e) (ap passes_of passes) s)
 
   abbrev has_patches : (patches : Option Patches) (begin : ℕ) → BeginsWith d image slots frame.header first patches begin → HasPatches d image slots bytes frame

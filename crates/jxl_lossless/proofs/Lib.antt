@@ -11,6 +11,7 @@ pub mod Alike
 pub mod Complete
 pub mod Channels
 pub mod Cuts
+pub mod Depths
 pub mod Frames
 pub mod FrameSections
 pub mod Holding

@@ -24,6 +24,7 @@ of_all x image (errors.Header e) cut h = absurd h
 of_all x image errors.WeightedPalette cut h = absurd h
 of_all x image errors.NoGroups cut h = absurd h
 of_all x image errors.GroupWeightedPalette cut h = absurd h
+of_all x image errors.TooManyDecisions cut h = absurd h
 of_all x image (errors.Samples e) cut h = absurd h
 
 module _ {S D : Type 0} (x : Places) where

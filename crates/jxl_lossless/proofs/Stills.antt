@@ -1,8 +1,9 @@
 -- A frame from the sections that were listed, or why there is none.
-use Rattle.std.proofs.Common.{◌≡◌, IsTrue, ℕ, pos, Bool, true, false, ℤ, List, [], ◌∷◌, get_or, Option, Some, is_some, Result, Ok, sym, ap, ◌∙◌, subst}
+use Rattle.std.proofs.Common.{◌≡◌, IsTrue, ℕ, pos, Bool, true, false, ℤ, List, [], ◌∷◌, get_or, inl, inr, Option, Some, is_some, Result, Ok, sym, ap, ◌∙◌, subst}
 use Rattle.std.specs.Int.{Width}
 use Rattle.std.specs.Prelude.{◌&&◌, ◌||◌, ◌↔◌, ◌<◌, Any, IsFalse}
 use Rattle.std.specs.List.{All, list_any}
+use Rattle.std.proofs.lemmas.List.Elements.{All-tail}
 use Rattle.jxlm_bits.specs.Bits.{bytes_of, position_of}
 use Rattle.jxlm_bits.specs.Decoding.{Meaning}
 use Rattle.jxlm_bits.specs.ErrorKind.{UnlessMemory, kind_of}
@@ -22,6 +23,7 @@ use Rattle.jxlm_groups.specs.declared.part.SectionPart.{SectionPart}
 use Rattle.jxlm_groups.specs.declared.part.SectionPart.TheVariants as parts
 use Rattle.jxlm_samples.specs.Part.{cell_count}
 use Rattle.jxlm_groups.specs.Passes.{can_group, one_picture}
+use Rattle.jxlm_tree_depth.specs.Openings.{list_of_part}
 use Rattle.jxl_modular.specs.Fresh.{fresh}
 use Rattle.jxl_modular.specs.Groups.{channels_in}
 use Rattle.jxl_modular.specs.Image.{Image, coded_list}
@@ -31,13 +33,15 @@ use Rattle.jxlm_section_split.proofs.Openings.{opened_steps}
 use Rattle.jxlm_section_split.proofs.Pictures.{still_picture}
 use Rattle.jxlm_section_split.proofs.Whole.{all_whole}
 use Rattle.jxlm_section_split.proofs.WithoutStore.{decoded_alone, storeless}
+use Rattle.jxl_lossless.proofs.Depths.{among_more}
 use Rattle.jxl_lossless.proofs.Failing.{FirstFails, first_fails}
 use Rattle.jxlm_groups.specs.declared.pass.Pass.{Pass}
 use Rattle.jxl_lossless.specs.Places.{own_passes, section_at}
 use Rattle.jxl_lossless.proofs.Complete.{all_ones, complete, each_one, exist, sections_in_order, unlike}
 use Rattle.jxl_lossless.proofs.Order.{streams_rise}
 use Rattle.jxl_lossless.proofs.Weighted.{all_plain, none_there, some_weighted, stands_there}
-use Rattle.jxl_lossless.specs.Stills.{CanDecode, HasSections, HeaderStands, IsStill, StillFails}
+use Rattle.jxl_lossless.specs.Stills.{AreShallow, CanDecode, HasSections, HeaderStands, IsDeepAt, IsShallowAt, IsStill, StillFails}
+use Rattle.jxl_lossless.specs.Inner.Depths.{DepthsSay, IsDeep, IsShallow, SectionsSay, TreesSay}
 use Rattle.jxl_lossless.specs.Inner.Listing.{AreListed, IsOfGroup, Lacks, ListingFails, SamplesStop}
 use Rattle.jxl_lossless.specs.Inner.Openings.{OpenFails, Opens}
 use Rattle.jxl_lossless.specs.Inner.Parts.{groups_in_order}
@@ -61,7 +65,7 @@ whole_decoded d w to_int zero x passes global sections whole grids before after 
 can_be_grouped : (passes : List Pass) (cs : List Channel) → IsTrue (can_group passes []) → IsTrue (one_picture cs) → IsTrue (can_group passes cs)
 can_be_grouped passes cs can one = rw one can
 
-module _ {S D : Type 0} (d : Meaning D) (w : Width) (to_int : S → ℤ) (zero : S) (global : Option (Config D)) (ps : List ModularChannelParams) (group_dim bit_depth : ℕ) (bytes : List ℕ) (p : ℕ) (places : Places) where
+module _ {S D : Type 0} (d : Meaning D) (w : Width) (to_int : S → ℤ) (zero : S) (global : Option (Config D)) (ps : List ModularChannelParams) (group_dim bit_depth : ℕ) (bytes : List ℕ) (p : ℕ) (places : Places) (deepest : ℕ) where
   abbrev given : ChannelList
   given = image_list ps
 
@@ -69,7 +73,7 @@ module _ {S D : Type 0} (d : Meaning D) (w : Width) (to_int : S → ℤ) (zero :
   passes = own_passes places
 
   abbrev Fails : FrameError → Type 0
-  Fails = StillFails d w global given group_dim bit_depth bytes p (own_passes places) (section_at places)
+  Fails = StillFails d w global given group_dim bit_depth bytes p (own_passes places) (section_at places) deepest
 
   abbrev Stands : Type 0
   Stands = HeaderStands d w global given group_dim bit_depth bytes p (own_passes places) (section_at places)
@@ -81,7 +85,7 @@ module _ {S D : Type 0} (d : Meaning D) (w : Width) (to_int : S → ℤ) (zero :
   Can = CanDecode d w global given group_dim bit_depth bytes p (own_passes places) (section_at places)
 
   abbrev Made : List (Grid ℤ) → ℕ → ℕ → Type 0
-  Made = IsStill d w global given group_dim bit_depth bytes p (own_passes places) (section_at places)
+  Made = IsStill d w global given group_dim bit_depth bytes p (own_passes places) (section_at places) deepest
 
   -- what holds of each of these parts holds of the one that has no section
   of_lacking : (P : SectionPart → Type 0) (ps : List SectionPart) → All P ps → (lacks : Lacks places ps) → P lacks.part
@@ -101,6 +105,7 @@ module _ {S D : Type 0} (d : Meaning D) (w : Width) (to_int : S → ℤ) (zero :
   open_fails errors.NoGroups h = absurd h
   open_fails errors.NoSection h = absurd h
   open_fails errors.GroupWeightedPalette h = absurd h
+  open_fails errors.TooManyDecisions h = absurd h
   open_fails (errors.Samples e) h = absurd h
 
   module _ (image : Image S D) (q : ℕ) (o : Opens d global given bytes p zero group_dim bit_depth image q) where
@@ -130,6 +135,7 @@ module _ {S D : Type 0} (d : Meaning D) (w : Width) (to_int : S → ℤ) (zero :
     list_fails (errors.Header e) h = absurd h
     list_fails errors.WeightedPalette h = absurd h
     list_fails errors.GroupWeightedPalette h = absurd h
+    list_fails errors.TooManyDecisions h = absurd h
     list_fails (errors.Samples e) h = absurd h
 
     module _ (bits : Bitstream) (bits_are : bytes_of bits ≡ bytes) (place : position_of bits ≡ q) (sections : List Section) (listed : AreListed places image bits sections) (cut : IsTrue (can_cut image.group_dim (coded_list image))) where
@@ -212,26 +218,68 @@ module _ {S D : Type 0} (d : Meaning D) (w : Width) (to_int : S → ℤ) (zero :
         pub weighted_fail : list_any section_is_weighted sections ≡ true → Fails errors.GroupWeightedPalette
         weighted_fail some = (has, some_weighted more begin_groups (sym weighted_are ∙ some))
 
+        -- what comparing the trees says of the image's header
+        abbrev Depths : Bool → Type 0
+        Depths b = DepthsSay d global (list_of_part group_dim passes o.head.coded.list) deepest given bytes p sections b
+
+        of_trees : (b : Bool) → TreesSay d global given group_dim bytes p (own_passes places) deepest sections b → Depths b
+        of_trees b trees = trees o.head o.start.tree_at o.start.header
+
+        module _ (plain : list_any section_is_weighted sections ≡ false) where
+          abbrev list : SectionPart → ChannelList
+          list = list_of_part group_dim passes o.head.coded.list
+
+          abbrev Says : List Section → Bool → Type 0
+          Says ss b = SectionsSay d global list deepest ss b
+
+          deep_by : Depths true → Fails errors.TooManyDecisions
+          deep_by (inl deep) = (can plain, inl deep)
+          deep_by (inr says) =
+              let (k, s, lt, at, is) = among_more (IsDeep d global list deepest) first more (ap (λ (t : Section). t.nested) listed.of_global) (subst (λ (ss : List Section). Says ss true) sections_are says) in
+              let begins : position_of s.bits ≡ 0 = subst (λ (t : Section). position_of t.bits ≡ 0) at (begin_groups k s lt).0 in
+              let here : IsDeepAt d global (list s.part) deepest (bytes_of s.bits) 0 = subst (λ n. IsDeepAt d global (list s.part) deepest (bytes_of s.bits) n) begins is.1 in
+              (can plain, inr (k, s, lt, at, here))
+
+          -- a tree is too deep
+          pub deep_fail : TreesSay d global given group_dim bytes p (own_passes places) deepest sections true → Fails errors.TooManyDecisions
+          deep_fail trees = deep_by (of_trees true trees)
+
+          -- none is
+          all_shallow : TreesSay d global given group_dim bytes p (own_passes places) deepest sections false → AreShallow d w global given group_dim bit_depth bytes p (own_passes places) (section_at places) deepest (can plain)
+          all_shallow trees =
+              let says = of_trees false trees in
+              record {
+                image = says.0;
+                groups = λ k s lt.
+                    let t : Section = get_or more k s in
+                    let each : All (λ s. s.nested ≡ true → IsShallow d global list deepest s) more = All-tail (λ s. s.nested ≡ true → IsShallow d global list deepest s) first more (subst (λ (ss : List Section). Says ss false) sections_are says.1) in
+                    let begins = begin_groups k s lt in
+                    let here : IsShallowAt d global (list t.part) deepest (bytes_of t.bits) 0 = subst (λ n. IsShallowAt d global (list t.part) deepest (bytes_of t.bits) n) begins.0 (each k s lt begins.1) in
+                    here;
+              }
+
         -- decoding them fails
-        pub samples_fail : (e : FrameError) → list_any section_is_weighted sections ≡ false → SamplesStop d w to_int zero image passes global sections e → Fails e
-        samples_fail (errors.Samples e) plain h =
+        pub samples_fail : (e : FrameError) → list_any section_is_weighted sections ≡ false → TreesSay d global given group_dim bytes p (own_passes places) deepest sections false → SamplesStop d w to_int zero image passes global sections e → Fails e
+        samples_fail (errors.Samples e) plain trees h =
             let (left, before, after, stop) = h in
             let here = subst (λ ss. SectionsStop d w to_int zero image passes global false ss e image.store left before after) sections_are stop in
             let fails = first_fails d w to_int zero image passes global (first ∷ more) e image.store left before after here in
-            unless_so (kind_of e) (λ f. let (coded, failing, others, is, all, fails) = f in (can plain, coded, failing, others, is, all, fails)) (of_header (λ i. UnlessMemory (kind_of e) (FirstFails d w to_int zero i passes global (first ∷ more) (kind_of e))) fails)
-        samples_fail (errors.Header e) plain h = absurd h
-        samples_fail errors.WeightedPalette plain h = absurd h
-        samples_fail errors.NoGroups plain h = absurd h
-        samples_fail errors.NoSection plain h = absurd h
-        samples_fail errors.GroupWeightedPalette plain h = absurd h
-        samples_fail errors.OutOfMemory plain h = absurd h
+            unless_so (kind_of e) (λ f. let (coded, failing, others, is, all, fails) = f in (can plain, all_shallow plain trees, coded, failing, others, is, all, fails)) (of_header (λ i. UnlessMemory (kind_of e) (FirstFails d w to_int zero i passes global (first ∷ more) (kind_of e))) fails)
+        samples_fail (errors.Header e) plain trees h = absurd h
+        samples_fail errors.WeightedPalette plain trees h = absurd h
+        samples_fail errors.NoGroups plain trees h = absurd h
+        samples_fail errors.NoSection plain trees h = absurd h
+        samples_fail errors.GroupWeightedPalette plain trees h = absurd h
+        samples_fail errors.TooManyDecisions plain trees h = absurd h
+        samples_fail errors.OutOfMemory plain trees h = absurd h
 
         -- or there is the frame
-        pub made : list_any section_is_weighted sections ≡ false → (grids : List (Grid ℤ)) (before after : ℕ) → AreDecoded d w to_int zero image passes global sections grids before after → Made grids before after
-        made plain grids before after done =
+        pub made : list_any section_is_weighted sections ≡ false → TreesSay d global given group_dim bytes p (own_passes places) deepest sections false → (grids : List (Grid ℤ)) (before after : ℕ) → AreDecoded d w to_int zero image passes global sections grids before after → Made grids before after
+        made plain trees grids before after done =
             let here = subst (λ ss. AreDecoded d w to_int zero image passes global ss grids before after) sections_are done in
             record {
               can = can plain;
+              shallow = all_shallow plain trees;
               decoded = of_header (λ i. AreDecoded {S = ℤ} d w (λ v. v) (pos 0) (storeless i) passes global (first ∷ more) grids before after) (decoded_alone d w to_int zero image passes global (first ∷ more) grids before after here);
             }
 

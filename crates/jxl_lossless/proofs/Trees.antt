@@ -71,21 +71,21 @@ module _ {D : Type 0} (d : Meaning D) (w : Width) (image : Image) (size : Size) 
       (subst (λ (b : List ℕ). P (option_copied params.ma_config) (image_list params.channels.items) params.group_dim params.bit_depth b) same h))))
 
   -- these are its channels
-  pub coded : (grids : List (Grid ℤ)) (before after : ℕ) → IsStill d w (option_copied params.ma_config) (image_list params.channels.items) params.group_dim params.bit_depth here q (own_passes places) (section_at places) grids before after →
+  pub coded : (grids : List (Grid ℤ)) (before after : ℕ) → IsStill d w (option_copied params.ma_config) (image_list params.channels.items) params.group_dim params.bit_depth here q (own_passes places) (section_at places) deepest grids before after →
       IsCoded d w image deepest size group_dim first p places grids before after
   coded grids before after is = record {
     global = global;
     begin = q;
     shared = subst (λ m. SharedTree d size m deepest first p global q) count shared;
-    still = by_image (λ g l m k b. IsStill d w g l m k b q (own_passes places) (section_at places) grids before after) is;
+    still = by_image (λ g l m k b. IsStill d w g l m k b q (own_passes places) (section_at places) deepest grids before after) is;
   }
 
   -- it, or its samples, have an error
-  pub samples_fail : (e : FrameError) → StillFails d w (option_copied params.ma_config) (image_list params.channels.items) params.group_dim params.bit_depth here q (own_passes places) (section_at places) e →
+  pub samples_fail : (e : FrameError) → StillFails d w (option_copied params.ma_config) (image_list params.channels.items) params.group_dim params.bit_depth here q (own_passes places) (section_at places) deepest e →
       SamplesFail d w image deepest size group_dim first p places e
   samples_fail e fails = record {
     global = global;
     begin = q;
     shared = subst (λ m. SharedTree d size m deepest first p global q) count shared;
-    fails = by_image (λ g l m k b. StillFails d w g l m k b q (own_passes places) (section_at places) e) fails;
+    fails = by_image (λ g l m k b. StillFails d w g l m k b q (own_passes places) (section_at places) deepest e) fails;
   }

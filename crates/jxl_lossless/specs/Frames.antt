@@ -98,7 +98,7 @@ module _ {D : Type 0} (d : Meaning D) (image : Image) (slots : Slots) (bytes : L
     pub tree : HasTree
     pub own : List (Grid ℤ)
     pub still : IsStill d w32 tree.global (channels_given image sides) frame.header.group_dim image.bit_depth.bits_per_sample
-        first tree.begin (passes_of (pass_shifts frame.header.passes)) (section_of (layout_in image frame.header) (sections_in bytes frame)) own before after
+        first tree.begin (passes_of (pass_shifts frame.header.passes)) (section_of (layout_in image frame.header) (sections_in bytes frame)) frame.deepest own before after
     pub put : ArePut slots (colour_count image) tree.after.patches own grids
 
   -- what each error says: up to which stage all stands, and what fails there
@@ -108,6 +108,6 @@ module _ {D : Type 0} (d : Meaning D) (image : Image) (slots : Slots) (bytes : L
   FrameFails (errors.Tree e) = (s : HasPatches) × UnlessMemory (kind_of e) (TreeFails d sides (channel_count image) first s.begin (kind_of e))
   FrameFails errors.TooManyDecisions = (s : HasPatches) × TreeIsDeep d sides (channel_count image) frame.deepest first s.begin
   FrameFails (errors.Samples e) = (s : HasTree) × StillFails d w32 s.global (channels_given image sides) frame.header.group_dim
-      image.bit_depth.bits_per_sample first s.begin (passes_of (pass_shifts frame.header.passes)) (section_of (layout_in image frame.header) (sections_in bytes frame)) e
+      image.bit_depth.bits_per_sample first s.begin (passes_of (pass_shifts frame.header.passes)) (section_of (layout_in image frame.header) (sections_in bytes frame)) frame.deepest e
   FrameFails errors.OutOfMemory = Unit {0}
   FrameFails e = ⊥

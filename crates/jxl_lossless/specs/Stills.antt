@@ -1,12 +1,12 @@
 -- The samples of a frame, from its sections (ISO/IEC 18181-1, frame: sections, LF global, groups), stage by stage, and what fails
--- at each: that a palette of the weighted predictor is in the header of a group comes before what is wrong with samples.
+-- at each: that a palette of the weighted predictor is in the header of a group, and that a tree is too deep, come before what is
+-- wrong with samples.
 use Rattle.std.specs.Prelude.{◌≡◌, ◌≢◌, ◌↔◌, ℕ, ◌<◌, ◌⊎◌, ℤ, pos, List, ◌∷◌, ◌++◌, Any, false, true, IsFalse, IsTrue, MatchBool, Option, None, Some, Ok}
 use Rattle.std.specs.Int.{Width}
 use Rattle.std.specs.List.{All, AllPairs}
 use Rattle.jxlm_bits.specs.Bits.{bytes_of, position_of}
 use Rattle.jxlm_bits.specs.Decoding.{Found, Meaning}
 use Rattle.jxlm_bits.specs.ErrorKind.{ErrorKind, OfDecoder, UnlessMemory, kind_of}
-use Rattle.jxlm_bits.specs.Grammar.{IsErrorAt}
 use Rattle.jxlm_base.specs.Grid.{Grid}
 use Rattle.jxlm_transform.specs.Channels.{ChannelList}
 use Rattle.jxlm_transform.specs.Transforms.{OfPalette}
@@ -23,8 +23,8 @@ use Rattle.jxlm_samples.specs.Coded.{DecodingFails}
 use Rattle.jxlm_samples.specs.Part.{Part, cell_count}
 use Rattle.jxl_modular.specs.Groups.{channels_in, part_in}
 use Rattle.jxl_modular.specs.Image.{Image}
-use Rattle.jxl_modular.specs.Parsing.{IsTreeErrorAt, opening_at}
 use Rattle.jxlm_nested.specs.Starts.{Start, coded_part}
+pub use Rattle.jxlm_tree_depth.specs.Depths.{HeaderFails, IsDeepAt, IsShallowAt}
 use Rattle.jxl_modular.specs.Sections.{AreDecoded, CodesPart, list_in}
 use Rattle.jxl_modular.specs.declared.sections.Section.{Section}
 use Rattle.jxlm_section_split.specs.CutPicture.{image_by}
@@ -35,10 +35,6 @@ use Rattle.jxl_lossless.specs.declared.still.error.FrameError.TheVariants as err
 abbrev pub IsWeightedAt : List ℕ → ℕ → Type 0
 IsWeightedAt bytes p = (found : Found Header) × (header.read bytes p ≡ Ok found)
     × (palette : Palette) × Any (λ t. t ≡ OfPalette palette) found.value.transform × (palette.d_pred ≡ SelfCorrecting)
-
--- at bit p a Modular header, or the MA tree after it, has this error
-abbrev pub HeaderFails : {D : Type 0} → Meaning D → Option (Config D) → ChannelList → List ℕ → ℕ → ErrorKind → Type 0
-HeaderFails d global given bytes p error = (q : ℕ) × (IsErrorAt (opening_at global bytes given p) error q ⊎ IsTreeErrorAt d global bytes given p error q)
 
 -- decoding the samples of a part from bit p returns this error
 abbrev pub PartFails : {D : Type 0} → Meaning D → Width → Part → List ℕ → D → ℕ → ErrorKind → Type 0
@@ -81,10 +77,21 @@ module _ {D : Type 0} (d : Meaning D) (w : Width) (global : Option (Config D)) (
     pub goes_on : position_of first.bits ≡ has.stands.start.samples_at
     pub is : first ≡ record { part = parts.Global; bits = first.bits; stream_index = 0; nested = false }
 
-  -- These are the channels of a frame: each section codes its part whole, with this number of nodes of trees looked at before and
-  -- after, and together they code the image.
-  pub record IsStill (grids : List (Grid ℤ)) (before after : ℕ) : Type 0 where
+  -- No header's own tree is deeper than this: neither that of the image's header, nor one of a group's.
+  pub record AreShallow (deepest : ℕ) (can : CanDecode) : Type 0 where
+    pub image : IsShallowAt d global given deepest bytes p
+    pub groups : All (λ s. IsShallowAt d global (list_in (image_at can.has.stands) passes s.part) deepest (bytes_of s.bits) 0) can.has.groups
+
+  -- one of these trees is deeper
+  abbrev pub OneIsDeep : ℕ → CanDecode → Type 0
+  OneIsDeep deepest can = IsDeepAt d global given deepest bytes p
+      ⊎ Any (λ s. IsDeepAt d global (list_in (image_at can.has.stands) passes s.part) deepest (bytes_of s.bits) 0) can.has.groups
+
+  -- These are the channels of a frame whose trees are at most this deep: each section codes its part whole, with this number of
+  -- nodes of trees looked at before and after, and together they code the image.
+  pub record IsStill (deepest : ℕ) (grids : List (Grid ℤ)) (before after : ℕ) : Type 0 where
     pub can : CanDecode
+    pub shallow : AreShallow deepest can
     pub decoded : AreDecoded d w (λ v. v) (pos 0) (image_at can.has.stands) passes global (can.first ∷ can.has.groups) grids before after
 
   -- a section codes its part whole
@@ -100,12 +107,13 @@ module _ {D : Type 0} (d : Meaning D) (w : Width) (global : Option (Config D)) (
       (PartFails d w (part_in (image_at h) passes s.part s.stream_index) (bytes_of s.bits) h.start.config.decoder (position_of s.bits) error)
 
   -- what each error says: up to which stage all stands, and what fails there; no two hold of one input, memory aside
-  abbrev pub StillFails : FrameError → Type 0
-  StillFails (errors.Header e) = UnlessMemory (kind_of e) ((¬ (IsWeightedAt bytes p)) × HeaderFails d global given bytes p (kind_of e))
-  StillFails errors.WeightedPalette = IsWeightedAt bytes p
-  StillFails errors.NoGroups = (s : HeaderStands) × IsFalse (can_cut group_dim s.start.head.coded.list)
-  StillFails errors.NoSection = (s : HeaderStands) × IsTrue (can_cut group_dim s.start.head.coded.list) × (part : SectionPart) × IsGroup s part × (section_of part ≡ None)
-  StillFails errors.GroupWeightedPalette = (s : HasSections) × Any (λ t. IsWeightedAt (bytes_of t.bits) 0) s.groups
-  StillFails (errors.Samples e) = UnlessMemory (kind_of e) ((s : CanDecode) × (coded : List Section) × (failing : Section) × (others : List Section)
+  abbrev pub StillFails : ℕ → FrameError → Type 0
+  StillFails deepest (errors.Header e) = UnlessMemory (kind_of e) ((¬ (IsWeightedAt bytes p)) × HeaderFails d global given bytes p (kind_of e))
+  StillFails deepest errors.WeightedPalette = IsWeightedAt bytes p
+  StillFails deepest errors.NoGroups = (s : HeaderStands) × IsFalse (can_cut group_dim s.start.head.coded.list)
+  StillFails deepest errors.NoSection = (s : HeaderStands) × IsTrue (can_cut group_dim s.start.head.coded.list) × (part : SectionPart) × IsGroup s part × (section_of part ≡ None)
+  StillFails deepest errors.GroupWeightedPalette = (s : HasSections) × Any (λ t. IsWeightedAt (bytes_of t.bits) 0) s.groups
+  StillFails deepest errors.TooManyDecisions = (s : CanDecode) × OneIsDeep deepest s
+  StillFails deepest (errors.Samples e) = UnlessMemory (kind_of e) ((s : CanDecode) × AreShallow deepest s × (coded : List Section) × (failing : Section) × (others : List Section)
       × (s.first ∷ s.has.groups ≡ coded ++ failing ∷ others) × All (CodesItsPart s.has.stands) coded × SectionFails s.has.stands failing (kind_of e))
-  StillFails errors.OutOfMemory = Unit {0}
+  StillFails deepest errors.OutOfMemory = Unit {0}

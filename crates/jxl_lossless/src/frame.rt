@@ -220,7 +220,8 @@ impl<'a> SectionsInput<'a, '_> {
         let depth = image.bit_depth.bits_per_sample;
         let dim = self.input.frame.header.group_dim;
         let params = ModularParams::with_channels(dim, depth, list, tree.as_ref());
-        match decode_frame::<S, D, P>(alloc, bits, params, self.places, steps, progress) {
+        let places = self.places;
+        match decode_frame::<S, D, P>(alloc, bits, params, places, deepest, steps, progress) {
             Ok(Some(image)) => Ok(image),
             Ok(None) => unreachable!(),
             Err(error) => Err(FileError::Samples(error)),

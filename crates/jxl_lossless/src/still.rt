@@ -2,6 +2,7 @@
 //! with samples has one of its own (ISO/IEC 18181-1, frame: sections). Where the sections lie is the matter of a caller.
 
 pub mod decode;
+mod depths;
 pub mod error;
 mod opening;
 pub mod places;

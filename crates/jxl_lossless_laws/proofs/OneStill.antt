@@ -130,8 +130,8 @@ module _ {D : Type 0} (d : Meaning D) (w : Width) (global : Option (Config D)) (
   abbrev Can : Type 0
   Can = CanDecode d w global given group_dim bit_depth bytes p passes section_of
 
-  abbrev Still : List (Grid ℤ) → ℕ → ℕ → Type 0
-  Still gs before after = IsStill d w global given group_dim bit_depth bytes p passes section_of gs before after
+  abbrev Still : ℕ → List (Grid ℤ) → ℕ → ℕ → Type 0
+  Still deepest gs before after = IsStill d w global given group_dim bit_depth bytes p passes section_of deepest gs before after
 
   abbrev head_in : Stands → Opening
   head_in s = s.start.head
@@ -139,7 +139,7 @@ module _ {D : Type 0} (d : Meaning D) (w : Width) (global : Option (Config D)) (
   abbrev config_in : Stands → Config D
   config_in s = s.start.config
 
-  module _ (gs : List (Grid ℤ)) (before after : ℕ) (s : Still gs before after) where
+  module _ (deepest : ℕ) (gs : List (Grid ℤ)) (before after : ℕ) (s : Still deepest gs before after) where
     abbrev stands : Stands
     stands = s.can.has.stands
 
@@ -227,8 +227,8 @@ module _ {D : Type 0} (d : Meaning D) (w : Width) (global : Option (Config D)) (
 
   -- so sections have one image, where parts hold each coded cell
   pub one_still : ((head : Opening) (config : Config D) (at : ℕ) → IsStartAt d global bytes given p head config at → IsTrue (can_cut group_dim head.coded.list) → HoldEachCellOnce group_dim passes head.coded.list) →
-      (gs hs : List (Grid ℤ)) (before after from to : ℕ) → Still gs before after → Still hs from to → gs ≡ hs
-  one_still hold gs hs before after from to s t =
+      (deepest : ℕ) (gs hs : List (Grid ℤ)) (before after from to : ℕ) → Still deepest gs before after → Still deepest hs from to → gs ≡ hs
+  one_still hold deepest gs hs before after from to s t =
       let a = s.can.has.stands in
-      one_image a.start.head a.start.config a.start.samples_at (hold a.start.head a.start.config a.start.samples_at a.start.start s.can.has.cut) gs hs (codes_image gs before after s)
-      (same_head (λ o c n. CodesImage o c n hs) a t.can.has.stands (codes_image hs from to t))
+      one_image a.start.head a.start.config a.start.samples_at (hold a.start.head a.start.config a.start.samples_at a.start.start s.can.has.cut) gs hs (codes_image deepest gs before after s)
+      (same_head (λ o c n. CodesImage o c n hs) a t.can.has.stands (codes_image deepest hs from to t))

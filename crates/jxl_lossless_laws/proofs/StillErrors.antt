@@ -1,5 +1,5 @@
 -- Where the sections of a frame have an image, decoding them returns no error.
-use Rattle.std.proofs.Common.{◌≡◌, ◌≢◌, ◌⊎◌, inl, inr, ℕ, zero, suc, ◌<◌, ℤ, Bool, true, false, List, [], ◌∷◌, ◌++◌, length, get_or, Option, Some, None, refl, sym, ap, subst, arith}
+use Rattle.std.proofs.Common.{◌≡◌, ◌≢◌, ◌⊎◌, inl, inr, ℕ, zero, suc, ◌<◌, ◌≤◌, ℤ, Bool, true, false, List, [], ◌∷◌, ◌++◌, length, get_or, Option, Some, None, refl, sym, ap, subst, arith}
 use Rattle.std.specs.Prelude.{IsFalse, MatchBool}
 use Rattle.std.specs.Int.{Width}
 use Rattle.jxlm_bits.specs.Bits.{bytes_of, position_of}
@@ -15,14 +15,14 @@ use Rattle.jxlm_nested.specs.Starts.{Start, coded_part}
 use Rattle.jxlm_samples.specs.Part.{Part, cell_count}
 use Rattle.jxlm_transform.specs.Channels.{ChannelList}
 use Rattle.jxlm_tree.proofs.Memory.{unless_so}
-use Rattle.jxlm_tree.specs.Tree.{Config}
+use Rattle.jxlm_tree.specs.Tree.{Config, depth}
 use Rattle.jxl_modular.specs.Groups.{channels_in, part_in}
 use Rattle.jxl_modular.specs.Image.{Image}
 use Rattle.jxl_modular.specs.Sections.{CodesWhole, list_in}
 use Rattle.jxl_modular.specs.declared.sections.Section.{Section}
 use Rattle.jxlm_encode_roundtrip.proofs.TwoPictures.{one_start}
 use Rattle.jxlm_encode_roundtrip.proofs.WithoutErrors.{samples_without_error, start_without_error}
-use Rattle.jxl_lossless.specs.Stills.{CanDecode, HasSections, HeaderFails, HeaderStands, IsStill, IsWeightedAt, PartFails, SectionFails, StillFails}
+use Rattle.jxl_lossless.specs.Stills.{CanDecode, HasSections, HeaderFails, HeaderStands, IsDeepAt, IsShallowAt, IsStill, IsWeightedAt, OneIsDeep, PartFails, SectionFails, StillFails}
 use Rattle.jxl_lossless.specs.declared.still.error.FrameError.{FrameError}
 use Rattle.jxl_lossless.specs.declared.still.error.FrameError.TheVariants as errors
 use Rattle.jxl_lossless_laws.proofs.OneStill.{CodesGroup, CodesImage, IsNested, codes_image, same_head, x_by}
@@ -46,6 +46,15 @@ module _ {D : Type 0} (d : Meaning D) (w : Width) where
     header_well : (given : ChannelList) (bytes : List ℕ) (p : ℕ) (s : Start d global bytes given p) (error : ErrorKind) → HeaderFails d global given bytes p error → ⊥
     header_well given bytes p s error (q, fails) = start_without_error d global bytes given p s.head s.config s.samples_at s.start error q fails
 
+    -- a tree is not deep and shallow
+    not_deep : (given : ChannelList) (deepest : ℕ) (bytes : List ℕ) (p : ℕ) → IsShallowAt d global given deepest bytes p → IsDeepAt d global given deepest bytes p → ⊥
+    not_deep given deepest bytes p (inl global_used) (own_used, deep) = own_used global_used
+    not_deep given deepest bytes p (inr (inl (other, low))) (own_used, (own, deep)) =
+        let same = one_start d global bytes given p own.head other.head own.config other.config own.samples_at other.samples_at own.start other.start in
+        let here : depth own.config.tree ≤ deepest = subst (λ (x : Config D). depth x.tree ≤ deepest) (sym same.1) low in
+        absurd (omega (arith, here, deep))
+    not_deep given deepest bytes p (inr (inr (error, fails))) (own_used, (own, deep)) = header_well given bytes p own error fails
+
     -- what decoding the section of a group returns
     abbrev NestedFails : ChannelList → List ℕ → ℕ → ErrorKind → Type 0
     NestedFails list bytes stream error = HeaderFails d global list bytes 0 error
@@ -62,7 +71,7 @@ module _ {D : Type 0} (d : Meaning D) (w : Width) where
         part_well (coded_part stream s.head s.config) bytes s.config.decoder s.samples_at c.samples c.nodes c.coded error headed
 
 module _ {D : Type 0} (d : Meaning D) (w : Width) (global : Option (Config D)) (given : ChannelList) (group_dim bit_depth : ℕ) (bytes : List ℕ) (p : ℕ)
-    (passes : List Pass) (section_of : SectionPart → Option (List ℕ × ℕ)) (gs : List (Grid ℤ)) (before after : ℕ) (s : IsStill d w global given group_dim bit_depth bytes p passes section_of gs before after) where
+    (passes : List Pass) (section_of : SectionPart → Option (List ℕ × ℕ)) (deepest : ℕ) (gs : List (Grid ℤ)) (before after : ℕ) (s : IsStill d w global given group_dim bit_depth bytes p passes section_of deepest gs before after) where
   abbrev Stands : Type 0
   Stands = HeaderStands d w global given group_dim bit_depth bytes p passes section_of
 
@@ -73,7 +82,7 @@ module _ {D : Type 0} (d : Meaning D) (w : Width) (global : Option (Config D)) (
   Can = CanDecode d w global given group_dim bit_depth bytes p passes section_of
 
   abbrev Fails : FrameError → Type 0
-  Fails e = StillFails d w global given group_dim bit_depth bytes p passes section_of e
+  Fails e = StillFails d w global given group_dim bit_depth bytes p passes section_of deepest e
 
   abbrev own : Stands
   own = s.can.has.stands
@@ -85,7 +94,7 @@ module _ {D : Type 0} (d : Meaning D) (w : Width) (global : Option (Config D)) (
   config = own.start.config
 
   abbrev image : CodesImage d w global given group_dim bit_depth bytes p passes section_of head config own.start.samples_at gs
-  image = codes_image d w global given group_dim bit_depth bytes p passes section_of gs before after s
+  image = codes_image d w global given group_dim bit_depth bytes p passes section_of deepest gs before after s
 
   -- what holds of a header at the bit holds of the own one
   to_own : (P : Opening → Config D → ℕ → Type 0) (t : Stands) → P t.start.head t.start.config t.start.samples_at → P head config own.start.samples_at
@@ -126,6 +135,30 @@ module _ {D : Type 0} (d : Meaning D) (w : Width) (global : Option (Config D)) (
       let found = subst (λ (q : SectionPart). section_of q ≡ Some (bytes_of u.bits, u.stream_index)) same has.0 in
       let bytes_same = (same_some (section_of t.part) (bytes_of t.bits) (bytes_of u.bits) t.stream_index u.stream_index is.0 found).0 in
       subst (λ (v : Section). ¬ (IsWeightedAt (bytes_of v.bits) 0)) there (s.can.plain j u within) (subst (λ (b : List ℕ). IsWeightedAt b 0) bytes_same weighted)
+
+  abbrev DeepGroup : SectionPart → List ℕ → Opening → Config D → ℕ → Type 0
+  DeepGroup part b o c n = IsDeepAt d global (list_in (x_of o c) passes part) deepest b 0
+
+  abbrev ShallowGroup : Section → Type 0
+  ShallowGroup t = IsShallowAt d global (list_in (x_of head config) passes t.part) deepest (bytes_of t.bits) 0
+
+  -- no tree is too deep
+  shallow_group : (h : Has) (k : ℕ) (t : Section) → k < length h.groups → get_or h.groups k t ≡ t → DeepGroup t.part (bytes_of t.bits) h.stands.start.head h.stands.start.config h.stands.start.samples_at → ⊥
+  shallow_group h k t lt at deep =
+      let is : OfGroup t = subst OfGroup at (h.are k t lt) in
+      let one = (h.each t.part).1 (k, t, lt, at, refl) in
+      let (j, u, within, there, same) = (s.can.has.each t.part).0 (one.0, to_own (CellsIn t.part) h.stands one.1) in
+      let has : OfGroup u = subst OfGroup there (s.can.has.are j u within) in
+      let found = subst (λ (q : SectionPart). section_of q ≡ Some (bytes_of u.bits, u.stream_index)) same has.0 in
+      let bytes_same = (same_some (section_of t.part) (bytes_of t.bits) (bytes_of u.bits) t.stream_index u.stream_index is.0 found).0 in
+      let low : ShallowGroup u = subst ShallowGroup there (s.shallow.groups j u within) in
+      let placed = subst (λ (q : SectionPart). IsShallowAt d global (list_in (x_of head config) passes q) deepest (bytes_of u.bits) 0) same low in
+      let here = subst (λ (b : List ℕ). IsShallowAt d global (list_in (x_of head config) passes t.part) deepest b 0) (sym bytes_same) placed in
+      not_deep d w global (list_in (x_of head config) passes t.part) deepest (bytes_of t.bits) 0 here (to_own (DeepGroup t.part (bytes_of t.bits)) h.stands deep)
+
+  all_shallow : (c : Can) → OneIsDeep d w global given group_dim bit_depth bytes p passes section_of deepest c → ⊥
+  all_shallow c (inl deep) = not_deep d w global given deepest bytes p s.shallow.image deep
+  all_shallow c (inr (k, t, lt, at, deep)) = shallow_group c.has k t lt at deep
 
   -- decoding the first section returns no error
   abbrev FirstFails : ErrorKind → Opening → Config D → ℕ → Type 0
@@ -185,7 +218,8 @@ module _ {D : Type 0} (d : Meaning D) (w : Width) (global : Option (Config D)) (
       let (grids, group) = group_of f.0 f.2 f.3.0 f.3.1 in
       there_or_not (section_of f.2) (group.section, group.stream) group.there f.4
   still_without_error errors.GroupWeightedPalette f = let (k, t, lt, at, weighted) = f.1 in plain_group f.0 k t lt at weighted
+  still_without_error errors.TooManyDecisions f = all_shallow f.0 f.1
   still_without_error (errors.Samples e) f = unless_so (kind_of e) (λ k.
-      let (place, lt, at) = among (k.0.first ∷ k.0.has.groups) k.1 k.2 k.3 k.4 in
-      failing_well k.0 place k.2 lt at (kind_of e) k.6) f
+      let (place, lt, at) = among (k.0.first ∷ k.0.has.groups) k.2 k.3 k.4 k.5 in
+      failing_well k.0 place k.3 lt at (kind_of e) k.7) f
   still_without_error errors.OutOfMemory f = tt

@@ -1,5 +1,5 @@
 -- What the first section of a frame and those of its groups code, or why they do not, from a bit position on.
-use Rattle.std.specs.Prelude.{ℕ, pos, ℤ, List, length, Option}
+use Rattle.std.specs.Prelude.{ℕ, ℤ, List, length, Option}
 use Rattle.std.specs.Int.{Width, w32}
 use Rattle.jxlm_bits.specs.Decoding.{Meaning}
 use Rattle.jxlm_bits.specs.ErrorKind.{UnlessMemory, kind_of}
@@ -36,7 +36,7 @@ pub record IsCoded {D : Type 0} (d : Meaning D) (w : Width) (image : Image) (dee
   pub global : Option (Config D)
   pub begin : ℕ
   pub shared : SharedTree d size (channel_count image) deepest first p global begin
-  pub still : IsStill d w global (channels_given image size) group_dim image.bit_depth.bits_per_sample first begin (own_passes places) (section_at places) grids before after
+  pub still : IsStill d w global (channels_given image size) group_dim image.bit_depth.bits_per_sample first begin (own_passes places) (section_at places) deepest grids before after
 
 module _ {D : Type 0} (d : Meaning D) (w : Width) (image : Image) (deepest : ℕ) where
   -- the first section has the shared tree from bit p on, and after it the image of a frame of this size, or its samples, have
@@ -45,7 +45,7 @@ module _ {D : Type 0} (d : Meaning D) (w : Width) (image : Image) (deepest : ℕ
     pub global : Option (Config D)
     pub begin : ℕ
     pub shared : SharedTree d size (channel_count image) deepest first p global begin
-    pub fails : StillFails d w global (channels_given image size) group_dim image.bit_depth.bits_per_sample first begin (own_passes places) (section_at places) error
+    pub fails : StillFails d w global (channels_given image size) group_dim image.bit_depth.bits_per_sample first begin (own_passes places) (section_at places) deepest error
 
   -- what each error says of a frame by its first section, from bit p on, and those of its groups
   abbrev pub CodedFails : Size → ℕ → List ℕ → ℕ → Places → FileError → Type 0

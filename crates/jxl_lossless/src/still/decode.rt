@@ -13,6 +13,7 @@ ghost use Rattle.jxl_lossless.specs.Stills.{IsStill, StillFails};
 ghost use Rattle.jxl_lossless.specs.Places.{own_passes, section_at};
 ghost use Rattle.jxl_lossless.specs.Inner.Listing.{SamplesStop};
 
+use crate::still::depths::some_deep;
 use crate::still::error::FrameError;
 use crate::still::opening::{begin_weighted, open_image};
 use crate::still::places::Places;
@@ -24,6 +25,7 @@ use jxlm_bits::decoder::Decoder;
 use jxlm_transform::param::ModularParams;
 use jxlm_tree::flat::Steps;
 use jxlm_tree::ma::MaConfig;
+use jxlm_tree_depth::channels::GivenChannels;
 use std::alloc::Global;
 use std::collections::BTreeMap;
 
@@ -61,7 +63,8 @@ fn decode_all<S: Sample, D: Decoder, P: Progress>(
 /// stands, and those of its groups (ISO/IEC 18181-1, frame: sections, LF global, groups).
 ///
 /// A header that uses a global tree has the one of the parameters. Each group with samples has a section, which begins
-/// with a header of its own; the others are not looked at. Which section and which stream a part has is said by the
+/// with a header of its own; the others are not looked at. The own tree of the image's header, or of such a header, is at
+/// most `deepest` decisions deep. Which section and which stream a part has is said by the
 /// [`Layout`](jxl_codestream::layout::Layout). `progress` is called after each section. It returns the image, whose
 /// transforms are undone; with no channels there is none.
 ///
@@ -73,13 +76,15 @@ fn decode_all<S: Sample, D: Decoder, P: Progress>(
 /// The first of these: `WeightedPalette` where the header can be read and has a palette with the weighted predictor;
 /// `Header` for the header, its conditions and the tree, as by [`Modular::parse`](jxl_modular::Modular::parse);
 /// `NoGroups`; `NoSection`; `GroupWeightedPalette` where the header of a group has such a palette, which is looked for
-/// before samples are decoded; `Samples` for the first section that cannot be decoded, as by
-/// [`decode_sections`](jxl_modular::sections::decode_sections). Or it is out of memory, at any time.
+/// before samples are decoded; `TooManyDecisions` where the own tree of the image's header, or of the header of a group,
+/// is deeper than `deepest`, which is compared before samples are decoded; `Samples` for the first section that cannot be decoded, as
+/// by [`decode_sections`](jxl_modular::sections::decode_sections). Or it is out of memory, at any time.
 pub fn decode_frame<'a, S: Sample, D: Decoder, P: Progress>(
     alloc: Global,
     first: Bitstream<'a>,
     params: ModularParams<'_, D>,
     places: Places<'a, '_>,
+    deepest: u64,
     steps: &mut Steps,
     progress: &mut P,
 ) -> Result<Option<ModularImageDestination<S, D>>, FrameError>
@@ -90,15 +95,19 @@ pub fn decode_frame<'a, S: Sample, D: Decoder, P: Progress>(
     ensures still { IfOk result (λ made. IfSome made (λ image. IsStill D.meaning S.width
         (option_copied params.entry.ma_config) (image_list params.entry.channels.items) params.entry.group_dim
         params.entry.bit_depth (bytes_of first.entry) (position_of first.entry) (own_passes places.entry)
-        (section_at places.entry) (image_grids S.to_int image) steps.old steps.new)) }
+        (section_at places.entry) deepest (image_grids S.to_int image) steps.old steps.new)) }
     ensures sides { IfOk result (λ made. IfSome made (λ image.
         AreGridsOf (image_list params.entry.channels.items).channels (image_grids S.to_int image))) }
     ensures err { IfErr result (StillFails D.meaning S.width
         (option_copied params.entry.ma_config) (image_list params.entry.channels.items) params.entry.group_dim
         params.entry.bit_depth (bytes_of first.entry) (position_of first.entry) (own_passes places.entry)
-        (section_at places.entry)) }
+        (section_at places.entry) deepest) }
 {
+    if params.channels.is_empty() {
+        return Ok(None);
+    }
     let global = params.ma_config;
+    let given = GivenChannels::new(alloc, &params.channels, params.group_dim)?;
     let mut bits = first;
     let opened = open_image::<S, D>(alloc, &mut bits, params)?;
     let Some(mut image) = opened else {
@@ -108,6 +117,18 @@ pub fn decode_frame<'a, S: Sample, D: Decoder, P: Progress>(
     let weighted = begin_weighted(alloc, &sections)?;
     if weighted {
         return Err(FrameError::GroupWeightedPalette);
+    }
+    let deep = some_deep(
+        alloc,
+        first,
+        &given,
+        places.passes,
+        &sections,
+        global,
+        deepest,
+    )?;
+    if deep {
+        return Err(FrameError::TooManyDecisions);
     }
     decode_all(
         alloc,

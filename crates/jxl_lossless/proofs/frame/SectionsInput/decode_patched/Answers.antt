@@ -2,7 +2,7 @@ use Rattle.std.specs.Int.{w32}
 use Rattle.jxl_lossless.specs.Frames.{channels_given}
 use Rattle.jxl_lossless.specs.Inner.Inputs.{CodedOf, CodedOfFails, size_of}
 use Rattle.jxlm_transform.specs.Channels.{AreGridsOf}
-use Rattle.std.proofs.Common.{ℕ, ℤ, pos, ◌≡◌, ◌∙◌, List, length, refl, subst, sym, true, rules}
+use Rattle.std.proofs.Common.{ℕ, ℤ, ◌≡◌, ◌∙◌, List, length, refl, subst, sym, true, rules}
 use Rattle.std.specs.Option.{option_map}
 use Rattle.std.proofs.lemmas.List.{with_items_is}
 use Rattle.std.proofs.lemmas.Result.{err_from_is_err_and}

@@ -1,0 +1,3 @@
+pub mod Depths
+pub mod Openings
+pub mod Inner
