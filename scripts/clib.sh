@@ -22,7 +22,7 @@ build() {
     echo '{ global: jxl_lossless_*; local: *; };' > "$clib/exports"
     $CC -shared -Wl,-soname,libjxl_lossless.so.0 -Wl,--version-script="$clib/exports" \
         -Wl,--whole-archive "$clib/libjxl_lossless.a" -Wl,--no-whole-archive -o "$clib/libjxl_lossless.so.0"
-    ln -sf libjxl_lossless.so.0 "$clib/libjxl_lossless.so"
+    cp "$clib/libjxl_lossless.so.0" "$clib/libjxl_lossless.so"
 }
 
 install_below() {
