@@ -1,4 +1,4 @@
-.PHONY: help jxldec jxlenc jxlmod demo demo-encode demo-plain demo-triangle demo-groups bench compare-djxl compare-encode check-docs check-alloc check-commands test
+.PHONY: help jxldec jxlenc jxlmod demo demo-encode demo-plain demo-triangle demo-groups bench compare-djxl compare-encode check-docs check-alloc check-commands clib test-clib install test
 
 help: ## this list
 	@awk -F ':.*## ' '/^[a-z-]+:.*## / { printf "make %-14s %s\n", $$1, $$2 }' Makefile
@@ -50,6 +50,17 @@ check-alloc: ## refuse each request for memory of each call that takes memory, i
 check-commands: ## run jxldec and jxlenc, as they were last built, by their command lines, and compare what they do
 	@sh scripts/commands.sh crates/jxldec/out/jxldec crates/jxlenc/out/jxlenc
 
-test: check-docs check-alloc ## check-docs, check-alloc, every proof, must-fail edit and test, the programs' runs, and check-commands
+clib: ## prove and build the library for C: crates/jxl_c/out/c (docs/C.md)
+	@sh scripts/clib.sh build
+
+test-clib: clib ## try the library for C, from C and Python; it needs gcc and python3
+	@sh scripts/clib.sh test
+
+PREFIX ?= /usr/local
+install: clib ## copy the library for C, its header and its pkg-config file below PREFIX
+	@sh scripts/clib.sh install $(PREFIX)
+
+test: check-docs check-alloc ## check-docs, check-alloc, every proof, must-fail edit and test, the programs' runs, check-commands, and test-clib if the library for C was built
 	@bash -c 'TIMEFORMAT="rt ci: %0R s of wall time, %0U and %0S s of processor time"; time rt ci'
 	@sh scripts/commands.sh crates/jxldec/out/jxldec crates/jxlenc/out/jxlenc
+	@if [ -f crates/jxl_c/out/c/libjxl_lossless.a ] && command -v gcc > /dev/null; then sh scripts/clib.sh test; fi

@@ -1,0 +1,161 @@
+"""Lossless JPEG XL pictures as arrays: `read(path)`, `decode(file)`, `pixels(file)`, `info(file)`, `profile(file)`.
+
+It loads libjxl_lossless.so from beside this file, from the path in JXL_LOSSLESS_SO, or by its name. With numpy, samples
+are an int32 array and pixels a uint8 or uint16 array; without it an `array.array`. Calls release the interpreter's lock, so
+threads decode side by side.
+
+    python3 jxl_lossless.py FILE.jxl    prints what the headers say
+"""
+import array
+import ctypes as c
+import os
+import sys
+
+try:
+    import numpy
+except ImportError:
+    numpy = None
+
+COLOUR, ALPHA = 256, 0
+_DONE, _NO_MEMORY, _MESSAGE = 0, 6, 128
+
+
+class Limits(c.Structure):
+    _fields_ = [(it, c.c_uint64) for it in "size pixels bytes profile".split()] + [
+        (it, c.c_uint32) for it in "channels decisions".split()
+    ]
+
+
+class Info(c.Structure):
+    _fields_ = (
+        [("size", c.c_uint64)]
+        + [
+            (it, c.c_uint32)
+            for it in "width height colours extra bits exponent_bits alpha space white primaries transfer gamma intent interleaved".split()
+        ]
+        + [("profile", c.c_uint64), ("samples", c.c_uint64)]
+    )
+
+
+class Channel(c.Structure):
+    _fields_ = [("first", c.c_uint64)] + [
+        (it, c.c_uint32) for it in "kind width height shift bits exponent_bits associated reserved".split()
+    ]
+
+
+class JxlError(ValueError):
+    """Why a call fails: `status` is one of the header's numbers, and the text says more."""
+
+    def __init__(self, status, text):
+        super().__init__(text)
+        self.status = status
+
+
+def _library():
+    beside = os.path.join(os.path.dirname(os.path.abspath(__file__)), "libjxl_lossless.so")
+    named = os.environ.get("JXL_LOSSLESS_SO")
+    return c.CDLL(named or (beside if os.path.exists(beside) else "libjxl_lossless.so.0"))
+
+
+_so = _library()
+_text, _size = c.c_char_p, c.c_size_t
+for _name, _out in (
+    ("read_info", [c.POINTER(Info)]),
+    ("channels", [c.POINTER(Channel), _size]),
+    ("profile", [c.c_void_p, _size]),
+    ("decode", [c.c_void_p, _size]),
+    ("decode_8", [c.c_void_p, _size]),
+    ("decode_16", [c.c_void_p, _size]),
+):
+    _call = getattr(_so, "jxl_lossless_" + _name)
+    _call.argtypes, _call.restype = [_text, _size, c.POINTER(Limits), *_out, _text, _size], c.c_uint32
+_so.jxl_lossless_usual_limits.argtypes, _so.jxl_lossless_usual_limits.restype = [c.POINTER(Limits)], c.c_uint32
+
+
+def usual_limits():
+    limits = Limits(size=c.sizeof(Limits))
+    _so.jxl_lossless_usual_limits(limits)
+    return limits
+
+
+def _run(name, file, limits, *out):
+    why = c.create_string_buffer(_MESSAGE)
+    status = getattr(_so, "jxl_lossless_" + name)(file, len(file), limits or usual_limits(), *out, why, len(why))
+    if status == _NO_MEMORY:
+        raise MemoryError(why.value.decode())
+    if status != _DONE:
+        raise JxlError(status, why.value.decode())
+
+
+def _array(code, count):
+    """An array of so many numbers, and where they are."""
+    if numpy is not None:
+        numbers = numpy.empty(count, {"i": numpy.int32, "H": numpy.uint16, "B": numpy.uint8}[code])
+        return numbers, numbers.ctypes.data
+    numbers = array.array(code, bytes(count * array.array(code).itemsize))
+    return numbers, numbers.buffer_info()[0]
+
+
+def info(file, limits=None):
+    """What the headers of a file say, by the names of the struct `jxl_lossless_info`."""
+    it = Info(size=c.sizeof(Info))
+    _run("read_info", file, limits, it)
+    return it
+
+
+def channels(file, limits=None):
+    """The channels of a file, as a list of `Channel`."""
+    it = info(file, limits)
+    found = (Channel * (it.colours + it.extra))()
+    _run("channels", file, limits, found, len(found))
+    return list(found)
+
+
+def profile(file, limits=None):
+    """The ICC profile of a file, or b""."""
+    size = info(file, limits).profile
+    icc = c.create_string_buffer(max(1, size))
+    _run("profile", file, limits, icc, size)
+    return icc.raw[:size]
+
+
+def decode(file, limits=None):
+    """The samples of each channel, and what the headers say: with numpy a list of arrays of (height, width)."""
+    it = info(file, limits)
+    samples, place = _array("i", it.samples)
+    _run("decode", file, limits, place, it.samples)
+    parts = []
+    for channel in channels(file, limits):
+        part = samples[channel.first : channel.first + channel.width * channel.height]
+        parts.append(part.reshape(channel.height, channel.width) if numpy is not None else part)
+    return parts, it
+
+
+def pixels(file, bits=8, limits=None):
+    """The pixels, with numbers of 8 or 16 bits, and what the headers say: with numpy an array of (height, width, n)."""
+    it = info(file, limits)
+    count = it.width * it.height * it.interleaved
+    numbers, place = _array("B" if bits == 8 else "H", count)
+    _run("decode_%d" % bits, file, limits, place, count * bits // 8)
+    if numpy is not None:
+        numbers = numbers.reshape(it.height, it.width, it.interleaved)
+    return numbers, it
+
+
+def read(path, limits=None):
+    """As `decode`, of the file with this path."""
+    with open(path, "rb") as file:
+        return decode(file.read(), limits)
+
+
+def main():
+    with open(sys.argv[1], "rb") as file:
+        content = file.read()
+    it = info(content)
+    print(" ".join("%s=%d" % (name, getattr(it, name)) for name, _ in Info._fields_))
+    for channel in channels(content):
+        print(" ".join("%s=%d" % (name, getattr(channel, name)) for name, _ in Channel._fields_))
+
+
+if __name__ == "__main__":
+    main()

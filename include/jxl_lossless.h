@@ -1,0 +1,163 @@
+/* jxl_lossless.h - lossless JPEG XL pictures: a file in memory to samples or pixels.
+ *
+ *     jxl_lossless_limits limits = {sizeof limits};
+ *     jxl_lossless_info info = {sizeof info};
+ *     char why[JXL_LOSSLESS_MESSAGE];
+ *     jxl_lossless_usual_limits(&limits);
+ *     if (jxl_lossless_read_info(file, size, &limits, &info, why, sizeof why) != JXL_LOSSLESS_DONE) ..
+ *     int32_t *samples = malloc(info.samples * sizeof *samples);
+ *     if (jxl_lossless_decode(file, size, &limits, samples, info.samples, why, sizeof why) != JXL_LOSSLESS_DONE) ..
+ *
+ * The functions are proved (crate jxl_c, docs/C.md): called as this header says, none of them reads or writes outside
+ * what it is given, overflows, or runs for ever, whatever the bytes of the file are.
+ *
+ * Memory. Nothing is kept between calls: there is no handle, no global state, and nothing to free. A call takes memory
+ * by malloc and gives all of it back by free before it returns. Where malloc fails, the call returns
+ * JXL_LOSSLESS_NO_MEMORY. The program's malloc, realloc and free are used: they must belong to one allocator, and align
+ * as C says.
+ *
+ * Threads. Any functions may run in any number of threads at once, on other memory; several calls may read one file at
+ * once. Call none from a signal handler, nor in the child of a fork in a process with threads.
+ *
+ * What the caller owes (no call checks it): each pointer leads to as much memory as its size says, which no other thread
+ * writes meanwhile. What a call writes overlaps nothing else that it is given. A pointer to a struct or to a number is
+ * aligned and not NULL. The pointer of an array may be NULL if its size is 0. Each array is smaller than 2^63 bytes. A
+ * call needs at most 64 kB of stack.
+ *
+ * Structs grow. The first field of a struct is its size in bytes, as the program was compiled: set it before each call.
+ * A call returns JXL_LOSSLESS_WRONG_STRUCT if it is smaller than what the library knows.
+ *
+ * If a call does not return JXL_LOSSLESS_DONE, it has changed nothing but the message.
+ *
+ * Messages. `message` gets the reason in English, cut off to fit, and a zero after it; "" with JXL_LOSSLESS_DONE. It may
+ * be NULL if `message_size` is 0.
+ *
+ * x86-64 with SSE4.2 (x86-64-v2), System V calling convention; C99, C++98.
+ */
+#ifndef JXL_LOSSLESS_H
+#define JXL_LOSSLESS_H
+
+#include <stddef.h>
+#include <stdint.h>
+
+#ifdef __cplusplus
+extern "C" {
+#endif
+
+/* How a call ended. The numbers do not change. */
+typedef uint32_t jxl_lossless_status;
+enum {
+    JXL_LOSSLESS_DONE = 0,         /* done */
+    JXL_LOSSLESS_NOT_JXL = 1,      /* the file begins neither as a codestream nor as boxes of JPEG XL */
+    JXL_LOSSLESS_INVALID = 2,      /* the file breaks the standard */
+    JXL_LOSSLESS_TRUNCATED = 3,    /* the file ends too early: more bytes may help */
+    JXL_LOSSLESS_UNSUPPORTED = 4,  /* lossy, an animation, or another feature that the library does not support */
+    JXL_LOSSLESS_TOO_LARGE = 5,    /* above the limits */
+    JXL_LOSSLESS_NO_MEMORY = 6,    /* malloc failed */
+    JXL_LOSSLESS_WRONG_COUNT = 7,  /* the array has another size than the call needs */
+    JXL_LOSSLESS_WRONG_STRUCT = 8  /* the size of a struct is smaller than what the library knows */
+};
+
+/* Each message with its final zero fits this number of bytes. */
+#define JXL_LOSSLESS_MESSAGE 128
+
+/* How large a picture may be. A short file may ask for a picture of any size. */
+typedef struct jxl_lossless_limits {
+    uint64_t size;      /* sizeof (jxl_lossless_limits) */
+    uint64_t pixels;    /* the maximum number of pixels */
+    uint64_t bytes;     /* the maximum number of bytes of all samples, four for each */
+    uint64_t profile;   /* the maximum number of bytes of the ICC profile */
+    uint32_t channels;  /* the maximum number of channels */
+    uint32_t decisions; /* the maximum number of decisions for a sample, in the tree that sections share */
+} jxl_lossless_limits;
+
+/* What the headers of a file say of its picture. */
+typedef struct jxl_lossless_info {
+    uint64_t size;          /* sizeof (jxl_lossless_info) */
+    uint32_t width, height; /* of the picture as it is shown: already turned or mirrored as the file asks */
+    uint32_t colours;       /* the number of channels of colours: 1, grey; 3, red, green and blue */
+    uint32_t extra;         /* the number of extra channels; there are colours + extra channels */
+    uint32_t bits;          /* of a sample of colours: from 1 to 31, whole numbers from 0 to 2^bits - 1; or 32 */
+    uint32_t exponent_bits; /* 0, whole numbers; 8, the samples are the bits of floats */
+    uint32_t alpha;         /* the number of the first alpha channel with the sides of the picture, or 0: none */
+    uint32_t space;         /* of colours: 0, red, green and blue; 1, grey; 3, only the profile says it */
+    uint32_t white;         /* the white point: 1, D65; 2, by coordinates; 10, E; 11, DCI */
+    uint32_t primaries;     /* 1, sRGB; 2, by coordinates; 9, BT.2100; 11, P3 */
+    uint32_t transfer;      /* 1, BT.709; 8, linear; 13, sRGB; 16, PQ; 17, DCI; 18, HLG; 0, by the exponent `gamma` */
+    uint32_t gamma;         /* the exponent in 10 millionths, if transfer is 0; else 0 */
+    uint32_t intent;        /* the rendering intent: 0, perceptual; 1, relative; 2, saturation; 3, absolute */
+    uint32_t interleaved;   /* the number of samples of a pixel in jxl_lossless_decode_8 and _16: colours, and alpha */
+    uint64_t profile;       /* the number of bytes of the ICC profile, which then describes the colours; or 0: none */
+    uint64_t samples;       /* the number of samples of all channels together */
+} jxl_lossless_info;
+
+/* What the samples of a channel are: the kinds of extra channels as the standard numbers them, and colours. */
+enum {
+    JXL_LOSSLESS_ALPHA = 0,
+    JXL_LOSSLESS_DEPTH = 1,
+    JXL_LOSSLESS_SPOT_COLOUR = 2,
+    JXL_LOSSLESS_SELECTION_MASK = 3,
+    JXL_LOSSLESS_BLACK = 4,
+    JXL_LOSSLESS_FILTER_ARRAY = 5,
+    JXL_LOSSLESS_THERMAL = 6,
+    JXL_LOSSLESS_UNKNOWN = 15,
+    JXL_LOSSLESS_OPTIONAL = 16,
+    JXL_LOSSLESS_COLOUR = 256
+};
+
+/* A channel. This struct does not grow. */
+typedef struct jxl_lossless_channel {
+    uint64_t first;         /* the number of its first sample among those of jxl_lossless_decode */
+    uint32_t kind;          /* JXL_LOSSLESS_COLOUR, or the kind of an extra channel */
+    uint32_t width, height; /* the sides of the picture by 2^shift, rounded up */
+    uint32_t shift;
+    uint32_t bits;          /* of a sample: whole numbers from 0 to 2^bits - 1, or 32 */
+    uint32_t exponent_bits; /* 0, whole numbers; 8, the samples are the bits of floats */
+    uint32_t associated;    /* of alpha: 1, colours were multiplied by it; else 0 */
+    uint32_t reserved;      /* 0 */
+} jxl_lossless_channel;
+
+/* Fills the limits, but for their size, with those that serve most: 2^28 pixels, 256 channels, 2^31 bytes of samples,
+ * 2^24 bytes of a profile, and 128 decisions for a sample. Returns JXL_LOSSLESS_DONE or JXL_LOSSLESS_WRONG_STRUCT. */
+jxl_lossless_status jxl_lossless_usual_limits(jxl_lossless_limits *limits);
+
+/* Reads the headers of a file, and decodes no sample. With JXL_LOSSLESS_DONE `info` is filled, but for its size, and all
+ * that comes before the sections of samples is valid and supported. jxl_lossless_decode may still refuse these. */
+jxl_lossless_status jxl_lossless_read_info(const uint8_t *file, size_t file_size, const jxl_lossless_limits *limits,
+                                           jxl_lossless_info *info, char *message, size_t message_size);
+
+/* Describes each channel of a file: those of colours, then the extra channels in the file's order. `count` is
+ * info.colours + info.extra; with any other the call returns JXL_LOSSLESS_WRONG_COUNT. It decodes no sample. */
+jxl_lossless_status jxl_lossless_channels(const uint8_t *file, size_t file_size, const jxl_lossless_limits *limits,
+                                          jxl_lossless_channel *channels, size_t count,
+                                          char *message, size_t message_size);
+
+/* Copies the ICC profile of a file. `profile_size` is info.profile; with any other the call returns
+ * JXL_LOSSLESS_WRONG_COUNT. It decodes no sample. */
+jxl_lossless_status jxl_lossless_profile(const uint8_t *file, size_t file_size, const jxl_lossless_limits *limits,
+                                         uint8_t *profile, size_t profile_size, char *message, size_t message_size);
+
+/* Decodes a file. With JXL_LOSSLESS_DONE `samples` holds the picture as it is shown: one channel after another, each row
+ * by row from the top, and from left to right. A sample is the number that was coded, which may lie outside the range of
+ * its depth. `count` is info.samples; with any other the call returns JXL_LOSSLESS_WRONG_COUNT. */
+jxl_lossless_status jxl_lossless_decode(const uint8_t *file, size_t file_size, const jxl_lossless_limits *limits,
+                                        int32_t *samples, size_t count, char *message, size_t message_size);
+
+/* Decodes a file to pixels: row by row from the top, and from left to right, info.interleaved numbers for each pixel:
+ * grey; grey and alpha; red, green and blue; or red, green, blue and alpha. Each number is from 0 to 255, the nearest to
+ * the sample as a part of its maximum, 2^bits - 1; a sample outside this range counts as the nearest one in it. `size` is
+ * the number of bytes of the array: info.width * info.height * info.interleaved; with any other the call returns
+ * JXL_LOSSLESS_WRONG_COUNT. For colours of more than 16 bits it returns JXL_LOSSLESS_UNSUPPORTED. */
+jxl_lossless_status jxl_lossless_decode_8(const uint8_t *file, size_t file_size, const jxl_lossless_limits *limits,
+                                          uint8_t *pixels, size_t size, char *message, size_t message_size);
+
+/* The same with numbers from 0 to 65535. `size` is the number of bytes of the array:
+ * info.width * info.height * info.interleaved * 2. */
+jxl_lossless_status jxl_lossless_decode_16(const uint8_t *file, size_t file_size, const jxl_lossless_limits *limits,
+                                           uint16_t *pixels, size_t size, char *message, size_t message_size);
+
+#ifdef __cplusplus
+}
+#endif
+
+#endif
