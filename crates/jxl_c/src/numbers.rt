@@ -8,6 +8,7 @@ use jxl_image_header::colour::{
     ColourSpace, Primaries, RenderingIntent, TransferFunction, WhitePoint,
 };
 
+/// The number of a colour space: that of the image header.
 pub fn space_number(space: ColourSpace) -> u32
     ensures { result ≡ the_space space }
 {
@@ -19,6 +20,7 @@ pub fn space_number(space: ColourSpace) -> u32
     }
 }
 
+/// The number of a white point: that of the image header, 2 for one by its coordinates.
 pub fn white_number(white: WhitePoint) -> u32
     ensures { result ≡ the_white white }
 {
@@ -30,6 +32,7 @@ pub fn white_number(white: WhitePoint) -> u32
     }
 }
 
+/// The number of primaries: that of the image header, 2 for those by their coordinates.
 pub fn primaries_number(primaries: Primaries) -> u32
     ensures { result ≡ the_primaries primaries }
 {
@@ -41,6 +44,7 @@ pub fn primaries_number(primaries: Primaries) -> u32
     }
 }
 
+/// The number of a transfer function: that of the image header, 0 for one by its exponent.
 pub fn transfer_number(function: TransferFunction) -> u32
     ensures { result ≡ the_transfer function }
 {
@@ -65,6 +69,7 @@ pub fn gamma_of(function: TransferFunction) -> u32
     }
 }
 
+/// The number of a rendering intent: that of the image header.
 pub fn intent_number(intent: RenderingIntent) -> u32
     ensures { result ≡ the_intent intent }
 {
@@ -76,6 +81,7 @@ pub fn intent_number(intent: RenderingIntent) -> u32
     }
 }
 
+/// The number of a kind of extra channel: that of the image header.
 pub fn kind_number(kind: ExtraChannelKind) -> u32
     ensures { result ≡ the_kind kind }
 {
