@@ -15,6 +15,8 @@ use Rattle.jxl_netpbm_read.specs.Files.{IsErrorOf, IsNetpbmOf}
 use Rattle.jxl_picture.specs.declared.limits.Limits.{Limits}
 use Rattle.jxl_picture.specs.declared.picture.Picture.{Picture}
 use Rattle.jxl_png_read.specs.Files.{IsErrorOf as IsPngErrorOf, IsPngOf}
+use Rattle.jxl_png.specs.declared.error.PngError.TheVariants.{Signature}
+use Rattle.jxl_png_read.specs.declared.error.ReadError.TheVariants.{Png}
 use Rattle.jxlm_base.specs.Grid.{Grid}
 use Rattle.jxlenc.specs.Failures.{failure_line, is_of_output, subject}
 use Rattle.jxlenc.specs.declared.failures.Failure.{Failure}
@@ -88,9 +90,9 @@ pub record IsBegun (boxed : Bool) (left rest : Option (List ℕ)) (Given : Metad
 abbrev pub usual_limits : Limits
 usual_limits = record { pixels = 2 ^ 28; channels = 256; bytes = 2 ^ 31; profile = 2 ^ 24; decisions = 128 }
 
--- what each failure says of an input whose picture is not encoded
+-- what each failure says of an input whose picture is not encoded: one without the signature of PNG files has an error of netpbm files
 abbrev pub PictureFails : List ℕ → Failure → Type 0
-PictureFails input (failures.Picture error) = IsErrorOf input error
+PictureFails input (failures.Picture error) = IsPngErrorOf usual_limits input (Png Signature) × IsErrorOf input error
 PictureFails input (failures.Png error) = IsPngErrorOf usual_limits input error
 PictureFails input failure = ⊥
 

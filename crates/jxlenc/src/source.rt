@@ -6,6 +6,8 @@ ghost use Rattle.jxl_encode.specs.Codable.{IsCodable};
 ghost use Rattle.jxl_image_header.specs.Images.{image_of};
 ghost use Rattle.jxl_picture.specs.Pictures.{IsWhole};
 ghost use Rattle.jxl_png_read.specs.Files.{IsErrorOf};
+ghost use Rattle.jxl_png.specs.declared.error.PngError.TheVariants.{Signature};
+ghost use Rattle.jxl_png_read.specs.declared.error.ReadError.TheVariants.{Png};
 ghost use Rattle.jxlenc.specs.Encodings.{IsSource, PictureFails, usual_limits};
 
 use crate::failures::Failure;
@@ -25,8 +27,9 @@ pub struct Source {
     pub xmp: Option<Vec<u8>>,
 }
 
-// The picture of a netpbm file. Each that is read can be coded.
+// The picture of a netpbm file, which has not the signature of a PNG file. Each that is read can be coded.
 fn netpbm_source(alloc: Global, input: &[u8]) -> Result<Source, Failure>
+    requires { IsErrorOf usual_limits input.now (Png Signature) }
     ensures source { IfOk result (λ s. IsSource input.now (image_of s.picture.header) s.picture.channels.items
         (bytes_if s.picture.profile) (bytes_if s.exif) (bytes_if s.xmp)) }
     ensures whole { IfOk result (λ s. IsWhole (image_of s.picture.header) s.picture.channels.items) }
