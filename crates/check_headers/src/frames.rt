@@ -9,11 +9,11 @@ use jxl_codestream::layout::Layout;
 use jxl_codestream::profile::read_encoded;
 use jxl_codestream::toc::Toc;
 use jxl_coding::decoder::EntropyDecoder;
-use jxl_frame_header::blending::{Blending, BlendingInfo, FrameUse};
-use jxl_frame_header::coding::Coding;
+use jxl_frame_header::blending::{BlendingInfo, FrameBlending, FrameUse};
+use jxl_frame_header::coding::FrameCoding;
 use jxl_frame_header::frame::FrameHeader;
 use jxl_frame_header::passes::Passes;
-use jxl_frame_header::place::Place;
+use jxl_frame_header::place::FrameArea;
 use jxl_image_header::fields::align;
 use jxl_image_header::image::ImageHeader;
 use jxlm_bits::bits::Bitstream;
@@ -34,7 +34,7 @@ fn tell_list(text: &mut String, numbers: &[u32]) -> Option<()> {
 }
 
 /// Adds the flags of a frame.
-fn tell_flags(text: &mut String, coding: Coding) -> Option<()> {
+fn tell_flags(text: &mut String, coding: FrameCoding) -> Option<()> {
     if coding.flags.noise {
         write!(text, " noise").ok()?;
     }
@@ -85,7 +85,7 @@ fn tell_passes(text: &mut String, passes: &Passes) -> Option<()> {
 }
 
 /// Adds where a frame lies.
-fn tell_place(text: &mut String, place: Place) -> Option<()> {
+fn tell_place(text: &mut String, place: FrameArea) -> Option<()> {
     if place.lf_level != 0 {
         write!(text, " level {}", place.lf_level).ok()?;
     }
@@ -110,7 +110,7 @@ fn tell_info(text: &mut String, info: BlendingInfo) -> Option<()> {
 }
 
 /// Adds how a frame is blended, the colours first.
-fn tell_blending(text: &mut String, blending: &Blending) -> Option<()> {
+fn tell_blending(text: &mut String, blending: &FrameBlending) -> Option<()> {
     tell_info(text, blending.blending_info)?;
     for info in blending.ec_blending_info.iter() {
         tell_info(text, *info)?;

@@ -9,7 +9,7 @@ use Rattle.jxl_frame_header.specs.declared.coding.FrameType.TheVariants.{Regular
 use Rattle.jxl_frame_header.specs.declared.coding.Encoding.{Encoding}
 use Rattle.jxl_frame_header.specs.declared.coding.Encoding.TheVariants.{VarDct, Modular}
 use Rattle.jxl_frame_header.specs.declared.coding.FrameFlags.{FrameFlags}
-use Rattle.jxl_frame_header.specs.declared.coding.Coding.{Coding}
+use Rattle.jxl_frame_header.specs.declared.coding.FrameCoding.{FrameCoding}
 use Rattle.jxl_frame_header.specs.declared.refusal.Refusal.{Refusal}
 use Rattle.jxl_frame_header.specs.declared.refusal.Refusal.TheVariants as refusals
 
@@ -24,7 +24,7 @@ unfoldable pub factor : Grammar ℕ
 factor = u32 (Const 1) (Const 2) (Const 4) (Const 8)
 
 -- How a frame is coded whose colours are XYB or not; how the parts of YCbCr are sampled is not looked at.
-unfoldable pub coding : Bool → Bool → Grammar Coding
+unfoldable pub coding : Bool → Bool → Grammar FrameCoding
 coding follows xyb = do
   n ← when follows (number 2) 0
   modular ← when follows flag false
@@ -47,7 +47,7 @@ type_refusal LfFrame = Some refusals.LfFrame
 type_refusal SkipProgressive = Some refusals.SkippedFrame
 type_refusal other = None
 
-abbrev pub coding_refusal : Bool → Bool → Coding → Option Refusal
+abbrev pub coding_refusal : Bool → Bool → FrameCoding → Option Refusal
 coding_refusal floats shifts c = option_or (type_refusal c.frame_type) (
     if not (is_modular c.encoding) then Some refusals.VarDct else
     if c.flags.noise then Some refusals.Noise else

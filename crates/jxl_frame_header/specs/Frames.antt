@@ -12,8 +12,8 @@ use Rattle.jxl_frame_header.specs.Passes.{Passes, passes, passes_of}
 use Rattle.jxl_frame_header.specs.Places.{crop, is_lf, is_shown, is_reference}
 use Rattle.jxl_frame_header.specs.Blendings.{blending_info, is_replace, frame_use}
 use Rattle.jxl_frame_header.specs.Filters.{filter}
-use Rattle.jxl_frame_header.specs.declared.coding.Coding.{Coding}
-use Rattle.jxl_frame_header.specs.declared.place.Place.{Place}
+use Rattle.jxl_frame_header.specs.declared.coding.FrameCoding.{FrameCoding}
+use Rattle.jxl_frame_header.specs.declared.place.FrameArea.{FrameArea}
 use Rattle.jxl_frame_header.specs.declared.blending.BlendingInfo.{BlendingInfo}
 use Rattle.jxl_frame_header.specs.declared.blending.FrameUse.{FrameUse}
 use Rattle.jxl_frame_header.specs.declared.filter.RestorationFilter.{RestorationFilter}
@@ -23,11 +23,11 @@ use Rattle.jxl_frame_header.specs.declared.refusal.Refusal.TheVariants as refusa
 
 -- a frame header, seen without its memory
 pub record Frame : Type 0 where
-  pub coding : Coding
+  pub coding : FrameCoding
   pub ec_upsampling : List ℕ
   pub group_dim : ℕ
   pub passes : Passes
-  pub place : Place
+  pub place : FrameArea
   pub blending_info : BlendingInfo
   pub ec_blending_info : List BlendingInfo
   pub frame_use : FrameUse

@@ -50,7 +50,7 @@ pub struct BlendingInfo {
 
 /// How a frame is blended.
 #[derive(Drop)]
-pub struct Blending {
+pub struct FrameBlending {
     pub blending_info: BlendingInfo,
     /// Of each extra channel; none for a frame that is not shown, nor where the header says nothing.
     pub ec_blending_info: Vec<BlendingInfo>,
@@ -229,7 +229,7 @@ fn is_blended(infos: &[BlendingInfo]) -> bool
     infos.iter().any(|info| !info.replaces())
 }
 
-impl Blending {
+impl FrameBlending {
     /// What of it is not supported: the first channels, in order, that are blended.
     pub fn refused(&self) -> Option<Refusal>
         ensures { result ≡ (if not (the_is_replace self.now.blending_info.mode) then Some refusals.Blending else

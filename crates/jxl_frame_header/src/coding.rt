@@ -48,7 +48,7 @@ pub struct FrameFlags {
 
 /// How a frame is coded.
 #[derive(Clone, Copy)]
-pub struct Coding {
+pub struct FrameCoding {
     pub frame_type: FrameType,
     pub encoding: Encoding,
     pub flags: FrameFlags,
@@ -132,11 +132,11 @@ fn factor_if(bits: &mut Bitstream<'_>, there: bool) -> Result<u32>
     )
 }
 
-impl Coding {
+impl FrameCoding {
     /// How a frame of an image whose colours are XYB, or are not, is coded, as it stands at the reader's position,
     /// if the header signals it.
     #[tactic(auto, unfolding(crate::specs::Codings::coding))]
-    pub fn parse(bits: &mut Bitstream<'_>, follows: bool, xyb: bool) -> Result<Coding>
+    pub fn parse(bits: &mut Bitstream<'_>, follows: bool, xyb: bool) -> Result<FrameCoding>
         ensures { HasRead Reads (λ v. v) result bits.old bits.new (coding follows xyb) }
     {
         let frame_type = number_if(bits, follows, 2, 0)?;
@@ -145,7 +145,7 @@ impl Coding {
         let ycbcr = flag_if(bits, follows & !xyb, false)?;
         number_if(bits, ycbcr & !flags.use_lf_frame, 6, 0)?;
         let upsampling = factor_if(bits, follows & !flags.use_lf_frame)?;
-        Ok(Coding {
+        Ok(FrameCoding {
             frame_type: type_of(frame_type),
             encoding: encoding_of(modular),
             flags,

@@ -10,11 +10,11 @@ ghost use Rattle.jxl_frame_header.specs.Codings.{factor};
 ghost use Rattle.jxl_frame_header.specs.Frames.{frame_of, frame_header, has_shifts as the_has_shifts, frame_refusal, is_saved as the_is_saved, frame_size};
 ghost use Rattle.jxl_frame_header.specs.declared.refusal.Refusal.TheVariants as refusals;
 
-use crate::blending::{Blending, BlendingInfo, FrameUse, read_infos_if};
-use crate::coding::Coding;
+use crate::blending::{BlendingInfo, FrameBlending, FrameUse, read_infos_if};
+use crate::coding::FrameCoding;
 use crate::filter::RestorationFilter;
 use crate::passes::{Passes, factors};
-use crate::place::{Crop, Place, lf_level};
+use crate::place::{Crop, FrameArea, lf_level};
 use crate::refusal::Refusal;
 use jxl_image_header::fields::{bundle_follows, extensions_if, name_if, number_if};
 use jxl_image_header::image::ImageHeader;
@@ -26,15 +26,15 @@ use std::alloc::Global;
 /// What the headers say of a frame before its sections.
 #[derive(Drop)]
 pub struct FrameHeader {
-    pub coding: Coding,
+    pub coding: FrameCoding,
     /// Of each extra channel, the frame's sides by this: 1, 2, 4 or 8, and further by the channel's own shift; none
     /// where the header says nothing, or low frequencies are those of another frame.
     pub ec_upsampling: Vec<u32>,
     /// The side of a group: 128, 256, 512 or 1024.
     pub group_dim: u32,
     pub passes: Passes,
-    pub place: Place,
-    pub blending: Blending,
+    pub place: FrameArea,
+    pub blending: FrameBlending,
     pub frame_use: FrameUse,
     /// How many bytes the frame's name has, at most 1071; they are passed.
     pub name_len: u32,
@@ -112,7 +112,7 @@ impl FrameHeader {
         let xyb = image.xyb_encoded;
         let extra = image.ec_info.len();
         let follows = bundle_follows(bits, true)?;
-        let coding = Coding::parse(bits, follows, xyb)?;
+        let coding = FrameCoding::parse(bits, follows, xyb)?;
         let frame_type = coding.frame_type;
         let modular = coding.encoding.is_modular();
         let ec_upsampling = factors_if(alloc, bits, follows & !coding.flags.use_lf_frame, extra)?;
@@ -126,7 +126,7 @@ impl FrameHeader {
             image.size,
             frame_type.is_shown(),
         )?;
-        let place = Place { lf_level, crop };
+        let place = FrameArea { lf_level, crop };
         let partial = place.is_partial();
         let shown = follows & frame_type.is_shown();
         let colours = BlendingInfo::parse_if(bits, shown, extra, partial)?;
@@ -142,7 +142,7 @@ impl FrameHeader {
             group_dim: 128 << shift,
             passes,
             place,
-            blending: Blending {
+            blending: FrameBlending {
                 blending_info: colours,
                 ec_blending_info: others,
             },

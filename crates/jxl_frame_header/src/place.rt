@@ -30,7 +30,7 @@ pub struct Crop {
 
 /// Where a frame lies.
 #[derive(Clone, Copy)]
-pub struct Place {
+pub struct FrameArea {
     /// Of a frame of low frequencies, how many times the picture's sides are divided by 8; else 0.
     pub lf_level: u32,
     /// A size and a place of its own; else it covers the picture.
@@ -182,7 +182,7 @@ impl Crop {
     }
 }
 
-impl Place {
+impl FrameArea {
     /// Whether it is shown, and leaves a part of the picture to the frame before.
     pub fn is_partial(&self) -> bool
         ensures { result ≡ option_map_or (λ c. c.partial) self.now.crop false }

@@ -12,7 +12,7 @@ use Rattle.jxl_image_header.specs.Fields.{long, when, number_where}
 use Rattle.jxl_image_header_write.proofs.Spellings.{meant}
 use Rattle.jxl_frame_header.specs.Codings.{factor, flags_of, coding, is_modular}
 use Rattle.jxl_frame_header.specs.Passes.{Passes, passes}
-use Rattle.jxl_frame_header.specs.declared.coding.Coding.{Coding}
+use Rattle.jxl_frame_header.specs.declared.coding.FrameCoding.{FrameCoding}
 use Rattle.jxl_frame_header.specs.declared.coding.FrameFlags.{FrameFlags}
 use Rattle.jxl_frame_header.specs.declared.coding.FrameType.{FrameType}
 use Rattle.jxl_frame_header.specs.declared.coding.FrameType.TheVariants.{Regular, LfFrame, ReferenceOnly, SkipProgressive}
@@ -69,7 +69,7 @@ not_true true h = absurd (false≢true h)
 not_true false h = refl
 
 -- what the writer asks of a coding
-pub record CodingParts (c : Coding) : Type 0 where
+pub record CodingParts (c : FrameCoding) : Type 0 where
   pub modular : c.encoding ≡ Modular
   pub colours : c.do_ycbcr ≡ false
   pub factor : not c.flags.use_lf_frame ≡ true → is_factor c.upsampling ≡ true
@@ -83,17 +83,17 @@ by_factor : (t : Bool) (v : ℕ) → (if t then v == 1 else is_factor v) ≡ tru
 by_factor true v h = (λ e. absurd (false≢true e), λ e. eqb-true v 1 h)
 by_factor false v h = (λ e. h, λ e. absurd (false≢true (sym e)))
 
-pub coding_parts : (c : Coding) → is_coding c ≡ true → CodingParts c
+pub coding_parts : (c : FrameCoding) → is_coding c ≡ true → CodingParts c
 coding_parts c w =
     let s2 = and_parts (is_modular c.encoding && not c.do_ycbcr) (if c.flags.use_lf_frame then c.upsampling == 1 else is_factor c.upsampling) w in
     let s1 = and_parts (is_modular c.encoding) (not c.do_ycbcr) s2.0 in
     let f = by_factor c.flags.use_lf_frame c.upsampling s2.1 in
     record { modular = modular_is c.encoding s1.0; colours = not_true c.do_ycbcr s1.1; factor = f.0; whole = f.1 }
 
-abbrev coding_by : Coding → FrameType → Encoding → Bool → Coding
+abbrev coding_by : FrameCoding → FrameType → Encoding → Bool → FrameCoding
 coding_by c frame_type encoding ycbcr = record { frame_type = frame_type; encoding = encoding; flags = c.flags; do_ycbcr = ycbcr; upsampling = c.upsampling }
 
-pub coding_spelled : (xyb : Bool) (c : Coding) (n v : ℕ) (b0 b1 b2 b3 b4 b5 : List ℕ) → CodingParts c → IsTypeNumber n c.frame_type → flags_of v ≡ c.flags → Spells b0 b1 (number 2) n →
+pub coding_spelled : (xyb : Bool) (c : FrameCoding) (n v : ℕ) (b0 b1 b2 b3 b4 b5 : List ℕ) → CodingParts c → IsTypeNumber n c.frame_type → flags_of v ≡ c.flags → Spells b0 b1 (number 2) n →
     Spells b1 b2 flag true → Spells b2 b3 long v → Spells b3 b4 (when (not xyb) flag false) false → Spells b4 b5 (when (not c.flags.use_lf_frame) factor 1) c.upsampling → Spells b0 b5 (coding true xyb) c
 unfolding coding
 coding_spelled xyb c n v b0 b1 b2 b3 b4 b5 parts kind flags t m l y f =

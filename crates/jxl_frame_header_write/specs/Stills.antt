@@ -4,7 +4,7 @@ use Rattle.jxl_image_header.specs.Images.{Image}
 use Rattle.jxl_frame_header.specs.Codings.{flags_of}
 use Rattle.jxl_frame_header.specs.Passes.{Passes}
 use Rattle.jxl_frame_header.specs.Frames.{Frame}
-use Rattle.jxl_frame_header.specs.declared.coding.Coding.{Coding}
+use Rattle.jxl_frame_header.specs.declared.coding.FrameCoding.{FrameCoding}
 use Rattle.jxl_frame_header.specs.declared.coding.FrameType.TheVariants.{Regular}
 use Rattle.jxl_frame_header.specs.declared.coding.Encoding.TheVariants.{Modular}
 use Rattle.jxl_frame_header.specs.declared.blending.BlendingInfo.{BlendingInfo}
@@ -13,7 +13,7 @@ use Rattle.jxl_frame_header.specs.declared.blending.FrameUse.{FrameUse}
 use Rattle.jxl_frame_header.specs.declared.filter.RestorationFilter.{RestorationFilter}
 
 -- a frame that is shown, Modular, without noise, patches, splines, YCbCr and upsampling
-abbrev pub still_coding : Coding
+abbrev pub still_coding : FrameCoding
 still_coding = record { frame_type = Regular; encoding = Modular; flags = flags_of 0; do_ycbcr = false; upsampling = 1 }
 
 abbrev pub one_pass : Passes

@@ -14,7 +14,7 @@ use Rattle.jxl_frame_header.specs.Passes.{Passes}
 use Rattle.jxl_frame_header.specs.Places.{is_shown, is_lf, is_reference, covers}
 use Rattle.jxl_frame_header.specs.Blendings.{is_replace}
 use Rattle.jxl_frame_header.specs.Frames.{Frame}
-use Rattle.jxl_frame_header.specs.declared.coding.Coding.{Coding}
+use Rattle.jxl_frame_header.specs.declared.coding.FrameCoding.{FrameCoding}
 use Rattle.jxl_frame_header.specs.declared.coding.FrameType.{FrameType}
 use Rattle.jxl_frame_header.specs.declared.place.Crop.{Crop}
 use Rattle.jxl_frame_header.specs.declared.blending.BlendMode.{BlendMode}
@@ -28,7 +28,7 @@ abbrev pub is_factor : ℕ → Bool
 is_factor v = is_spelled (Const 1) (Const 2) (Const 4) (Const 8) v
 
 -- Modular, without YCbCr, and of the picture's resolution where another frame has its low frequencies
-abbrev pub is_coding : Coding → Bool
+abbrev pub is_coding : FrameCoding → Bool
 is_coding c = is_modular c.encoding && not c.do_ycbcr && (if c.flags.use_lf_frame then c.upsampling == 1 else is_factor c.upsampling)
 
 -- a factor of each of n extra channels, where these are told

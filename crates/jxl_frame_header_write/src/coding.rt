@@ -9,7 +9,7 @@ ghost use Rattle.jxl_frame_header_write.specs.Inner.Numbers.{IsTypeNumber, if_se
 ghost use Rattle.jxl_frame_header_write.specs.Writable.{is_factor as the_is_factor, is_coding as the_is_coding, are_factors as the_are_factors, is_dim as the_is_dim};
 
 use crate::fields::{are_spelled, write_field_if, write_fields, write_long};
-use jxl_frame_header::coding::{Coding, FrameFlags, FrameType};
+use jxl_frame_header::coding::{FrameCoding, FrameFlags, FrameType};
 use jxl_image_header_write::fields::write_flag_if;
 use jxlm_bit_writer::spelled::{is_spelled, write_flag, write_number};
 use jxlm_bit_writer::writer::BitWriter;
@@ -62,7 +62,7 @@ fn is_factor(value: u32) -> bool
 }
 
 /// Whether the writer spells how a frame is coded.
-pub fn is_coding(coding: Coding) -> bool
+pub fn is_coding(coding: FrameCoding) -> bool
     ensures { result ≡ the_is_coding coding }
 {
     let factor = if coding.flags.use_lf_frame {
@@ -93,7 +93,7 @@ fn write_factor_if(bits: &mut BitWriter, present: bool, value: u32) -> Result<()
 }
 
 /// Adds how a Modular frame is coded, of an image whose colours are XYB or not.
-pub fn write_coding(bits: &mut BitWriter, xyb: bool, coding: Coding) -> Result<(), AllocError>
+pub fn write_coding(bits: &mut BitWriter, xyb: bool, coding: FrameCoding) -> Result<(), AllocError>
     requires { the_is_coding coding ≡ true }
     ensures { IfOk result (λ _. Spells bits.old bits.new (the_coding true xyb) coding) }
 {
