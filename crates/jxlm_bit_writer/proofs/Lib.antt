@@ -2,3 +2,4 @@ pub mod BitLists
 pub mod FieldLaws
 pub mod HeldBits
 pub mod WriteLaws
+pub mod WordsBack
