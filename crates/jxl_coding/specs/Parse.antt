@@ -60,34 +60,37 @@ lz77_at may bytes p = do
     Ok (record { value = Some (record { min_symbol = symbol.value; min_length = least.value; length_config = config.value; cluster = 0 }); position = config.position })) else
       Err (refusal_error MapCopies)
 
--- the codes of clusters that were read, and the symbols and buckets of them all
+-- the codes of clusters that were read, the symbols and buckets of them all, and the sum of the sizes of their alphabets
 pub record Coded : Type 0 where
   pub cluster_codes : List ClusterCode
   pub symbols : List ℕ
   pub buckets : List Bucket
+  pub alphabets : ℕ
 
 -- before the first
 abbrev pub nothing_coded : Coded
-nothing_coded = record { cluster_codes = []; symbols = []; buckets = [] }
+nothing_coded = record { cluster_codes = []; symbols = []; buckets = []; alphabets = 0 }
 
 -- the rule of a cluster
 abbrev pub config_of : List IntegerConfig → ℕ → IntegerConfig
 config_of configs c = slice_index_or configs c (record { split_exponent = 0; msb_in_token = 0; lsb_in_token = 0 })
 
--- a cluster that is coded by codewords
-abbrev pub with_prefix_code : Coded → IntegerConfig → Prefix → Coded
-with_prefix_code s config code = record {
+-- a cluster that is coded by codewords of an alphabet of this size
+abbrev pub with_prefix_code : Coded → IntegerConfig → ℕ → Prefix → Coded
+with_prefix_code s config alphabet code = record {
   cluster_codes = s.cluster_codes ++ record { config = config; only = if length code.symbols == 1 then Some (slice_index code.symbols 0) else None; start = length s.symbols; counts = code.counts } ∷ [];
   symbols = s.symbols ++ code.symbols;
   buckets = s.buckets;
+  alphabets = s.alphabets + alphabet;
 }
 
--- a cluster that is coded by slots
+-- a cluster that is coded by slots, whose alphabet has as many symbols as buckets
 abbrev pub with_distribution : Coded → IntegerConfig → List ℕ → ℕ → Coded
 with_distribution s config counts log = record {
   cluster_codes = s.cluster_codes ++ record { config = config; only = only_from 0 counts; start = length s.buckets; counts = replicate 15 0 } ∷ [];
   symbols = s.symbols;
   buckets = s.buckets ++ buckets_of counts log;
+  alphabets = s.alphabets + 2 ^ log;
 }
 
 -- the next cluster's code, of an alphabet that was signalled; one of more than 2^15 symbols is refused
@@ -95,7 +98,7 @@ unfoldable pub prefix_step : List IntegerConfig → List ℕ → Coded → List 
 prefix_step configs sizes s bytes p =
     if nat_le (2 ^ 15) (slice_index sizes (length s.cluster_codes)) then Err (refusal_error PrefixAlphabet) else (do
       code ← prefix_at (slice_index sizes (length s.cluster_codes) + 1) bytes p
-      Ok (record { value = with_prefix_code s (config_of configs (length s.cluster_codes)) code.value; position = code.position }))
+      Ok (record { value = with_prefix_code s (config_of configs (length s.cluster_codes)) (slice_index sizes (length s.cluster_codes) + 1) code.value; position = code.position }))
 
 -- the next cluster's distribution; one of more than 2^log symbols is refused
 unfoldable pub distribution_step : List IntegerConfig → ℕ → Coded → List ℕ → ℕ → Result (Found Coded) DecoderError
@@ -107,7 +110,7 @@ distribution_step configs log s bytes p = do
 -- the codes of these clusters, once each has been read
 abbrev pub codes_by : List ℕ → Option Lz77 → Coder → ℕ → Coded → Codes
 codes_by clusters lz77 coder bucket_size s =
-    record { clusters = clusters; lz77 = lz77; cluster_codes = s.cluster_codes; coder = coder; bucket_size = bucket_size; symbols = s.symbols; buckets = s.buckets }
+    record { clusters = clusters; lz77 = lz77; cluster_codes = s.cluster_codes; coder = coder; bucket_size = bucket_size; symbols = s.symbols; buckets = s.buckets; alphabets = s.alphabets }
 
 -- the codes of this number of clusters, by codewords
 unfoldable pub prefix_codes_at : List ℕ → Option Lz77 → ℕ → List ℕ → ℕ → Result (Found Codes) DecoderError

@@ -13,7 +13,7 @@ use Rattle.jxl_coding.specs.declared.codes.Coder.TheVariants.{Prefix, Ans}
 
 -- What parse settles: the cluster of each context, the rule of copies, what the symbols of each cluster are, and how
 -- they are coded: how many codewords of each cluster have the lengths 1 to 15, the symbols of these codewords one after
--- another, and the buckets of slots.
+-- another, the buckets of slots, and the sum of the sizes of the alphabets.
 pub record Codes : Type 0 where
   pub clusters : List ℕ
   pub lz77 : Option Lz77
@@ -22,6 +22,7 @@ pub record Codes : Type 0 where
   pub bucket_size : ℕ
   pub symbols : List ℕ
   pub buckets : List Bucket
+  pub alphabets : ℕ
 
 -- the code of a cluster
 abbrev pub cluster_code : List ClusterCode → ℕ → ClusterCode

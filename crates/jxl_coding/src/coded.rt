@@ -12,5 +12,7 @@ pub struct Coded {
     pub cluster_codes: Vec<ClusterCode>,
     pub symbols: Vec<u32>,
     pub buckets: Vec<Bucket>,
+    /// The sum of the sizes of their alphabets.
+    pub alphabets: u64,
     ghost rules: { All (λ code. IsConfig code.config) cluster_codes.items },
 }

@@ -37,6 +37,15 @@ impl Model for EntropyDecoder {
     ghost invariant = { λ d. IsSome d.tables.value.lz77 → IsSome d.state.window };
 }
 
+impl EntropyDecoder {
+    /// How many codewords the codes may have: the sum of the sizes of their alphabets.
+    pub fn codewords(&self) -> u64
+        ensures { result ≡ self.now.codes.alphabets }
+    {
+        self.tables.alphabets
+    }
+}
+
 impl Decoder for EntropyDecoder {
     ghost use Rattle.jxl_coding.specs.Inner.ParseLaws.{decoder_lawful};
 

@@ -30,6 +30,8 @@ pub struct Tables {
     pub buckets: Vec<Bucket>,
     /// Tables of the codewords of each cluster; none where symbols are slots.
     pub lookups: Vec<Lookup>,
+    /// The sum of the sizes of the alphabets.
+    pub alphabets: u64,
     ghost rules: { All (λ code. IsConfig code.config) cluster_codes.items },
     ghost copy_rule: { All (λ lz77. IsConfig lz77.length_config) (option_to_list lz77) },
     ghost shift: { bucket_shift ≤ 12 },

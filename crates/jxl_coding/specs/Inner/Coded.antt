@@ -13,4 +13,4 @@ listed t s clusters = record { decoder = seen t s; clusters = clusters }
 
 -- the codes that were read, as contracts see them
 abbrev pub coded_seen : Coded → parsed.Coded
-coded_seen s = record { cluster_codes = s.cluster_codes.items; symbols = s.symbols.items; buckets = s.buckets.items }
+coded_seen s = record { cluster_codes = s.cluster_codes.items; symbols = s.symbols.items; buckets = s.buckets.items; alphabets = s.alphabets }

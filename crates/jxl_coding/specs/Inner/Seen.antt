@@ -10,7 +10,7 @@ use Rattle.jxl_coding.specs.declared.state.State.{State}
 
 -- what parse settles
 abbrev pub codes_of : Tables → Codes
-codes_of t = record { clusters = t.clusters.items; lz77 = t.lz77; cluster_codes = t.cluster_codes.items; coder = t.coder; bucket_size = 2 ^ t.bucket_shift; symbols = t.symbols.items; buckets = t.buckets.items }
+codes_of t = record { clusters = t.clusters.items; lz77 = t.lz77; cluster_codes = t.cluster_codes.items; coder = t.coder; bucket_size = 2 ^ t.bucket_shift; symbols = t.symbols.items; buckets = t.buckets.items; alphabets = t.alphabets }
 
 -- the ring of a window, empty where there is none
 abbrev pub ring_in : Option Window → Ring
