@@ -20,18 +20,23 @@ loop-i-preserved c =
     let high : second < 2 ^ 32 = omega (arith, fits_too) in
     let more = c.loop-i-test.true in
     let all : c.extend_from_slice.new.self.items
-        ≡ bytes ++ to_le_bytes w64 ((held + (first + second * 4294967296 % 18446744073709551616) * 2 ^ count % 18446744073709551616) % 18446744073709551616) =
+    ≡ bytes ++ to_le_bytes w64 ((held + (first + second * 4294967296 % 18446744073709551616) * 2 ^ count % 18446744073709551616) % 18446744073709551616) =
     c.in_ok-extend_from_slice.ensures.items
     ∙ ap (λ xs. bytes ++ xs) c.to_le_bytes.ensures
     ∙ ap (λ x. bytes ++ to_le_bytes w64 ((held + (x + c.from-in-loop-i.result * 4294967296 % 18446744073709551616) * 2 ^ count % 18446744073709551616) % 18446744073709551616)) c.from.ensures
     ∙ ap (λ x. bytes ++ to_le_bytes w64 ((held + (first + x * 4294967296 % 18446744073709551616) * 2 ^ count % 18446744073709551616) % 18446744073709551616)) c.from-in-loop-i.ensures in
     subst (λ (x : ℕ). (count < 32) × ((x / 2 ^ (32 - count) < 2 ^ count) × ((c.loop-i.i + 1 ≤ length words / 2)
-      × (bits_of c.extend_from_slice.new.self.items ++ digits count (x / 2 ^ (32 - count)) ≡ c.args.self.now ++ words_back (drop (length words - 2 * (c.loop-i.i + 1)) words)))))
-    (sym c.from-in-loop-i-2.ensures)
-    (few, (rest_small held count first second small few low high, (
-        omega (arith, more),
-        back_two c.args.self.now _ _ words c.loop-i.i more c.loop-i.invariant.1.1.1 (pair_put held count first second small few low high bytes c.extend_from_slice.new.self.items all),
-      )))
+    × (bits_of c.extend_from_slice.new.self.items ++ digits count (x / 2 ^ (32 - count)) ≡ c.args.self.now ++ words_back (drop (length words - 2 * (c.loop-i.i + 1)) words)))))
+    (sym c.from-in-loop-i-2.ensures) (
+      few,
+      (
+        rest_small held count first second small few low high,
+        (
+          omega (arith, more),
+          back_two c.args.self.now _ _ words c.loop-i.i more c.loop-i.invariant.1.1.1 (pair_put held count first second small few low high bytes c.extend_from_slice.new.self.items all),
+        ),
+      ),
+    )
 
 pub returns-in_ok-put : goal.returns-in_ok-put
 returns-in_ok-put c =
