@@ -1,7 +1,7 @@
 //! Files, decoded to pictures.
 
 use crate::example::maximum_of_grey;
-use check_rows::{bytes, listed, number};
+use check_rows::{bytes, listed, number, repeated};
 use jxl_image_header::size::Size;
 use jxl_lossless::{JxlFile, Limits, Progress, Steps, decode_lossless, decode_lossless_with};
 use jxl_picture::picture::Picture;
@@ -32,9 +32,9 @@ fn tell(alloc: Global, text: &mut String, picture: &Picture, summed: bool) -> Op
     Some(())
 }
 
-/// A row asks with the bytes of a file, and before them a # where checksums are asked for. It gives the sides and the
-/// depth of its picture, and after bars the samples of each channel, row by row, or their checksum, with the sides of a
-/// channel that has others than the picture; or what the error prints.
+/// A row asks with the bytes of a file, with a star and a number after those that are repeated, and before them a # where
+/// checksums are asked for. It gives the sides and the depth of its picture, and after bars the samples of each channel,
+/// row by row, or their checksum, with the sides of a channel that has others than the picture; or what the error prints.
 pub fn seen(alloc: Global, asked: &str) -> Option<String> {
     seen_within(alloc, asked, &Limits::usual())
 }
@@ -45,7 +45,7 @@ fn seen_within(alloc: Global, asked: &str, limits: &Limits) -> Option<String> {
         Some(digits) => (digits, true),
         None => (asked, false),
     };
-    let file = bytes(alloc, digits)?;
+    let file = repeated(alloc, digits)?;
     let mut text = String::new(alloc);
     match decode_lossless(alloc, &file, limits, &mut Steps::new()) {
         Ok(picture) => tell(alloc, &mut text, &picture, summed)?,

@@ -67,6 +67,7 @@ status_of_frame (frames.Header e) = status_of_field e
 status_of_frame (frames.Samples e) = status_of_field e
 status_of_frame frames.WeightedPalette = 4
 status_of_frame frames.GroupWeightedPalette = 4
+status_of_frame frames.TooManyCodewords = 5
 status_of_frame frames.TooManyDecisions = 5
 status_of_frame frames.OutOfMemory = 6
 status_of_frame e = 2

@@ -108,7 +108,7 @@ fn of_frame(error: FrameError) -> u32
         FrameError::Header(error) | FrameError::Samples(error) => of_field(error),
         FrameError::WeightedPalette | FrameError::GroupWeightedPalette => UNSUPPORTED,
         FrameError::NoGroups | FrameError::NoSection => INVALID,
-        FrameError::TooManyDecisions => TOO_LARGE,
+        FrameError::TooManyCodewords | FrameError::TooManyDecisions => TOO_LARGE,
         FrameError::OutOfMemory => NO_MEMORY,
     }
 }

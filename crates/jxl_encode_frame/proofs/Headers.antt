@@ -6,7 +6,8 @@ use Rattle.std.proofs.lemmas.Bool.{le-ltb}
 use Rattle.std.proofs.lemmas.List.Elements.{All-head, All-tail}
 use Rattle.jxlm_bits.specs.Decoding.{Found}
 use Rattle.jxlm_bits.specs.ErrorKind.{ErrorAt}
-use Rattle.jxlm_bits.specs.Grammar.{repeated}
+use Rattle.jxlm_bits.specs.Grammar.{flag, repeated}
+use Rattle.jxlm_bits.proofs.GrammarLaws.{exact-flag}
 use Rattle.jxlm_header.specs.Header.{Header, header, header_by}
 use Rattle.jxlm_header.specs.Opening.{Opening, opening, opening_of, resolve}
 use Rattle.jxlm_header.proofs.HeaderLaws.{exact-header, exact-opening}
@@ -19,6 +20,7 @@ use Rattle.jxlm_transform.specs.declared.param.PaletteTables.TheVariants.{OfColo
 use Rattle.jxlm_tree.specs.Tree.{Config}
 use Rattle.jxlm_weighted.specs.declared.weights.WpHeader.{WpHeader}
 use Rattle.jxlm_encode_write.specs.Laws.{IsWritten}
+use Rattle.jxl_lossless.specs.Codewords.{UsesGlobalAt}
 use Rattle.jxl_lossless.specs.Stills.{IsWeightedAt}
 use Rattle.jxl_encode_image.specs.Preparations.{shared_header}
 
@@ -66,6 +68,16 @@ module _ (ts : List Transform) (written : All IsWritten ts) (bytes : List ℕ) (
       let is : own ≡ found = same_found own found (sym ((exact-header OfColours).stands_read bytes p (shared_header ts) q stands) ∙ read) in
       let (k, t, lt, at, same) = subst (λ (f : Found Header). Any (λ t. t ≡ OfPalette palette) f.value.transform) (sym is) some in
       subst IsWritten (at ∙ same) (written k t lt)
+
+  -- it uses the global tree
+  pub uses_global : UsesGlobalAt bytes p
+  uses_global =
+      let (global, i, first, after_flag) = stands in
+      let (weights, j, second, after_weights) = after_flag in
+      let (count, k, third, after_count) = after_weights in
+      let (list, m, fourth, last) = after_count in
+      let is : global ≡ true = sym (ap (λ (h : Header). h.use_global_tree) last.0) in
+      (i, subst (λ (b : Bool). flag.read bytes p ≡ Ok (record { value = b; position = i })) is (exact-flag.stands_read bytes p global i first))
 
   module _ (given : ChannelList) (coded : CodedList) (come : coded_list ts given ≡ Ok coded) (count : length coded.list.channels ≤ 65536) where
     -- it comes to the coded channels

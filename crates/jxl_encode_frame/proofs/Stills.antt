@@ -37,14 +37,17 @@ use Rattle.jxl_modular.specs.Sections.{CodesNested, CodesPart, CodesWhole, IsCom
 use Rattle.jxl_modular.specs.declared.sections.Section.{Section}
 use Rattle.jxl_codestream.specs.Layouts.{Layout}
 use Rattle.jxl_lossless.specs.Sections.{section_of}
-use Rattle.jxl_lossless.specs.Stills.{HeaderStands, IsShallowAt, IsStill, IsWeightedAt}
+use Rattle.jxl_lossless.specs.Codewords.{HasCodewords, most_codewords}
+use Rattle.jxl_lossless.specs.Parts.{groups_in_order}
+use Rattle.jxl_lossless.specs.Stills.{GroupHas, HaveCodewords, HeaderStands, IsShallowAt, IsStill, IsWeightedAt}
+use Rattle.jxl_lossless.proofs.Codewords.{sum_first}
 use Rattle.jxl_lossless.proofs.Complete.{all_ones, complete, each_one, sections_in_order}
 use Rattle.jxl_lossless.proofs.Order.{Before, Ordered}
 use Rattle.jxl_encode_image.specs.Preparations.{shared_header}
 use Rattle.jxl_encode_frame.specs.Codings.{AreSections}
 use Rattle.jxl_encode_frame.specs.Laws.{SectionsAreStill}
 use Rattle.jxl_encode_frame.proofs.Ends.{prepared_sides}
-use Rattle.jxl_encode_frame.proofs.Headers.{not_weighted, opens}
+use Rattle.jxl_encode_frame.proofs.Headers.{not_weighted, opens, uses_global}
 use Rattle.jxl_encode_image.proofs.Parts.{part_sides}
 use Rattle.jxl_encode_frame.proofs.Readers.{at_start, place_is, reader}
 use Rattle.jxl_encode_frame.proofs.Streams.{streams_rise}
@@ -188,6 +191,31 @@ module _ {D : Type 0} (d : Meaning D) (w : Width) (config : Config D) (ps : List
       let g = All-head IsOne q qs all in
       All-cons IsShallow (of_part q g) (listed qs (All-tail IsOne q qs all)) (inr (inl ((group_nested q g).start, low))) (listed_shallow qs (All-tail IsOne q qs all))
 
+  -- ---- no section has a tree of its own
+
+  abbrev Group : SectionPart → ℕ → Type 0
+  Group part n = GroupHas d w (Some config) given group_dim bit_depth first p passes (section_of layout sections) stands part n
+
+  group_has : (part : SectionPart) (g : IsOne part) → Group part 0
+  group_has part g =
+      let codes = (c.groups part g.0 g.1).3 in
+      ((c.groups part g.0 g.1).0, (c.groups part g.0 g.1).1, (c.groups part g.0 g.1).2, (None, inl (uses_global [] (All-nil IsWritten) (c.groups part g.0 g.1).0 0 codes.samples_at codes.header), refl))
+
+  groups_have : (qs : List SectionPart) → All IsOne qs → (ns : List ℕ) × AllZip Group qs ns × (sum ns ≡ 0)
+  groups_have [] all = ([], tt, refl)
+  groups_have (q ∷ qs) all =
+      let (ns, has, none) = groups_have qs (All-tail IsOne q qs all) in
+      let sum_is = sum_first 0 ns in
+      (0 ∷ ns, (group_has q (All-head IsOne q qs all), has), omega (arith, sum_is, none))
+
+  header_has : HasCodewords given first p 0
+  header_has = (None, inl (uses_global c.ready.transforms c.ready.accepted.written first p c.global.samples_at c.global.header), refl)
+
+  few : (n : ℕ) × HaveCodewords d w (Some config) given group_dim bit_depth first p passes (section_of layout sections) stands (groups_in_order x passes) n × (n ≤ most_codewords)
+  few =
+      let (ns, has, none) = groups_have (groups_in_order x passes) (all_ones x passes) in
+      (sum ns, (0, header_has, ns, has, omega arith), omega (arith, none))
+
   -- ---- all of them
 
   abbrev chain_given : Chain w bit_depth x.steps given image c.ready.samples
@@ -214,6 +242,7 @@ module _ {D : Type 0} (d : Meaning D) (w : Width) (config : Config D) (ps : List
       goes_on = place_is first c.global.samples_at header_within;
       is = refl;
     };
+    few = few;
     shallow = record { image = inr (inl (stands.start, low)); groups = listed_shallow qs ones };
     decoded = record {
       coded = c.ready.samples;

@@ -61,6 +61,7 @@ fails_wider x ps qs wider (errors.Header e) h = absurd h
 fails_wider x ps qs wider errors.WeightedPalette h = absurd h
 fails_wider x ps qs wider errors.NoGroups h = absurd h
 fails_wider x ps qs wider errors.GroupWeightedPalette h = absurd h
+fails_wider x ps qs wider errors.TooManyCodewords h = absurd h
 fails_wider x ps qs wider errors.TooManyDecisions h = absurd h
 fails_wider x ps qs wider (errors.Samples e) h = absurd h
 

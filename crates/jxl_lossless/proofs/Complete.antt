@@ -29,7 +29,7 @@ use Rattle.jxlm_section_split.specs.CutPicture.{lf_groups}
 use Rattle.jxlm_section_split.proofs.PartLists.{IsAmong, among_filter, among_left, among_range, among_right, any_section, each_of_range, each_section}
 use Rattle.jxl_lossless.proofs.Order.{Before, Ordered, before_unlike, ordered_append, ordered_filter, ordered_passes, ordered_range, sections_ordered}
 use Rattle.jxl_lossless.proofs.Passes.{all_passes, among_one}
-use Rattle.jxl_lossless.specs.Inner.Parts.{groups_in_order, low_parts, parts_of_pass, parts_of_passes, with_samples}
+use Rattle.jxl_lossless.specs.Parts.{groups_in_order, low_parts, parts_of_pass, parts_of_passes, with_samples}
 
 -- ---- each shift below 3 is held by a pass, whose number is counted
 

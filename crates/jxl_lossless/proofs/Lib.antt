@@ -12,6 +12,7 @@ pub mod Complete
 pub mod Channels
 pub mod Cuts
 pub mod Depths
+pub mod Codewords
 pub mod Frames
 pub mod FrameSections
 pub mod Holding

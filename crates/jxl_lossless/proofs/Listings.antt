@@ -9,7 +9,7 @@ use Rattle.jxl_modular.specs.Image.{Image, coded_list}
 use Rattle.jxl_modular.specs.declared.sections.Section.{Section}
 use Rattle.jxlm_section_split.proofs.PartLists.{IsAmong, among_left, among_right}
 use Rattle.jxl_lossless.specs.Inner.Listing.{AddingFails, AreAdded, ListingFails}
-use Rattle.jxl_lossless.specs.Inner.Parts.{groups_in_order, low_parts, parts_of_passes}
+use Rattle.jxl_lossless.specs.Parts.{groups_in_order, low_parts, parts_of_passes}
 use Rattle.jxl_lossless.specs.Places.{own_passes}
 use Rattle.jxl_lossless.specs.declared.still.error.FrameError.{FrameError}
 use Rattle.jxl_lossless.specs.declared.still.error.FrameError.TheVariants as errors
@@ -24,6 +24,7 @@ of_all x image (errors.Header e) cut h = absurd h
 of_all x image errors.WeightedPalette cut h = absurd h
 of_all x image errors.NoGroups cut h = absurd h
 of_all x image errors.GroupWeightedPalette cut h = absurd h
+of_all x image errors.TooManyCodewords cut h = absurd h
 of_all x image errors.TooManyDecisions cut h = absurd h
 of_all x image (errors.Samples e) cut h = absurd h
 

@@ -1,9 +1,10 @@
 -- A frame from the sections that were listed, or why there is none.
-use Rattle.std.proofs.Common.{◌≡◌, IsTrue, ℕ, pos, Bool, true, false, ℤ, List, [], ◌∷◌, get_or, inl, inr, Option, Some, is_some, Result, Ok, sym, ap, ◌∙◌, subst}
+use Rattle.std.proofs.Common.{◌≡◌, IsTrue, ℕ, ◌+◌, pos, Bool, true, false, ℤ, List, [], ◌∷◌, get_or, map, take, inl, inr, Option, Some, is_some, Result, Ok, refl, sym, ap, ◌∙◌, subst, arith}
 use Rattle.std.specs.Int.{Width}
-use Rattle.std.specs.Prelude.{◌&&◌, ◌||◌, ◌↔◌, ◌<◌, Any, IsFalse}
-use Rattle.std.specs.List.{All, list_any}
-use Rattle.std.proofs.lemmas.List.Elements.{All-tail}
+use Rattle.std.specs.Prelude.{◌&&◌, ◌||◌, ◌↔◌, ◌<◌, ◌≤◌, Any, IsFalse, MatchBool, sum}
+use Rattle.std.specs.List.{All, AllZip, list_any}
+use Rattle.std.proofs.lemmas.List.{take-map}
+use Rattle.std.proofs.lemmas.List.Elements.{All-head, All-tail, All-take}
 use Rattle.jxlm_bits.specs.Bits.{bytes_of, position_of}
 use Rattle.jxlm_bits.specs.Decoding.{Meaning}
 use Rattle.jxlm_bits.specs.ErrorKind.{UnlessMemory, kind_of}
@@ -33,6 +34,8 @@ use Rattle.jxlm_section_split.proofs.Openings.{opened_steps}
 use Rattle.jxlm_section_split.proofs.Pictures.{still_picture}
 use Rattle.jxlm_section_split.proofs.Whole.{all_whole}
 use Rattle.jxlm_section_split.proofs.WithoutStore.{decoded_alone, storeless}
+use Rattle.jxlm_tree_depth.proofs.Depths.{never}
+use Rattle.jxl_lossless.proofs.Codewords.{others_have, sum_first}
 use Rattle.jxl_lossless.proofs.Depths.{among_more}
 use Rattle.jxl_lossless.proofs.Failing.{FirstFails, first_fails}
 use Rattle.jxlm_groups.specs.declared.pass.Pass.{Pass}
@@ -40,11 +43,13 @@ use Rattle.jxl_lossless.specs.Places.{own_passes, section_at}
 use Rattle.jxl_lossless.proofs.Complete.{all_ones, complete, each_one, exist, sections_in_order, unlike}
 use Rattle.jxl_lossless.proofs.Order.{streams_rise}
 use Rattle.jxl_lossless.proofs.Weighted.{all_plain, none_there, some_weighted, stands_there}
-use Rattle.jxl_lossless.specs.Stills.{AreShallow, CanDecode, HasSections, HeaderStands, IsDeepAt, IsShallowAt, IsStill, StillFails}
+use Rattle.jxl_lossless.specs.Codewords.{HasCodewords, most_codewords}
+use Rattle.jxl_lossless.specs.Stills.{AreShallow, CanDecode, GroupHas, HasSections, HaveFewCodewords, HaveManyCodewords, HeaderStands, IsDeepAt, IsShallowAt, IsStill, StillFails, image_at}
+use Rattle.jxl_lossless.specs.Inner.Codewords.{AreBeyond, AreWithin, CodewordsSay, SectionHas, SumSays}
 use Rattle.jxl_lossless.specs.Inner.Depths.{DepthsSay, IsDeep, IsShallow, SectionsSay, TreesSay}
 use Rattle.jxl_lossless.specs.Inner.Listing.{AreListed, IsOfGroup, Lacks, ListingFails, SamplesStop}
 use Rattle.jxl_lossless.specs.Inner.Openings.{OpenFails, Opens}
-use Rattle.jxl_lossless.specs.Inner.Parts.{groups_in_order}
+use Rattle.jxl_lossless.specs.Parts.{groups_in_order}
 use Rattle.jxl_lossless.specs.Inner.Weighted.{section_is_weighted, weighted_at}
 use Rattle.jxl_lossless.specs.declared.still.error.FrameError.{FrameError}
 use Rattle.jxl_lossless.specs.declared.still.error.FrameError.TheVariants as errors
@@ -105,6 +110,7 @@ module _ {S D : Type 0} (d : Meaning D) (w : Width) (to_int : S → ℤ) (zero :
   open_fails errors.NoGroups h = absurd h
   open_fails errors.NoSection h = absurd h
   open_fails errors.GroupWeightedPalette h = absurd h
+  open_fails errors.TooManyCodewords h = absurd h
   open_fails errors.TooManyDecisions h = absurd h
   open_fails (errors.Samples e) h = absurd h
 
@@ -135,6 +141,7 @@ module _ {S D : Type 0} (d : Meaning D) (w : Width) (to_int : S → ℤ) (zero :
     list_fails (errors.Header e) h = absurd h
     list_fails errors.WeightedPalette h = absurd h
     list_fails errors.GroupWeightedPalette h = absurd h
+    list_fails errors.TooManyCodewords h = absurd h
     list_fails errors.TooManyDecisions h = absurd h
     list_fails (errors.Samples e) h = absurd h
 
@@ -229,22 +236,102 @@ module _ {S D : Type 0} (d : Meaning D) (w : Width) (to_int : S → ℤ) (zero :
           abbrev list : SectionPart → ChannelList
           list = list_of_part group_dim passes o.head.coded.list
 
+          abbrev HaveFew : Can → Type 0
+          HaveFew c = HaveFewCodewords d w global given group_dim bit_depth bytes p (own_passes places) (section_at places) c
+
+          abbrev Group : SectionPart → ℕ → Type 0
+          Group part n = GroupHas d w global given group_dim bit_depth bytes p (own_passes places) (section_at places) stands part n
+
+          -- the groups that have sections
+          abbrev groups : List SectionPart
+          groups = groups_in_order (image_at d w global given group_dim bit_depth bytes p (own_passes places) (section_at places) stands) passes
+
+          parts_are : map (λ (s : Section). s.part) more ≡ groups
+          parts_are = of_header (λ i. map (λ (s : Section). s.part) more ≡ groups_in_order i passes) listed.added.parts_are
+
+          -- what the section of a group has
+          group_has : (s : Section) (n : ℕ) → IsOfGroup places s → SectionHas list s n → Group s.part n
+          group_has s n g has = (bytes_of s.bits, s.stream_index, g.there, subst (λ q. HasCodewords (list s.part) (bytes_of s.bits) q n) g.begins (by s.nested g.nested has)) where
+            by : (b : Bool) → b ≡ true → MatchBool b (HasCodewords (list s.part) (bytes_of s.bits) (position_of s.bits) n) (n ≡ 0) → HasCodewords (list s.part) (bytes_of s.bits) (position_of s.bits) n
+            by true e h = h
+            by false e h = never (sym e)
+
+          groups_have : (ss : List Section) (ns : List ℕ) → All (IsOfGroup places) ss → AllZip (SectionHas list) ss ns → AllZip Group (map (λ (s : Section). s.part) ss) ns
+          groups_have [] [] all has = tt
+          groups_have [] (n ∷ ns) all has = absurd has
+          groups_have (s ∷ ss) [] all has = absurd has
+          groups_have (s ∷ ss) (n ∷ ns) all has = (group_has s n (All-head (IsOfGroup places) s ss all) has.0, groups_have ss ns (All-tail (IsOfGroup places) s ss all) has.1)
+
+          -- the first section has no header of its own
+          first_has : (n : ℕ) → SectionHas list first n → n ≡ 0
+          first_has n has = by first.nested (ap (λ (s : Section). s.nested) listed.of_global) has where
+            by : (b : Bool) → b ≡ false → MatchBool b (HasCodewords (list first.part) (bytes_of first.bits) (position_of first.bits) n) (n ≡ 0) → n ≡ 0
+            by true e h = never e
+            by false e h = h
+
+          few_by : (own : ℕ) → HasCodewords given bytes p own → (ns : List ℕ) → AllZip (SectionHas list) (first ∷ more) ns → own + sum ns ≤ most_codewords → HaveFew (can plain)
+          few_by own header [] has low = absurd has
+          few_by own header (n ∷ ns) has low =
+              let none = first_has n has.0 in
+              let sum_is = sum_first n ns in
+              (own + sum ns, (own, header, ns, subst (λ (ps : List SectionPart). AllZip Group ps ns) parts_are (groups_have more ns listed.added.groups has.1), refl), omega (arith, none, sum_is, low))
+
+          many_by : (own : ℕ) → HasCodewords given bytes p own → (k : ℕ) (ns : List ℕ) → AllZip (SectionHas list) (take k (first ∷ more)) ns → most_codewords < own + sum ns → Fails errors.TooManyCodewords
+          many_by own header k ns has much =
+              let (j, ms, others, same) = others_have list first more first_has k ns has in
+              let these : map (λ (s : Section). s.part) (take j more) ≡ take j groups = sym (take-map (λ (s : Section). s.part) j more) ∙ ap (λ (ps : List SectionPart). take j ps) parts_are in (
+                can plain,
+                (
+                  j,
+                  own + sum ms,
+                  (own, header, ms, subst (λ (ps : List SectionPart). AllZip Group ps ms) these (groups_have (take j more) ms (All-take (IsOfGroup places) j more listed.added.groups) others), refl),
+                  omega (arith, same, much),
+                ),
+              )
+
+          abbrev Sums : Bool → Type 0
+          Sums b = (own : ℕ) × HasCodewords given bytes p own × SumSays list own sections b
+
+          sums_of : (b : Bool) → CodewordsSay (is_some global) given group_dim bytes p (own_passes places) sections b → Sums b
+          sums_of b says = says o.head o.start.tree_at o.start.header
+
+          -- the codes of the own trees have few codewords
+          has_few : CodewordsSay (is_some global) given group_dim bytes p (own_passes places) sections false → HaveFew (can plain)
+          has_few says =
+              let (own, header, sums) = sums_of false says in
+              let (ns, has, low) = sums in
+              few_by own header ns (subst (λ (ss : List Section). AllZip (SectionHas list) ss ns) sections_are has) low
+
+          has_many : CodewordsSay (is_some global) given group_dim bytes p (own_passes places) sections true → Fails errors.TooManyCodewords
+          has_many says =
+              let (own, header, sums) = sums_of true says in
+              let (k, ns, has, much) = sums in
+              many_by own header k ns (subst (λ (ss : List Section). AllZip (SectionHas list) (take k ss) ns) sections_are has) much
+
           abbrev Says : List Section → Bool → Type 0
           Says ss b = SectionsSay d global list deepest ss b
 
-          deep_by : Depths true → Fails errors.TooManyDecisions
-          deep_by (inl deep) = (can plain, inl deep)
-          deep_by (inr says) =
+          deep_by : HaveFew (can plain) → Depths true → Fails errors.TooManyDecisions
+          deep_by few (inl deep) = (can plain, few, inl deep)
+          deep_by few (inr says) =
               let (k, s, lt, at, is) = among_more (IsDeep d global list deepest) first more (ap (λ (t : Section). t.nested) listed.of_global) (subst (λ (ss : List Section). Says ss true) sections_are says) in
               let begins : position_of s.bits ≡ 0 = subst (λ (t : Section). position_of t.bits ≡ 0) at (begin_groups k s lt).0 in
               let here : IsDeepAt d global (list s.part) deepest (bytes_of s.bits) 0 = subst (λ n. IsDeepAt d global (list s.part) deepest (bytes_of s.bits) n) begins is.1 in
-              (can plain, inr (k, s, lt, at, here))
+              (can plain, few, inr (k, s, lt, at, here))
 
-          -- a tree is too deep
-          pub deep_fail : TreesSay d global given group_dim bytes p (own_passes places) deepest sections true → Fails errors.TooManyDecisions
-          deep_fail trees = deep_by (of_trees true trees)
+          -- the trees are not within a limit
+          pub beyond_fail : (e : FrameError) → AreBeyond d global given group_dim bytes p (own_passes places) deepest sections e → Fails e
+          beyond_fail errors.TooManyCodewords h = has_many h
+          beyond_fail errors.TooManyDecisions h = deep_by (has_few h.0) (of_trees true h.1)
+          beyond_fail errors.OutOfMemory h = tt
+          beyond_fail (errors.Header e) h = absurd h
+          beyond_fail errors.WeightedPalette h = absurd h
+          beyond_fail errors.NoGroups h = absurd h
+          beyond_fail errors.NoSection h = absurd h
+          beyond_fail errors.GroupWeightedPalette h = absurd h
+          beyond_fail (errors.Samples e) h = absurd h
 
-          -- none is
+          -- none is too deep
           all_shallow : TreesSay d global given group_dim bytes p (own_passes places) deepest sections false → AreShallow d w global given group_dim bit_depth bytes p (own_passes places) (section_at places) deepest (can plain)
           all_shallow trees =
               let says = of_trees false trees in
@@ -259,27 +346,29 @@ module _ {S D : Type 0} (d : Meaning D) (w : Width) (to_int : S → ℤ) (zero :
               }
 
         -- decoding them fails
-        pub samples_fail : (e : FrameError) → list_any section_is_weighted sections ≡ false → TreesSay d global given group_dim bytes p (own_passes places) deepest sections false → SamplesStop d w to_int zero image passes global sections e → Fails e
-        samples_fail (errors.Samples e) plain trees h =
+        pub samples_fail : (e : FrameError) → list_any section_is_weighted sections ≡ false → AreWithin d global given group_dim bytes p (own_passes places) deepest sections → SamplesStop d w to_int zero image passes global sections e → Fails e
+        samples_fail (errors.Samples e) plain within h =
             let (left, before, after, stop) = h in
             let here = subst (λ ss. SectionsStop d w to_int zero image passes global false ss e image.store left before after) sections_are stop in
             let fails = first_fails d w to_int zero image passes global (first ∷ more) e image.store left before after here in
-            unless_so (kind_of e) (λ f. let (coded, failing, others, is, all, fails) = f in (can plain, all_shallow plain trees, coded, failing, others, is, all, fails)) (of_header (λ i. UnlessMemory (kind_of e) (FirstFails d w to_int zero i passes global (first ∷ more) (kind_of e))) fails)
-        samples_fail (errors.Header e) plain trees h = absurd h
-        samples_fail errors.WeightedPalette plain trees h = absurd h
-        samples_fail errors.NoGroups plain trees h = absurd h
-        samples_fail errors.NoSection plain trees h = absurd h
-        samples_fail errors.GroupWeightedPalette plain trees h = absurd h
-        samples_fail errors.TooManyDecisions plain trees h = absurd h
-        samples_fail errors.OutOfMemory plain trees h = absurd h
+            unless_so (kind_of e) (λ f. let (coded, failing, others, is, all, fails) = f in (can plain, has_few plain within.few, all_shallow plain within.shallow, coded, failing, others, is, all, fails)) (of_header (λ i. UnlessMemory (kind_of e) (FirstFails d w to_int zero i passes global (first ∷ more) (kind_of e))) fails)
+        samples_fail (errors.Header e) plain within h = absurd h
+        samples_fail errors.WeightedPalette plain within h = absurd h
+        samples_fail errors.NoGroups plain within h = absurd h
+        samples_fail errors.NoSection plain within h = absurd h
+        samples_fail errors.GroupWeightedPalette plain within h = absurd h
+        samples_fail errors.TooManyCodewords plain within h = absurd h
+        samples_fail errors.TooManyDecisions plain within h = absurd h
+        samples_fail errors.OutOfMemory plain within h = absurd h
 
         -- or there is the frame
-        pub made : list_any section_is_weighted sections ≡ false → TreesSay d global given group_dim bytes p (own_passes places) deepest sections false → (grids : List (Grid ℤ)) (before after : ℕ) → AreDecoded d w to_int zero image passes global sections grids before after → Made grids before after
-        made plain trees grids before after done =
+        pub made : list_any section_is_weighted sections ≡ false → AreWithin d global given group_dim bytes p (own_passes places) deepest sections → (grids : List (Grid ℤ)) (before after : ℕ) → AreDecoded d w to_int zero image passes global sections grids before after → Made grids before after
+        made plain within grids before after done =
             let here = subst (λ ss. AreDecoded d w to_int zero image passes global ss grids before after) sections_are done in
             record {
               can = can plain;
-              shallow = all_shallow plain trees;
+              few = has_few plain within.few;
+              shallow = all_shallow plain within.shallow;
               decoded = of_header (λ i. AreDecoded {S = ℤ} d w (λ v. v) (pos 0) (storeless i) passes global (first ∷ more) grids before after) (decoded_alone d w to_int zero image passes global (first ∷ more) grids before after here);
             }
 

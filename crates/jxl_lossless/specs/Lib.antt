@@ -1,5 +1,7 @@
 pub mod Sections
 pub mod Places
+pub mod Parts
+pub mod Codewords
 pub mod Stills
 pub mod Frames
 pub mod Saved

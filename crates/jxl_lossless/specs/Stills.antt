@@ -1,9 +1,9 @@
 -- The samples of a frame, from its sections (ISO/IEC 18181-1, frame: sections, LF global, groups), stage by stage, and what fails
--- at each: that a palette of the weighted predictor is in the header of a group, and that a tree is too deep, come before what is
--- wrong with samples.
-use Rattle.std.specs.Prelude.{◌≡◌, ◌≢◌, ◌↔◌, ℕ, ◌<◌, ◌⊎◌, ℤ, pos, List, ◌∷◌, ◌++◌, Any, false, true, IsFalse, IsTrue, MatchBool, Option, None, Some, Ok}
+-- at each: that a palette of the weighted predictor is in the header of a group, that codes may have too many codewords, and that a
+-- tree is too deep, come before what is wrong with samples.
+use Rattle.std.specs.Prelude.{◌≡◌, ◌≢◌, ◌↔◌, ℕ, ◌+◌, ◌<◌, ◌≤◌, ◌⊎◌, ℤ, pos, List, ◌∷◌, ◌++◌, sum, take, Any, false, true, IsFalse, IsTrue, MatchBool, Option, None, Some, Ok}
 use Rattle.std.specs.Int.{Width}
-use Rattle.std.specs.List.{All, AllPairs}
+use Rattle.std.specs.List.{All, AllPairs, AllZip}
 use Rattle.jxlm_bits.specs.Bits.{bytes_of, position_of}
 use Rattle.jxlm_bits.specs.Decoding.{Found, Meaning}
 use Rattle.jxlm_bits.specs.ErrorKind.{ErrorKind, OfDecoder, UnlessMemory, kind_of}
@@ -28,6 +28,8 @@ pub use Rattle.jxlm_tree_depth.specs.Depths.{HeaderFails, IsDeepAt, IsShallowAt}
 use Rattle.jxl_modular.specs.Sections.{AreDecoded, CodesPart, list_in}
 use Rattle.jxl_modular.specs.declared.sections.Section.{Section}
 use Rattle.jxlm_section_split.specs.CutPicture.{image_by}
+use Rattle.jxl_lossless.specs.Codewords.{HasCodewords, most_codewords}
+use Rattle.jxl_lossless.specs.Parts.{groups_in_order}
 use Rattle.jxl_lossless.specs.declared.still.error.FrameError.{FrameError}
 use Rattle.jxl_lossless.specs.declared.still.error.FrameError.TheVariants as errors
 
@@ -77,6 +79,25 @@ module _ {D : Type 0} (d : Meaning D) (w : Width) (global : Option (Config D)) (
     pub goes_on : position_of first.bits ≡ has.stands.start.samples_at
     pub is : first ≡ record { part = parts.Global; bits = first.bits; stream_index = 0; nested = false }
 
+  -- the codes of the own tree of a group's header may have n codewords
+  abbrev pub GroupHas : HeaderStands → SectionPart → ℕ → Type 0
+  GroupHas s part n = (section : List ℕ) × (stream : ℕ) × (section_of part ≡ Some (section, stream))
+      × HasCodewords (list_in (image_at s) passes part) section 0 n
+
+  -- the codes of the own trees of the image's header and of the headers of these groups may have n codewords together
+  abbrev pub HaveCodewords : HeaderStands → List SectionPart → ℕ → Type 0
+  HaveCodewords s groups n = (own : ℕ) × HasCodewords given bytes p own
+      × (ns : List ℕ) × AllZip (GroupHas s) groups ns × (n ≡ own + sum ns)
+
+  -- those of all groups may have no more codewords than the maximum
+  abbrev pub HaveFewCodewords : CanDecode → Type 0
+  HaveFewCodewords can = (n : ℕ) × HaveCodewords can.has.stands (groups_in_order (image_at can.has.stands) passes) n × (n ≤ most_codewords)
+
+  -- those of the first k groups, by their numbers, may have more
+  abbrev pub HaveManyCodewords : CanDecode → Type 0
+  HaveManyCodewords can = (k : ℕ) × (n : ℕ) × HaveCodewords can.has.stands (take k (groups_in_order (image_at can.has.stands) passes)) n
+      × (most_codewords < n)
+
   -- No header's own tree is deeper than this: neither that of the image's header, nor one of a group's.
   pub record AreShallow (deepest : ℕ) (can : CanDecode) : Type 0 where
     pub image : IsShallowAt d global given deepest bytes p
@@ -87,10 +108,11 @@ module _ {D : Type 0} (d : Meaning D) (w : Width) (global : Option (Config D)) (
   OneIsDeep deepest can = IsDeepAt d global given deepest bytes p
       ⊎ Any (λ s. IsDeepAt d global (list_in (image_at can.has.stands) passes s.part) deepest (bytes_of s.bits) 0) can.has.groups
 
-  -- These are the channels of a frame whose trees are at most this deep: each section codes its part whole, with this number of
+  -- These are the channels of a frame whose sections' own trees are at most this deep, with codes of few codewords: each section codes its part whole, with this number of
   -- nodes of trees looked at before and after, and together they code the image.
   pub record IsStill (deepest : ℕ) (grids : List (Grid ℤ)) (before after : ℕ) : Type 0 where
     pub can : CanDecode
+    pub few : HaveFewCodewords can
     pub shallow : AreShallow deepest can
     pub decoded : AreDecoded d w (λ v. v) (pos 0) (image_at can.has.stands) passes global (can.first ∷ can.has.groups) grids before after
 
@@ -113,7 +135,8 @@ module _ {D : Type 0} (d : Meaning D) (w : Width) (global : Option (Config D)) (
   StillFails deepest errors.NoGroups = (s : HeaderStands) × IsFalse (can_cut group_dim s.start.head.coded.list)
   StillFails deepest errors.NoSection = (s : HeaderStands) × IsTrue (can_cut group_dim s.start.head.coded.list) × (part : SectionPart) × IsGroup s part × (section_of part ≡ None)
   StillFails deepest errors.GroupWeightedPalette = (s : HasSections) × Any (λ t. IsWeightedAt (bytes_of t.bits) 0) s.groups
-  StillFails deepest errors.TooManyDecisions = (s : CanDecode) × OneIsDeep deepest s
-  StillFails deepest (errors.Samples e) = UnlessMemory (kind_of e) ((s : CanDecode) × AreShallow deepest s × (coded : List Section) × (failing : Section) × (others : List Section)
+  StillFails deepest errors.TooManyCodewords = (s : CanDecode) × HaveManyCodewords s
+  StillFails deepest errors.TooManyDecisions = (s : CanDecode) × HaveFewCodewords s × OneIsDeep deepest s
+  StillFails deepest (errors.Samples e) = UnlessMemory (kind_of e) ((s : CanDecode) × HaveFewCodewords s × AreShallow deepest s × (coded : List Section) × (failing : Section) × (others : List Section)
       × (s.first ∷ s.has.groups ≡ coded ++ failing ∷ others) × All (CodesItsPart s.has.stands) coded × SectionFails s.has.stands failing (kind_of e))
   StillFails deepest errors.OutOfMemory = Unit {0}

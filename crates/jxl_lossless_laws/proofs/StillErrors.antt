@@ -1,7 +1,8 @@
 -- Where the sections of a frame have an image, decoding them returns no error.
-use Rattle.std.proofs.Common.{◌≡◌, ◌≢◌, ◌⊎◌, inl, inr, ℕ, zero, suc, ◌<◌, ◌≤◌, ℤ, Bool, true, false, List, [], ◌∷◌, ◌++◌, length, get_or, Option, Some, None, refl, sym, ap, subst, arith}
-use Rattle.std.specs.Prelude.{IsFalse, MatchBool}
+use Rattle.std.proofs.Common.{◌≡◌, ◌≢◌, ◌⊎◌, ◌∙◌, inl, inr, ℕ, zero, suc, ◌<◌, ◌≤◌, ℤ, Bool, true, false, List, [], ◌∷◌, ◌++◌, length, get_or, take, Option, Some, None, refl, sym, ap, subst, arith}
+use Rattle.std.specs.Prelude.{IsFalse, MatchBool, sum}
 use Rattle.std.specs.Int.{Width}
+use Rattle.std.specs.List.{AllZip}
 use Rattle.jxlm_bits.specs.Bits.{bytes_of, position_of}
 use Rattle.jxlm_bits.specs.Decoding.{Meaning}
 use Rattle.jxlm_bits.specs.ErrorKind.{ErrorKind, kind_of}
@@ -16,13 +17,18 @@ use Rattle.jxlm_samples.specs.Part.{Part, cell_count}
 use Rattle.jxlm_transform.specs.Channels.{ChannelList}
 use Rattle.jxlm_tree.proofs.Memory.{unless_so}
 use Rattle.jxlm_tree.specs.Tree.{Config, depth}
+use Rattle.jxl_coding.specs.Parse.{decoder_at}
+use Rattle.jxl_coding.specs.Tokens.{Entropy, entropy}
 use Rattle.jxl_modular.specs.Groups.{channels_in, part_in}
 use Rattle.jxl_modular.specs.Image.{Image}
 use Rattle.jxl_modular.specs.Sections.{CodesWhole, list_in}
 use Rattle.jxl_modular.specs.declared.sections.Section.{Section}
 use Rattle.jxlm_encode_roundtrip.proofs.TwoPictures.{one_start}
 use Rattle.jxlm_encode_roundtrip.proofs.WithoutErrors.{samples_without_error, start_without_error}
-use Rattle.jxl_lossless.specs.Stills.{CanDecode, HasSections, HeaderFails, HeaderStands, IsDeepAt, IsShallowAt, IsStill, IsWeightedAt, OneIsDeep, PartFails, SectionFails, StillFails}
+use Rattle.jxl_lossless.specs.Codewords.{HasCodewords, OwnTreeIs, codewords_of}
+use Rattle.jxl_lossless.specs.Parts.{groups_in_order}
+use Rattle.jxl_lossless.specs.Stills.{CanDecode, HasSections, HaveManyCodewords, HeaderFails, HeaderStands, IsDeepAt, IsShallowAt, IsStill, IsWeightedAt, OneIsDeep, PartFails, SectionFails, StillFails}
+use Rattle.jxl_lossless.proofs.Codewords.{sum_first}
 use Rattle.jxl_lossless.specs.declared.still.error.FrameError.{FrameError}
 use Rattle.jxl_lossless.specs.declared.still.error.FrameError.TheVariants as errors
 use Rattle.jxl_lossless_laws.proofs.OneStill.{CodesGroup, CodesImage, IsNested, codes_image, same_head, x_by}
@@ -37,6 +43,42 @@ among (x ∷ xs) (z ∷ ys) y zs e =
     let rest : xs ≡ ys ++ y ∷ zs = cc in
     let (k, lt, at) = among xs ys y zs rest in
     (suc k, omega (arith, lt), at)
+
+-- a header is not read and has an error
+header_of : (given : ChannelList) (bytes : List ℕ) (p : ℕ) (s : Start (entropy decoder_at) None bytes given p) (error : ErrorKind) → HeaderFails (entropy decoder_at) None given bytes p error → ⊥
+header_of given bytes p s error (q, fails) = start_without_error (entropy decoder_at) None bytes given p s.head s.config s.samples_at s.start error q fails
+
+-- the codes of a header's own tree have one number of codewords
+one_tree : (given : ChannelList) (bytes : List ℕ) (p : ℕ) (t u : Option (Config Entropy)) → OwnTreeIs (entropy decoder_at) None given bytes p t → OwnTreeIs (entropy decoder_at) None given bytes p u → codewords_of t ≡ codewords_of u
+one_tree given bytes p None None x y = refl
+one_tree given bytes p None (Some b) (inl uses) y = absurd (y.0 uses)
+one_tree given bytes p None (Some b) (inr (error, fails)) y = absurd (header_of given bytes p y.1.0 error fails)
+one_tree given bytes p (Some a) None x (inl uses) = absurd (x.0 uses)
+one_tree given bytes p (Some a) None x (inr (error, fails)) = absurd (header_of given bytes p x.1.0 error fails)
+one_tree given bytes p (Some a) (Some b) x y =
+    let s = x.1.0 in
+    let t = y.1.0 in
+    let same = one_start (entropy decoder_at) None bytes given p s.head t.head s.config t.config s.samples_at t.samples_at s.start t.start in
+    let equal : a ≡ b = sym x.1.1 ∙ same.1 ∙ y.1.1 in
+    ap (λ (c : Config Entropy). c.decoder.codes.alphabets) equal
+
+one_codewords : (given : ChannelList) (bytes : List ℕ) (p m n : ℕ) → HasCodewords given bytes p m → HasCodewords given bytes p n → m ≡ n
+one_codewords given bytes p m n (t, is, has) (u, also, other) = has ∙ one_tree given bytes p t u is also ∙ sym other
+
+-- the first numbers of a list sum up to no more than all
+first_most : (R : SectionPart → ℕ → Type 0) → ((x : SectionPart) (m n : ℕ) → R x m → R x n → m ≡ n) → (xs : List SectionPart) (k : ℕ) (ns ms : List ℕ) → AllZip R xs ns → AllZip R (take k xs) ms → sum ms ≤ sum ns
+first_most R one xs zero ns [] a b = omega arith
+first_most R one xs zero ns (m ∷ ms) a b = absurd b
+first_most R one [] (suc k) ns [] a b = omega arith
+first_most R one [] (suc k) ns (m ∷ ms) a b = absurd b
+first_most R one (x ∷ xs) (suc k) [] ms a b = absurd a
+first_most R one (x ∷ xs) (suc k) (n ∷ ns) [] a b = absurd b
+first_most R one (x ∷ xs) (suc k) (n ∷ ns) (m ∷ ms) a b =
+    let same = one x m n b.0 a.0 in
+    let rest = first_most R one xs k ns ms a.1 b.1 in
+    let first_sum = sum_first m ms in
+    let all_sum = sum_first n ns in
+    omega (arith, same, rest, first_sum, all_sum)
 
 module _ {D : Type 0} (d : Meaning D) (w : Width) where
   part_well : (part : Part) (bytes : List ℕ) (decoder : D) (p : ℕ) (grids : List (Grid ℤ)) (n : ℕ) → CodesWhole d w part bytes decoder p grids n → (error : ErrorKind) → PartFails d w part bytes decoder p error → ⊥
@@ -160,6 +202,26 @@ module _ {D : Type 0} (d : Meaning D) (w : Width) (global : Option (Config D)) (
   all_shallow c (inl deep) = not_deep d w global given deepest bytes p s.shallow.image deep
   all_shallow c (inr (k, t, lt, at, deep)) = shallow_group c.has k t lt at deep
 
+  abbrev GroupHas : Opening → Config D → SectionPart → ℕ → Type 0
+  GroupHas o c part n = (section : List ℕ) × (stream : ℕ) × (section_of part ≡ Some (section, stream)) × HasCodewords (list_in (x_of o c) passes part) section 0 n
+
+  abbrev FirstHave : ℕ → List ℕ → Opening → Config D → ℕ → Type 0
+  FirstHave k ns o c n = AllZip (GroupHas o c) (take k (groups_in_order (x_of o c) passes)) ns
+
+  one_group : (part : SectionPart) (m n : ℕ) → GroupHas head config part m → GroupHas head config part n → m ≡ n
+  one_group part m n (section, stream, there, has) (other, index, found, own) =
+      let same = (same_some (section_of part) section other stream index there found).0 in
+      one_codewords (list_in (x_of head config) passes part) section 0 m n has (subst (λ (b : List ℕ). HasCodewords (list_in (x_of head config) passes part) b 0 n) (sym same) own)
+
+  -- no group's codes have too many codewords
+  never_many : (c : Can) → HaveManyCodewords d w global given group_dim bit_depth bytes p passes section_of c → ⊥
+  never_many c (k, m, (other, header, ms, have, is), much) =
+      let (n, (m_own, here, ns, has, sum_is), low) = s.few in
+      let mine : FirstHave k ms head config own.start.samples_at = to_own (FirstHave k ms) c.has.stands have in
+      let same = one_codewords given bytes p m_own other here header in
+      let most = first_most (GroupHas head config) one_group (groups_in_order (x_of head config) passes) k ns ms has mine in
+      omega (arith, same, most, sum_is, is, low, much)
+
   -- decoding the first section returns no error
   abbrev FirstFails : ErrorKind → Opening → Config D → ℕ → Type 0
   FirstFails error o c n = PartFails d w (part_in (x_of o c) passes parts.Global 0) bytes c.decoder n error
@@ -218,8 +280,9 @@ module _ {D : Type 0} (d : Meaning D) (w : Width) (global : Option (Config D)) (
       let (grids, group) = group_of f.0 f.2 f.3.0 f.3.1 in
       there_or_not (section_of f.2) (group.section, group.stream) group.there f.4
   still_without_error errors.GroupWeightedPalette f = let (k, t, lt, at, weighted) = f.1 in plain_group f.0 k t lt at weighted
-  still_without_error errors.TooManyDecisions f = all_shallow f.0 f.1
+  still_without_error errors.TooManyCodewords f = never_many f.0 f.1
+  still_without_error errors.TooManyDecisions f = all_shallow f.0 f.2
   still_without_error (errors.Samples e) f = unless_so (kind_of e) (λ k.
-      let (place, lt, at) = among (k.0.first ∷ k.0.has.groups) k.2 k.3 k.4 k.5 in
-      failing_well k.0 place k.3 lt at (kind_of e) k.7) f
+      let (place, lt, at) = among (k.0.first ∷ k.0.has.groups) k.3 k.4 k.5 k.6 in
+      failing_well k.0 place k.4 lt at (kind_of e) k.8) f
   still_without_error errors.OutOfMemory f = tt

@@ -58,6 +58,7 @@ frame_text frames.WeightedPalette = codes "not supported: a palette with weighte
 frame_text frames.NoGroups = codes "a group of no columns or rows"
 frame_text frames.NoSection = codes "a group without a section"
 frame_text frames.GroupWeightedPalette = codes "not supported: a palette with weighted deltas in a group"
+frame_text frames.TooManyCodewords = codes "codes of sections: more codewords than the limit"
 frame_text frames.TooManyDecisions = codes "tree of a section: more decisions than the limit"
 frame_text (frames.Samples error) = codes "samples: " ++ error_text error
 frame_text frames.OutOfMemory = codes "out of memory"

@@ -122,6 +122,9 @@ impl fmt::Display for FrameReason {
             FrameError::GroupWeightedPalette => {
                 f.write_str("not supported: a palette with weighted deltas in a group")
             }
+            FrameError::TooManyCodewords => {
+                f.write_str("codes of sections: more codewords than the limit")
+            }
             FrameError::TooManyDecisions => {
                 f.write_str("tree of a section: more decisions than the limit")
             }

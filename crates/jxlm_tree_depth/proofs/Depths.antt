@@ -1,5 +1,5 @@
 -- What comparing a tree with the limit says.
-use Rattle.std.proofs.Common.{◌≡◌, ◌∙◌, ℕ, ◌<◌, ◌≤◌, nat_lt, inr, Bool, true, false, IsTrue, List, Option, Result, Ok, Err, ap, refl, subst, sym}
+use Rattle.std.proofs.Common.{◌≡◌, ◌∙◌, ℕ, ◌<◌, ◌≤◌, nat_lt, inr, Bool, true, false, IsTrue, List, Option, None, Some, Result, Ok, Err, ap, refl, subst, sym}
 use Rattle.std.specs.Prelude.{IfOk, MatchBool, ◌↔◌}
 use Rattle.std.proofs.lemmas.Bool.{ltb-false, ltb-true}
 use Rattle.jxlm_bits.specs.Decoding.{Found, Meaning}
@@ -8,8 +8,8 @@ use Rattle.jxlm_bits.specs.ErrorKind.{ErrorAt, ErrorKind, UnlessNoMemory, Eof, B
 use Rattle.jxlm_bits.specs.declared.decoder.DecoderError.TheVariants.{UnexpectedEof, Invalid, OutOfMemory}
 use Rattle.jxlm_transform.specs.Channels.{ChannelList}
 use Rattle.jxlm_tree.specs.Tree.{Config}
-use Rattle.jxlm_tree_depth.specs.Depths.{DepthSays, UsesGlobalAt}
-use Rattle.jxlm_tree_depth.specs.Inner.{TreeSays, is_memory}
+use Rattle.jxlm_tree_depth.specs.Depths.{DepthSays, OwnTreeIs, UsesGlobalAt}
+use Rattle.jxlm_tree_depth.specs.Inner.{TreeIs, TreeSays, is_memory}
 
 pub never : {X : Type 0} → true ≡ false → X
 never e = cc
@@ -62,6 +62,12 @@ pub own_says : {D E : Type 0} (d : Meaning D) (global : Option (Config D)) (give
 own_says d global given deepest bytes p (Ok true) b none uses says = (λ here. never (sym (uses.1 here) ∙ none), says)
 own_says d global given deepest bytes p (Ok false) b none uses says = inr says
 own_says d global given deepest bytes p (Err e) b none uses says = tt
+
+pub own_is : {D E : Type 0} (d : Meaning D) (global : Option (Config D)) (given : ChannelList) (bytes : List ℕ) (p : ℕ) (result : Result (Option (Config D)) E) (b : Bool) → b ≡ false → IsTrue b ↔ UsesGlobalAt bytes p →
+    IfOk result (TreeIs d global given bytes p) → IfOk result (OwnTreeIs d global given bytes p)
+own_is d global given bytes p (Ok (Some config)) b none uses tree = (λ here. never (sym (uses.1 here) ∙ none), tree)
+own_is d global given bytes p (Ok None) b none uses fails = inr fails
+own_is d global given bytes p (Err e) b none uses tree = tt
 
 -- an error that is not out of memory is that of the reading
 pub refused : {Y : Type 0} (k : ErrorKind) (reading : Result Y ErrorAt) (q : ℕ) → is_memory k ≡ false → UnlessNoMemory k (IsErrorAt reading k q) → (error : ErrorAt) × (reading ≡ Err error)

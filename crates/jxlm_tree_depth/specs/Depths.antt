@@ -1,5 +1,5 @@
 -- Trees of headers' own, compared with a limit on decisions (ISO/IEC 18181-1, Modular: Modular header, MA tree).
-use Rattle.std.specs.Prelude.{◌≡◌, ℕ, ◌<◌, ◌≤◌, ◌⊎◌, List, Bool, true, MatchBool, Option, Ok}
+use Rattle.std.specs.Prelude.{◌≡◌, ℕ, ◌<◌, ◌≤◌, ◌⊎◌, List, Bool, true, MatchBool, MatchOption, Option, Ok}
 use Rattle.jxlm_bits.specs.Decoding.{Meaning}
 use Rattle.jxlm_bits.specs.ErrorKind.{ErrorKind}
 use Rattle.jxlm_bits.specs.Grammar.{IsErrorAt, flag}
@@ -15,6 +15,18 @@ module _ {D : Type 0} (d : Meaning D) (global : Option (Config D)) (given : Chan
   -- at bit p a Modular header for these channels, or the MA tree after it, has this error
   abbrev pub HeaderFails : List ℕ → ℕ → ErrorKind → Type 0
   HeaderFails bytes p error = (q : ℕ) × (IsErrorAt (opening_at global bytes given p) error q ⊎ IsTreeErrorAt d global bytes given p error q)
+
+  -- at bit p stand a Modular header for these channels and an MA tree of its own, this one with its decoder
+  abbrev pub HasOwnTree : List ℕ → ℕ → Config D → Type 0
+  HasOwnTree bytes p config = (¬ (UsesGlobalAt bytes p)) × ((own : Start d global bytes given p) × (own.config ≡ config))
+
+  -- a header there has no tree of its own, or header or tree has an error
+  abbrev pub HasNoOwnTree : List ℕ → ℕ → Type 0
+  HasNoOwnTree bytes p = UsesGlobalAt bytes p ⊎ ((error : ErrorKind) × HeaderFails bytes p error)
+
+  -- this is the tree of its own that a header there has, if it has one
+  abbrev pub OwnTreeIs : List ℕ → ℕ → Option (Config D) → Type 0
+  OwnTreeIs bytes p made = MatchOption made (HasNoOwnTree bytes p) (HasOwnTree bytes p)
 
   module _ (deepest : ℕ) (bytes : List ℕ) (p : ℕ) where
     -- at bit p stand a Modular header for these channels and an MA tree of its own, which is deeper than this

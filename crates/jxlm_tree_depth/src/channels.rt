@@ -4,7 +4,7 @@ ghost use Rattle.std.specs.Prelude.{◌≡◌, IfOk, IfSome};
 ghost use Rattle.std.specs.List.{All};
 ghost use Rattle.jxlm_transform.specs.Params.{IsGroupDim};
 
-use crate::depth::{is_deeper, is_memory, uses_global};
+use crate::depth::{is_deeper, is_memory, tree_at, uses_global};
 use jxlm_base::grid::OutOfMemory;
 use jxlm_bits::bits::Bitstream;
 use jxlm_bits::decoder::Decoder;
@@ -47,7 +47,7 @@ impl GivenChannels {
     ghost use Rattle.jxlm_transform.specs.Layout.{first_layout};
     ghost use Rattle.jxlm_transform.specs.Lists.{layout_of, list_of};
     ghost use Rattle.jxlm_transform.specs.Params.{IsValidChannel};
-    ghost use Rattle.jxlm_tree_depth.specs.Depths.{DepthSays};
+    ghost use Rattle.jxlm_tree_depth.specs.Depths.{DepthSays, OwnTreeIs};
     ghost use Rattle.jxlm_tree_depth.specs.Openings.{AreCoded, AreGiven, OpensCoded};
 
     /// The channels of these parameters.
@@ -103,6 +103,25 @@ impl GivenChannels {
         is_deeper(alloc, bits, whole, global, deepest)
     }
 
+    /// The tree that the header at the reader's position, for these channels, has of its own; none where it uses the
+    /// global one, or header or tree has an error.
+    pub fn own_tree<D: Decoder>(
+        &self,
+        alloc: Global,
+        bits: Bitstream<'_>,
+        global: Option<&MaConfig<D>>,
+    ) -> Result<Option<MaConfig<D>>, OutOfMemory>
+        requires { AreGiven self.now }
+        ensures { IfOk result (OwnTreeIs D.meaning (option_copied global.entry) (nested_list self.now.channels.items)
+            (bytes_of bits.entry) (position_of bits.entry)) }
+    {
+        if uses_global(bits) {
+            return Ok(None);
+        }
+        let whole = self.whole(alloc)?;
+        tree_at(alloc, bits, whole, global)
+    }
+
     /// The coded channels that the header at the reader's position leaves, or none where it has an error.
     pub fn open(
         &self,
@@ -144,7 +163,7 @@ impl CodedChannels {
     ghost use Rattle.jxlm_chain.specs.Placed.{IsPlaced};
     ghost use Rattle.jxlm_transform.specs.Channels.{IsNarrow, infos};
     ghost use Rattle.jxlm_transform.specs.Lists.{list_of};
-    ghost use Rattle.jxlm_tree_depth.specs.Depths.{DepthSays};
+    ghost use Rattle.jxlm_tree_depth.specs.Depths.{DepthSays, OwnTreeIs};
     ghost use Rattle.jxlm_tree_depth.specs.Openings.{AreCoded, list_of_part};
 
     // What a part has of the channels, as a header of its own finds it.
@@ -184,5 +203,26 @@ impl CodedChannels {
         }
         let channels = self.part(alloc, part)?;
         is_deeper(alloc, bits, channels, global, deepest)
+    }
+
+    /// The tree that the header of a part's own at the reader's position has of its own; none where it uses the global
+    /// one, or header or tree has an error.
+    pub fn own_tree<D: Decoder>(
+        &self,
+        alloc: Global,
+        bits: Bitstream<'_>,
+        part: SectionPart,
+        global: Option<&MaConfig<D>>,
+    ) -> Result<Option<MaConfig<D>>, OutOfMemory>
+        requires { AreCoded self.now }
+        ensures { IfOk result (OwnTreeIs D.meaning (option_copied global.entry) (list_of_part self.now.group_dim
+            self.now.passes.items (list_of self.now.channels) part) (bytes_of bits.entry)
+            (position_of bits.entry)) }
+    {
+        if uses_global(bits) {
+            return Ok(None);
+        }
+        let channels = self.part(alloc, part)?;
+        tree_at(alloc, bits, channels, global)
     }
 }

@@ -14,7 +14,7 @@ use Rattle.jxlm_groups.specs.declared.part.SectionPart.TheVariants as parts
 use Rattle.jxlm_groups.specs.declared.pass.Pass.{Pass}
 use Rattle.jxl_modular.specs.Image.{Image, coded_list}
 use Rattle.jxl_modular.specs.declared.sections.Section.{Section}
-use Rattle.jxl_lossless.specs.Inner.Parts.{groups_in_order}
+use Rattle.jxl_lossless.specs.Parts.{groups_in_order}
 use Rattle.jxl_lossless.specs.Places.{own_passes, section_at}
 use Rattle.jxl_lossless.specs.declared.still.error.FrameError.{FrameError}
 use Rattle.jxl_lossless.specs.declared.still.error.FrameError.TheVariants as errors

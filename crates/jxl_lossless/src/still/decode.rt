@@ -13,10 +13,10 @@ ghost use Rattle.jxl_lossless.specs.Stills.{IsStill, StillFails};
 ghost use Rattle.jxl_lossless.specs.Places.{own_passes, section_at};
 ghost use Rattle.jxl_lossless.specs.Inner.Listing.{SamplesStop};
 
-use crate::still::depths::some_deep;
 use crate::still::error::FrameError;
 use crate::still::opening::{begin_weighted, open_image};
 use crate::still::places::Places;
+use crate::still::trees::compare_trees;
 use jxl_modular::image::ModularImageDestination;
 use jxl_modular::sections::{Progress, Section, decode_sections_with};
 use jxlm_base::sample::Sample;
@@ -64,7 +64,7 @@ fn decode_all<S: Sample, D: Decoder, P: Progress>(
 ///
 /// A header that uses a global tree has the one of the parameters. Each group with samples has a section, which begins
 /// with a header of its own; the others are not looked at. The own tree of the image's header, or of such a header, is at
-/// most `deepest` decisions deep. Which section and which stream a part has is said by the
+/// most `deepest` decisions deep, and the codes of all of them may have at most 2^26 codewords. Which section and which stream a part has is said by the
 /// [`Layout`](jxl_codestream::layout::Layout). `progress` is called after each section. It returns the image, whose
 /// transforms are undone; with no channels there is none.
 ///
@@ -76,9 +76,10 @@ fn decode_all<S: Sample, D: Decoder, P: Progress>(
 /// The first of these: `WeightedPalette` where the header can be read and has a palette with the weighted predictor;
 /// `Header` for the header, its conditions and the tree, as by [`Modular::parse`](jxl_modular::Modular::parse);
 /// `NoGroups`; `NoSection`; `GroupWeightedPalette` where the header of a group has such a palette, which is looked for
-/// before samples are decoded; `TooManyDecisions` where the own tree of the image's header, or of the header of a group,
-/// is deeper than `deepest`, which is compared before samples are decoded; `Samples` for the first section that cannot be decoded, as
-/// by [`decode_sections`](jxl_modular::sections::decode_sections). Or it is out of memory, at any time.
+/// before samples are decoded; `TooManyCodewords` where the codes of the own trees of the image's header and of headers
+/// of groups may have more than 2^26 codewords, and `TooManyDecisions` where such a tree is deeper than `deepest`, which
+/// are compared before samples are decoded; `Samples` for the first section that cannot be decoded, as by
+/// [`decode_sections`](jxl_modular::sections::decode_sections). Or it is out of memory, at any time.
 pub fn decode_frame<'a, S: Sample, D: Decoder, P: Progress>(
     alloc: Global,
     first: Bitstream<'a>,
@@ -118,7 +119,7 @@ pub fn decode_frame<'a, S: Sample, D: Decoder, P: Progress>(
     if weighted {
         return Err(FrameError::GroupWeightedPalette);
     }
-    let deep = some_deep(
+    compare_trees(
         alloc,
         first,
         &given,
@@ -127,9 +128,6 @@ pub fn decode_frame<'a, S: Sample, D: Decoder, P: Progress>(
         global,
         deepest,
     )?;
-    if deep {
-        return Err(FrameError::TooManyDecisions);
-    }
     decode_all(
         alloc,
         &mut image,

@@ -31,8 +31,8 @@ fn has_own_tree(section: &Section<'_>) -> bool
     !uses_global(section.bits)
 }
 
-// Whether each of these sections with a header of its own uses the global tree.
-fn all_use_global(sections: &[Section<'_>]) -> bool
+/// Whether each of these sections with a header of its own uses the global tree.
+pub(crate) fn all_use_global(sections: &[Section<'_>]) -> bool
     ensures { result ≡ true → All UsesGlobal sections.now }
 {
     for section in sections {

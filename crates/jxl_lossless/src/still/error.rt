@@ -8,7 +8,7 @@ use std::alloc::AllocFailed;
 
 /// Why a frame is not decoded: the first reason in the order of its bits, but that the parser looks for palettes with the
 /// weighted predictor first: in the header before its conditions and its tree, in those of groups before any samples.
-/// Trees are compared with the limit on decisions after that, and before any samples.
+/// Trees are compared with the limits on codewords and on decisions after that, and before any samples.
 #[derive(Clone, Copy, Debug, PartialEq, Eq, thiserror::Error)]
 pub enum FrameError {
     /// The image's header, or its tree, has this error.
@@ -26,6 +26,9 @@ pub enum FrameError {
     /// The header of a group has such a palette.
     #[error("not supported: a palette with weighted deltas in a group")]
     GroupWeightedPalette,
+    /// The codes of the own trees of sections may have more than 2^26 codewords.
+    #[error("codes of sections: more codewords than the limit")]
+    TooManyCodewords,
     /// The own tree of a section is deeper than the limit on decisions allows.
     #[error("tree of a section: more decisions than the limit")]
     TooManyDecisions,

@@ -32,7 +32,7 @@ impl<'a, 't> Places<'a, 't> {
     ghost use Rattle.jxl_modular.specs.GroupParts.{image_of, pass_count, passes_in};
     ghost use Rattle.jxl_lossless.specs.Places.{own_passes, section_at};
     ghost use Rattle.jxl_lossless.specs.Inner.Listing.{AddingFails, AreAdded, IsPlaced};
-    ghost use Rattle.jxl_lossless.specs.Inner.Parts.{low_parts, parts_of_pass, parts_of_passes};
+    ghost use Rattle.jxl_lossless.specs.Parts.{low_parts, parts_of_pass, parts_of_passes};
 
     // The section of a group, with the index of its stream.
     fn section(&self, part: SectionPart) -> Option<Section<'a>>

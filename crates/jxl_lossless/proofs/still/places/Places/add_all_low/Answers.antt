@@ -7,7 +7,7 @@ use Rattle.jxl_modular.specs.Groups.{channels_in}
 use Rattle.jxl_modular.specs.GroupParts.{groups_of, image_of, passes_in}
 use Rattle.jxlm_section_split.specs.CutPicture.{lf_groups}
 use Rattle.jxlm_section_split.proofs.SectionRows.{has_none, has_some, passed_over, taken}
-use Rattle.jxl_lossless.specs.Inner.Parts.{with_samples}
+use Rattle.jxl_lossless.specs.Parts.{with_samples}
 use Rattle.jxl_lossless.specs.Inner.Listing.{AddingFails}
 use Rattle.jxl_lossless.proofs.Adding.{added_then, among_first, fails_among, none_added}
 use Rattle.jxl_lossless.proofs.still.places.Places.add_all_low.Goals as goal

@@ -1,6 +1,6 @@
 use Rattle.jxl_modular.specs.GroupParts.{image_of, passes_in}
 use Rattle.jxlm_section_split.specs.CutPicture.{lf_groups}
-use Rattle.jxl_lossless.specs.Inner.Parts.{with_samples}
+use Rattle.jxl_lossless.specs.Parts.{with_samples}
 use Rattle.jxl_lossless.specs.Inner.Listing.{AreAdded}
 use Rattle.jxl_lossless.proofs.still.places.Places.add_all_low.Given as goal
 

@@ -1,6 +1,6 @@
 use Rattle.std.proofs.Common.{◌<◌, rules}
 use Rattle.jxl_modular.specs.GroupParts.{image_of, pass_count, passes_in}
-use Rattle.jxl_lossless.specs.Inner.Parts.{parts_of_pass, parts_of_passes}
+use Rattle.jxl_lossless.specs.Parts.{parts_of_pass, parts_of_passes}
 use Rattle.jxl_lossless.specs.Inner.Listing.{AddingFails}
 use Rattle.jxl_lossless.proofs.Adding.{added_then, fails_wider, none_added}
 use Rattle.jxl_lossless.proofs.Passes.{among_one, one_more}

@@ -6,7 +6,7 @@ use Rattle.jxlm_samples.specs.Part.{cell_count}
 use Rattle.jxl_modular.specs.Groups.{channels_in}
 use Rattle.jxl_modular.specs.GroupParts.{groups_of, image_of, passes_in}
 use Rattle.jxlm_section_split.proofs.SectionRows.{has_none, has_some, passed_over, taken}
-use Rattle.jxl_lossless.specs.Inner.Parts.{first_of_pass}
+use Rattle.jxl_lossless.specs.Parts.{first_of_pass}
 use Rattle.jxl_lossless.specs.Inner.Listing.{AddingFails}
 use Rattle.jxl_lossless.proofs.Adding.{added_then, among_first, fails_among, none_added}
 use Rattle.jxl_lossless.proofs.still.places.Places.add_pass.Goals as goal

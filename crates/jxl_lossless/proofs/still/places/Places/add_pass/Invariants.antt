@@ -1,5 +1,5 @@
 use Rattle.jxl_modular.specs.GroupParts.{image_of, passes_in}
-use Rattle.jxl_lossless.specs.Inner.Parts.{first_of_pass}
+use Rattle.jxl_lossless.specs.Parts.{first_of_pass}
 use Rattle.jxl_lossless.specs.Inner.Listing.{AreAdded}
 use Rattle.jxl_lossless.proofs.still.places.Places.add_pass.Given as goal
 
