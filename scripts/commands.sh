@@ -437,6 +437,36 @@ encode_rows() {
     expect 1 'jxlenc: huge.png: above the limits' huge.png -o d.jxl
     absent d.jxl
 
+    # The PNG file of the grey picture with an orientation in Exif data, and how it is shown: turned ORIENTATION CRC SIDES SAMPLES KEPT.
+    # Bytes are written as for printf '%b'; KEPT is the orientation in the Exif data of the .jxl file.
+    tiff='MM\0000\0052\0000\0000\0000\0010\0000\0001\0001\0022\0000\0003\0000\0000\0000\0001\0000'
+    rest='\0000\0000\0000\0000\0000\0000'
+    turned() {
+        { head -c 33 grey.png; printf '%b' "\0000\0000\0000\0032eXIf$tiff$1$rest$2"; tail -c +34 grey.png; } > turned.png
+        printf '%b' "P5\n$3\n255\n$4" > turned.pgm
+        printf '%b' "$tiff$5$rest" > kept.exif
+        expect 0 - turned.png -o c.jxl
+        "$decoder" c.jxl -o again.pgm --exif out.exif && cmp -s turned.pgm again.pgm && cmp -s kept.exif out.exif
+        judge $? "a PNG file with orientation $1 is shown otherwise, or has other Exif data"
+    }
+    turned '\0001' '\0023\0300\0165\0347' '3 2' '\0001\0002\0003\0004\0005\0006' '\0001'
+    turned '\0002' '\0042\0050\0157\0172' '3 2' '\0003\0002\0001\0006\0005\0004' '\0001'
+    turned '\0003' '\0204\0137\0144\0316' '3 2' '\0006\0005\0004\0003\0002\0001' '\0001'
+    turned '\0004' '\0101\0370\0132\0100' '3 2' '\0004\0005\0006\0001\0002\0003' '\0001'
+    turned '\0005' '\0347\0217\0121\0364' '2 3' '\0001\0004\0002\0005\0003\0006' '\0001'
+    turned '\0006' '\0326\0147\0113\0151' '2 3' '\0004\0001\0005\0002\0006\0003' '\0001'
+    "$decoder" c.jxl --info | grep -q '^Orientation: 6 '
+    judge $? 'the header does not have the orientation of the Exif data'
+    turned '\0007' '\0160\0020\0100\0335' '2 3' '\0006\0003\0005\0002\0004\0001' '\0001'
+    turned '\0010' '\0206\0130\0060\0064' '2 3' '\0003\0006\0002\0005\0001\0004' '\0001'
+    turned '\0011' '\0040\0057\0073\0200' '3 2' '\0001\0002\0003\0004\0005\0006' '\0011'
+    printf 'II\052\000\010\000\000\000\001\000\022\001\003\000\001\000\000\000\010\000\000\000\000\000\000\000' > turn.exif
+    printf 'II\052\000\010\000\000\000\001\000\022\001\003\000\001\000\000\000\001\000\000\000\000\000\000\000' > upright.exif
+    printf 'P5\n2 3\n255\n\003\006\002\005\001\004' > turned.pgm
+    expect 0 - grey.pgm --exif turn.exif -o c.jxl
+    "$decoder" c.jxl -o again.pgm --exif out.exif && cmp -s turned.pgm again.pgm && cmp -s upright.exif out.exif
+    judge $? 'the orientation in the data of --exif is not that of the picture'
+
     # Pictures that cannot be read: an output that exists keeps its contents.
     printf 'kept' > b.jxl
     printf 'P5\n3 2\n255\n\001\002\003\004\005' > short.pgm

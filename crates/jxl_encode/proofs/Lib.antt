@@ -4,3 +4,4 @@ pub mod Codings
 pub mod Codestreams
 pub mod PlainTrees
 pub mod ProfiledPictures
+pub mod OrientedPictures

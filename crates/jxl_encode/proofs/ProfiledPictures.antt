@@ -1,5 +1,5 @@
 -- Pictures with a profile can be coded.
-use Rattle.std.proofs.Common.{◌≡◌, ℕ, ◌<◌, ◌≤◌, ◌^◌, List, length, Bool, true, false, Option, Some, None, refl, sym, ap, ◌∙◌, subst, arith}
+use Rattle.std.proofs.Common.{◌≡◌, ℕ, ◌<◌, ◌≤◌, ◌^◌, List, length, Bool, true, false, Option, Some, None, sym, ap, ◌∙◌, subst, arith}
 use Rattle.std.specs.Prelude.{◌==◌, ◌&&◌, IfSome, is_some}
 use Rattle.jxl_codestream.specs.FrontParts.{bytes_if}
 use Rattle.jxl_image_header.specs.Images.{Image, image_of, image_refusal}
@@ -33,7 +33,6 @@ pub codable_with_profile : (picture other : Picture) (icc : List ℕ) → image_
 codable_with_profile picture other icc is has fit held = record {
   writable = ap is_writable is ∙ spelled (image_of picture.header) fit.writable;
   supported = ap image_refusal is ∙ fit.supported;
-  upright = ap (λ (i : Image). i.orientation) is ∙ fit.upright;
   wide = subst (λ (i : Image). i.size.width ≤ 2 ^ 30) (sym is) fit.wide;
   high = subst (λ (i : Image). i.size.height ≤ 2 ^ 30) (sym is) fit.high;
   want_icc = ap (λ (i : Image). i.colour_encoding.want_icc) is ∙ sym (ap (λ (o : Option (List ℕ)). is_some o) has);

@@ -9,12 +9,11 @@ use Rattle.jxl_picture.specs.declared.picture.Picture.{Picture}
 abbrev pub IsCodableProfile : List ℕ → Type 0
 IsCodableProfile icc = (0 < length icc) × (length icc ≤ 2 ^ 28)
 
--- A header spells what is said of the picture, and has nothing that is not supported. The picture is upright, and its sides are
--- those of a Modular image. The header says that there is a profile exactly if there is one, which a file can hold.
+-- A header spells what is said of the picture, and has nothing that is not supported. Its sides are those of a Modular image. The
+-- header says that there is a profile exactly if there is one, which a file can hold.
 pub record IsCodable (picture : Picture) : Type 0 where
   pub writable : is_writable (image_of picture.header) ≡ true
   pub supported : image_refusal (image_of picture.header) ≡ None
-  pub upright : picture.header.orientation ≡ 1
   pub wide : picture.header.size.width ≤ 2 ^ 30
   pub high : picture.header.size.height ≤ 2 ^ 30
   pub want_icc : picture.header.colour_encoding.want_icc ≡ is_some (bytes_if picture.profile)

@@ -11,6 +11,7 @@ use Rattle.jxl_image_header.specs.Images.{Image, image_of}
 use Rattle.jxl_image_header.specs.declared.channel.ExtraChannel.{ExtraChannel}
 use Rattle.jxl_image_header.specs.declared.size.Size.{Size}
 use Rattle.jxl_picture.specs.Limits.{Allow}
+use Rattle.jxl_picture.specs.Orientations.{IsUpright}
 use Rattle.jxl_picture.specs.declared.limits.Limits.{Limits}
 use Rattle.jxl_picture.specs.declared.picture.Picture.{Picture}
 use Rattle.jxl_lossless.specs.Pictures.{IsPictureOfFile}
@@ -26,10 +27,20 @@ pub record AllowFile (limits : Limits) (image : Image) (icc : Option (List ℕ))
 abbrev pub IsFileOf : Picture → List ℕ → Type 0
 IsFileOf picture file = (limits : Limits) → AllowFile limits (image_of picture.header) (bytes_if picture.profile) → (before : ℕ) → (after : ℕ) × IsPictureOfFile limits file picture before after
 
+-- The second picture is the first one as its header shows it: upright, with the same profile.
+pub record IsShownAs (picture shown : Picture) : Type 0 where
+  pub upright : IsUpright (image_of picture.header) picture.channels.items (image_of shown.header) shown.channels.items
+  pub profile : bytes_if shown.profile ≡ bytes_if picture.profile
+
+-- The file is decoded to each picture that shows this one; to this one itself, if it is upright.
+pub record IsCodingOf (picture : Picture) (file : List ℕ) : Type 0 where
+  pub shown : (shown : Picture) → IsShownAs picture shown → IsFileOf shown file
+  pub upright : picture.header.orientation ≡ 1 → IsFileOf picture file
+
 -- The bytes are a codestream of this picture: they are a file by themselves, and each file with this codestream is one of it.
 pub record IsCodestreamOf (picture : Picture) (bytes : List ℕ) : Type 0 where
   pub bare : HasCodestream bytes (Ok bytes)
-  pub file : (file : List ℕ) → HasCodestream file (Ok bytes) → IsFileOf picture file
+  pub file : (file : List ℕ) → HasCodestream file (Ok bytes) → IsCodingOf picture file
 
 -- an extra channel that level 5 does not hold: black, or of more than 16 bits
 abbrev pub is_deep : ExtraChannel → Bool

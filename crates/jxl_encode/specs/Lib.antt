@@ -1,4 +1,5 @@
 pub mod Codable
 pub mod Files
 pub mod Inner
+pub mod Orientations
 pub mod Profiles

@@ -33,17 +33,14 @@ fn has_codable_profile(picture: &Picture) -> bool
 }
 
 /// Whether the picture can be coded: a header spells what is said of it, without a name, a spot colour, a colour
-/// filter and an extension, and has nothing that the decoder does not support; it is upright, and its sides are at most
-/// 2^30. The header says that there is a profile exactly if there is one, which has from 1 to 2^28 bytes. A sample may
-/// be any number of 32 bits, whatever its depth.
+/// filter and an extension, and has nothing that the decoder does not support; its sides are at most 2^30. The header
+/// says that there is a profile exactly if there is one, which has from 1 to 2^28 bytes. A sample may be any number of
+/// 32 bits, whatever its depth.
 pub fn is_codable(picture: &Picture) -> bool
     ensures { IsTrue result ↔ IsCodable picture.now }
 {
     let header = &picture.header;
     if !is_writable(header) || header.refused().is_some() {
-        return false;
-    }
-    if header.orientation != 1 {
         return false;
     }
     if header.size.width > MAX_SIDE || header.size.height > MAX_SIDE {

@@ -5,7 +5,7 @@ ghost use Rattle.std.specs.Option.{option_map};
 ghost use Rattle.jxl_image_header.specs.Images.{image_of};
 ghost use Rattle.jxl_picture.specs.Pictures.{IsWhole};
 ghost use Rattle.jxl_encode.specs.Codable.{IsCodable};
-ghost use Rattle.jxl_encode.specs.Files.{IsFileOf, IsWrittenFile};
+ghost use Rattle.jxl_encode.specs.Files.{IsCodingOf, IsWrittenFile};
 
 use crate::choice::encode_codestream;
 use crate::effort::Effort;
@@ -24,15 +24,16 @@ pub fn encode_lossless(
 ) -> Result<Vec<u8>, OutOfMemory>
     requires whole { IsWhole (image_of picture.now.header) picture.now.channels.items }
     requires codable { IsCodable picture.now }
-    ensures { IfOk result (λ v. IsFileOf picture.now v.items) }
+    ensures { IfOk result (λ v. IsCodingOf picture.now v.items) }
 {
     encode_with(alloc, picture, effort, false, None, None)
 }
 
 /// A lossless .jxl file of the picture, which is whole and can be coded (`is_codable`), with these Exif and XMP data,
-/// if present: the Exif data from the TIFF header on. `decode_lossless` returns the picture within all limits that
-/// allow it, its profile with 16 bytes more, and 128 decisions for a sample. The file is a codestream, or boxes with
-/// one: if `boxed` says so, if there are such data, or if level 5 does not hold the picture with its profile.
+/// if present: the Exif data from the TIFF header on. `decode_lossless` returns the picture, mirrored or turned as the
+/// orientation in its header says, within all limits that allow it, its profile with 16 bytes more, and 128 decisions
+/// for a sample. The file is a codestream, or boxes with one: if `boxed` says so, if there are such data, or if level 5
+/// does not hold the picture with its profile.
 ///
 /// # Errors
 ///
@@ -48,7 +49,7 @@ pub fn encode_with(
 ) -> Result<Vec<u8>, OutOfMemory>
     requires whole { IsWhole (image_of picture.now.header) picture.now.channels.items }
     requires codable { IsCodable picture.now }
-    ensures picture { IfOk result (λ v. IsFileOf picture.now v.items) }
+    ensures picture { IfOk result (λ v. IsCodingOf picture.now v.items) }
     ensures written { IfOk result (λ v. IsWrittenFile picture.now boxed (option_map (λ s. s.now) exif.entry)
         (option_map (λ s. s.now) xmp.entry) v.items) }
 {
@@ -67,7 +68,7 @@ pub fn encode_with_progress<P: Progress>(
 ) -> Result<Vec<u8>, OutOfMemory>
     requires whole { IsWhole (image_of picture.now.header) picture.now.channels.items }
     requires codable { IsCodable picture.now }
-    ensures picture { IfOk result (λ v. IsFileOf picture.now v.items) }
+    ensures picture { IfOk result (λ v. IsCodingOf picture.now v.items) }
     ensures written { IfOk result (λ v. IsWrittenFile picture.now boxed (option_map (λ s. s.now) exif.entry)
         (option_map (λ s. s.now) xmp.entry) v.items) }
 {

@@ -10,6 +10,7 @@ pub mod effort;
 pub mod file;
 mod frame;
 mod level;
+pub mod orientation;
 pub mod profile;
 pub mod progress;
 mod sizes;

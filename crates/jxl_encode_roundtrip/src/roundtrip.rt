@@ -7,7 +7,7 @@ ghost use Rattle.jxl_image_header.specs.Images.{image_of};
 ghost use Rattle.jxl_picture.specs.Pictures.{IsWhole};
 ghost use Rattle.jxl_codestream.specs.FrontParts.{bytes_if};
 ghost use Rattle.jxl_encode.specs.Codable.{IsCodable};
-ghost use Rattle.jxl_encode.specs.Files.{AllowFile};
+ghost use Rattle.jxl_encode.specs.Files.{AllowFile, IsShownAs};
 ghost use Rattle.jxl_lossless_laws.specs.Same.{IsSamePicture};
 ghost use Rattle.jxl_encode_roundtrip.specs.RoundTrip.{RoundTripFails};
 
@@ -50,18 +50,20 @@ fn all_are_full(grids: &[AlignedGrid<i32>])
     }
 }
 
-/// Encodes the picture, and decodes the file.
+/// Encodes the picture, and decodes the file: to what the picture shows.
 fn encoded_and_decoded(
     alloc: Global,
     picture: &Picture,
+    shown: &Picture,
     effort: Effort,
     limits: &Limits,
 ) -> Result<Picture, RoundTripError>
     requires whole { IsWhole (image_of picture.now.header) picture.now.channels.items }
     requires codable { IsCodable picture.now }
-    requires allowed { AllowFile limits.now (image_of picture.now.header) (bytes_if picture.now.profile) }
-    ensures same { IfOk result (IsSamePicture picture.now) }
-    ensures err { IfErr result (RoundTripFails picture.now) }
+    requires shows { IsShownAs picture.now shown.now }
+    requires allowed { AllowFile limits.now (image_of shown.now.header) (bytes_if shown.now.profile) }
+    ensures same { IfOk result (IsSamePicture shown.now) }
+    ensures err { IfErr result (RoundTripFails shown.now) }
 {
     let file = encode_lossless(alloc, picture, effort)?;
     a_file_has_one_picture();
@@ -72,8 +74,37 @@ fn encoded_and_decoded(
     }
 }
 
-/// Encodes a picture by [`encode_lossless`], decodes the file by [`decode_lossless`], and returns the picture: the
-/// same header, the same samples, the same profile, whatever the effort.
+/// Encodes a picture by [`encode_lossless`], decodes the file by [`decode_lossless`], and returns what the picture
+/// shows by the orientation in its header, as `shown` does: the same header, the same samples, the same profile,
+/// whatever the effort.
+///
+/// # Errors
+///
+/// Out of memory, or a file of 2^61 bytes or more.
+pub fn encode_and_decode_shown(
+    alloc: Global,
+    picture: &Picture,
+    shown: &Picture,
+    effort: Effort,
+    limits: &Limits,
+) -> Result<Picture, RoundTripError>
+    requires whole { IsWhole (image_of picture.now.header) picture.now.channels.items }
+    requires codable { IsCodable picture.now }
+    requires shows { IsShownAs picture.now shown.now }
+    requires allowed { AllowFile limits.now (image_of shown.now.header) (bytes_if shown.now.profile) }
+    ensures same { IfOk result (IsSamePicture shown.now) }
+    ensures channels { IfOk result (λ p. p.channels.items ≡ shown.now.channels.items) }
+    ensures err { IfErr result (RoundTripFails shown.now) }
+{
+    let decoded = encoded_and_decoded(alloc, picture, shown, effort, limits)?;
+    all_are_full(&shown.channels);
+    all_are_full(&decoded.channels);
+    same_channels_are_equal();
+    Ok(decoded)
+}
+
+/// Encodes an upright picture by [`encode_lossless`], decodes the file by [`decode_lossless`], and returns the picture:
+/// the same header, the same samples, the same profile, whatever the effort.
 ///
 /// # Errors
 ///
@@ -86,14 +117,11 @@ pub fn encode_and_decode(
 ) -> Result<Picture, RoundTripError>
     requires whole { IsWhole (image_of picture.now.header) picture.now.channels.items }
     requires codable { IsCodable picture.now }
+    requires upright { picture.now.header.orientation ≡ 1 }
     requires allowed { AllowFile limits.now (image_of picture.now.header) (bytes_if picture.now.profile) }
     ensures same { IfOk result (IsSamePicture picture.now) }
     ensures channels { IfOk result (λ p. p.channels.items ≡ picture.now.channels.items) }
     ensures err { IfErr result (RoundTripFails picture.now) }
 {
-    let decoded = encoded_and_decoded(alloc, picture, effort, limits)?;
-    all_are_full(&picture.channels);
-    all_are_full(&decoded.channels);
-    same_channels_are_equal();
-    Ok(decoded)
+    encode_and_decode_shown(alloc, picture, picture, effort, limits)
 }

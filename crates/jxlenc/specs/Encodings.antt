@@ -7,8 +7,10 @@ use Rattle.jxl_command.specs.Streams.{IsReadWhole}
 use Rattle.jxl_command.specs.declared.extra.Extras.{Extras}
 use Rattle.jxl_container.specs.Metadata.{HasExif, HasXmp}
 use Rattle.jxl_encode.specs.Codable.{IsCodableProfile}
-use Rattle.jxl_encode.specs.Files.{IsFileOf, IsWrittenFile}
+use Rattle.jxl_encode.specs.Files.{IsCodingOf, IsWrittenFile}
+use Rattle.jxl_encode.specs.Orientations.{image_with_orientation}
 use Rattle.jxl_encode.specs.Profiles.{image_with_profile}
+use Rattle.jxl_exif.specs.Orientations.{IsOrientationOf, IsUprightOf}
 use Rattle.jxl_image_header.specs.Images.{Image, image_of}
 use Rattle.jxl_netpbm.specs.Output.{AppendsBeginning}
 use Rattle.jxl_netpbm_read.specs.Files.{IsErrorOf, IsNetpbmOf}
@@ -34,17 +36,23 @@ abbrev pub IsSource : List ℕ → Image → List (Grid ℤ) → Option (List �
 IsSource input image channels icc exif xmp =
     IsPngOf input image channels icc exif xmp ⊎ (IsNetpbmOf input image channels × (icc ≡ None) × (exif ≡ None) × (xmp ≡ None))
 
--- The input is a file of this picture and of these Exif and XMP data; the picture has this profile, if there is one, in place of its own.
-pub record IsPictureOf (input : List ℕ) (icc : Option (List ℕ)) (picture : Picture) (exif xmp : Option (List ℕ)) : Type 0 where
+-- The input is a file of this picture and of these Exif and XMP data; the picture has this orientation, and this profile, if there is one, in
+-- place of its own.
+pub record IsPictureOf (input : List ℕ) (icc : Option (List ℕ)) (orientation : ℕ) (picture : Picture) (exif xmp : Option (List ℕ)) : Type 0 where
   pub image : Image
   pub own : Option (List ℕ)
   pub source : IsSource input image picture.channels.items own exif xmp
-  pub header : image_of picture.header ≡ image_with icc image
+  pub header : image_of picture.header ≡ image_with icc (image_with_orientation orientation image)
   pub profile : bytes_if picture.profile ≡ option_or icc own
 
--- The bytes are a file that is decoded to this picture: in boxes, if they are asked for or needed, with these Exif and XMP data.
+-- These Exif data say this orientation, 1 if there are none; what is kept of them says 1.
+abbrev pub IsOrientedBy : Option (List ℕ) → ℕ → Option (List ℕ) → Type 0
+IsOrientedBy (Some exif) n kept = IsOrientationOf exif n × ((bytes : List ℕ) × IsUprightOf exif bytes × (kept ≡ Some bytes))
+IsOrientedBy None n kept = (n ≡ 1) × (kept ≡ None)
+
+-- The bytes are a file that is decoded to what this picture shows: in boxes, if they are asked for or needed, with these Exif and XMP data.
 pub record IsEncodingOf (picture : Picture) (boxed : Bool) (exif xmp : Option (List ℕ)) (file : List ℕ) : Type 0 where
-  pub decoded : IsFileOf picture file
+  pub decoded : IsCodingOf picture file
   pub written : IsWrittenFile picture boxed exif xmp file
   pub exif_kept : IfSome exif (λ bytes. HasExif file (Some bytes))
   pub xmp_kept : IfSome xmp (λ bytes. HasXmp file (Some bytes))
@@ -61,7 +69,8 @@ pub record AreGiven {F : Type 0} (left : F → Option (List ℕ)) (options : Opt
   pub xmp : IsGiven (is_some options.paths.xmp) (left old.xmp) (left new.xmp) (new.xmp ≡ old.xmp) (bytes_if metadata.xmp)
 
 -- The input was read to its end, from left to rest, and so were the data for the file beside its picture; the bytes are the file
--- of that picture with these data, and with those of the input in place of what is not given.
+-- of that picture with these data, and with those of the input in place of what is not given. The picture has the orientation that
+-- the Exif data say, and these are kept for an upright one.
 pub record IsMade (boxed : Bool) (left rest : Option (List ℕ)) (Given : Metadata → Type 0) (file : List ℕ) : Type 0 where
   pub input : List ℕ
   pub picture : Picture
@@ -71,8 +80,11 @@ pub record IsMade (boxed : Bool) (left rest : Option (List ℕ)) (Given : Metada
   pub given : Given metadata
   pub exif : Option (List ℕ)
   pub xmp : Option (List ℕ)
-  pub pictured : IsPictureOf input (bytes_if metadata.profile) picture exif xmp
-  pub encoded : IsEncodingOf picture boxed (option_or (bytes_if metadata.exif) exif) (option_or (bytes_if metadata.xmp) xmp) file
+  pub orientation : ℕ
+  pub kept : Option (List ℕ)
+  pub oriented : IsOrientedBy (option_or (bytes_if metadata.exif) exif) orientation kept
+  pub pictured : IsPictureOf input (bytes_if metadata.profile) orientation picture exif xmp
+  pub encoded : IsEncodingOf picture boxed kept (option_or (bytes_if metadata.xmp) xmp) file
 
 -- Such a file was written: the output, which held `held`, holds it after that.
 pub record IsDone (boxed : Bool) (left rest : Option (List ℕ)) (Given : Metadata → Type 0) (held holds : Option (List ℕ)) : Type 0 where

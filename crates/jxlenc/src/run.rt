@@ -8,7 +8,7 @@ ghost use Rattle.jxl_command.specs.Streams.{IsReported};
 ghost use Rattle.jxl_encode.specs.Codable.{IsCodable};
 ghost use Rattle.jxl_image_header.specs.Images.{image_of};
 ghost use Rattle.jxl_picture.specs.Pictures.{IsWhole};
-ghost use Rattle.jxlenc.specs.Encodings.{AreGiven, InputFails, IsDone, IsEncodingOf, IsFailed, IsGiven, IsMade, MakingFails, ProfileFails, image_with};
+ghost use Rattle.jxlenc.specs.Encodings.{AreGiven, InputFails, IsDone, IsEncodingOf, IsFailed, IsGiven, IsMade, IsOrientedBy, MakingFails, ProfileFails, image_with};
 ghost use Rattle.jxlenc.specs.Failures.{IsOfExtra, failure_line, is_of_output};
 
 use crate::failures::Failure;
@@ -21,8 +21,10 @@ use jxl_command::meter::Line;
 use jxl_command::output::{Flush, write_flushed};
 use jxl_encode::codable::is_codable_profile;
 use jxl_encode::file::encode_with_progress;
+use jxl_encode::orientation::with_orientation;
 use jxl_encode::profile::with_profile;
 use jxl_encode::progress::Progress;
+use jxl_exif::orientation::{orientation_of, set_upright};
 use jxl_picture::picture::Picture;
 use std::alloc::Global;
 use std::io::{Read, Write};
@@ -74,6 +76,22 @@ fn metadata_given<F: Read>(
     let exif = extra_if(alloc, &mut extras.exif, paths.exif.is_some(), Extra::Exif)?;
     let xmp = extra_if(alloc, &mut extras.xmp, paths.xmp.is_some(), Extra::Xmp)?;
     Ok(Metadata { profile, exif, xmp })
+}
+
+// The orientation that Exif data say, if there are some, and the data for an upright picture.
+fn upright_exif(exif: Option<Vec<u8>>) -> (u32, Option<Vec<u8>>)
+    ensures value { IsOrientedBy (bytes_if exif) result.0 (bytes_if result.1) }
+    ensures least { 1 ≤ result.0 }
+    ensures most { result.0 ≤ 8 }
+{
+    match exif {
+        Some(mut bytes) => {
+            let orientation = orientation_of(&bytes);
+            set_upright(&mut bytes);
+            (orientation, Some(bytes))
+        }
+        None => (1, None),
+    }
 }
 
 // The picture with this profile, if there is one, in place of its own.
@@ -143,9 +161,11 @@ fn file_asked<R: Read, F: Read, P: Progress + Line>(
     };
     let source = source_of_input(alloc, &bytes)?;
     let Metadata { profile, exif, xmp } = metadata_given(alloc, options, extras)?;
-    let exif = exif.or(source.exif);
+    let given = exif.or(source.exif);
+    let (orientation, exif) = upright_exif(given);
     let xmp = xmp.or(source.xmp);
-    let picture = picture_with(source.picture, profile)?;
+    let oriented = with_orientation(source.picture, orientation);
+    let picture = picture_with(oriented, profile)?;
     let made = file_of_picture(alloc, &picture, options, &exif, &xmp, progress);
     progress.clear();
     let file = made?;
@@ -193,11 +213,13 @@ pub fn report<E: Write>(errors: &mut E, name: &str, failure: Failure) -> End
     }
 }
 
-/// Reads a picture in PNG or a netpbm format from `input`, and a profile, Exif data and XMP data from `extras`, those that are
-/// asked for, in place of those of the input, and writes a JPEG XL file of them to `output`. It returns the status to end with: 0 where `output` got the
-/// whole file, and has passed it on, and `errors` got nothing; else 1, and `errors` got the line of a failure that holds,
-/// unless the output is a pipe that was closed. Nothing is written before the whole file is encoded; after a failed write
-/// the output holds a beginning of the file. `progress` is called after each way to code the picture that was tried.
+/// Reads a picture in PNG or a netpbm format from `input`, and a profile, Exif data and XMP data from `extras`, those
+/// that are asked for, in place of those of the input, and writes a JPEG XL file of them to `output`. The picture has
+/// the orientation that its Exif data say; those of the file say 1. It returns the status to end with: 0 where `output`
+/// got the whole file, and has passed it on, and `errors` got nothing; else 1, and `errors` got the line of a failure
+/// that holds, unless the output is a pipe that was closed. Nothing is written before the whole file is encoded; after a
+/// failed write the output holds a beginning of the file. `progress` is called after each way to code the picture that
+/// was tried.
 pub fn run<R: Read, F: Read, W: Flush, E: Write, P: Progress + Line>(
     alloc: Global,
     options: Options<'_>,

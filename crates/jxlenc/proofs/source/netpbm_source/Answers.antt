@@ -11,7 +11,6 @@ returns-in-Ok-clause-codable c =
     record {
       writable = e.writable;
       supported = e.supported;
-      upright = e.upright;
       wide = e.wide;
       high = e.high;
       want_icc = e.plain ∙ sym (ap (λ (o : Option (Vec ℕ)). is_some (bytes_if o)) e.profile);

@@ -16,7 +16,6 @@ returns-in-Ok-clause-codable c =
     record {
       writable = e.writable;
       supported = e.supported;
-      upright = e.upright;
       wide = e.wide;
       high = e.high;
       want_icc = e.want_icc;

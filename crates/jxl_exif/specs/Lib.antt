@@ -1,0 +1,2 @@
+pub mod Tiff
+pub mod Orientations

@@ -1,0 +1,6 @@
+//! The orientation in Exif data (TIFF 6.0, Exif 2.3).
+#![tactic(auto)]
+
+pub mod laws;
+pub mod orientation;
+mod tiff;
