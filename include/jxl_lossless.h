@@ -1,4 +1,4 @@
-/* jxl_lossless.h - lossless JPEG XL pictures: a file in memory to samples or pixels.
+/* jxl_lossless.h - lossless JPEG XL pictures: a file in memory to samples or pixels, and samples to a file.
  *
  *     jxl_lossless_limits limits = {sizeof limits};
  *     jxl_lossless_info info = {sizeof info};
@@ -27,7 +27,8 @@
  * Structs grow. The first field of a struct is its size in bytes, as the program was compiled: set it before each call.
  * A call returns JXL_LOSSLESS_WRONG_STRUCT if it is smaller than what the library knows.
  *
- * If a call does not return JXL_LOSSLESS_DONE, it has changed nothing but the message.
+ * If a call does not return JXL_LOSSLESS_DONE, it has changed nothing but the message (and `*needed`, with
+ * JXL_LOSSLESS_NO_ROOM).
  *
  * Messages. `message` gets the reason in English, cut off to fit, and a zero after it; "" with JXL_LOSSLESS_DONE. It may
  * be NULL if `message_size` is 0.
@@ -55,7 +56,9 @@ enum {
     JXL_LOSSLESS_TOO_LARGE = 5,    /* above the limits */
     JXL_LOSSLESS_NO_MEMORY = 6,    /* malloc failed */
     JXL_LOSSLESS_WRONG_COUNT = 7,  /* the array has another size than the call needs */
-    JXL_LOSSLESS_WRONG_STRUCT = 8  /* the size of a struct is smaller than what the library knows */
+    JXL_LOSSLESS_WRONG_STRUCT = 8, /* the size of a struct is smaller than what the library knows */
+    JXL_LOSSLESS_NO_ROOM = 9,      /* the buffer is too small for the file: `*needed` is the size that it needs */
+    JXL_LOSSLESS_NOT_CODABLE = 10  /* a number of the description names nothing, or no file can hold the picture */
 };
 
 /* Each message with its final zero fits this number of bytes. */
@@ -155,6 +158,31 @@ jxl_lossless_status jxl_lossless_decode_8(const uint8_t *file, size_t file_size,
  * info.width * info.height * info.interleaved * 2. */
 jxl_lossless_status jxl_lossless_decode_16(const uint8_t *file, size_t file_size, const jxl_lossless_limits *limits,
                                            uint16_t *pixels, size_t size, char *message, size_t message_size);
+
+/* How much time jxl_lossless_encode takes for a shorter file. */
+enum { JXL_LOSSLESS_FAST = 0, JXL_LOSSLESS_USUAL = 1, JXL_LOSSLESS_BEST = 2 };
+
+/* Encodes a picture: with JXL_LOSSLESS_DONE the first `*needed` bytes of `file` are a file that is decoded to these
+ * samples, within all limits that allow the picture, its profile with 16 bytes more, and 128 decisions for a sample. Other
+ * bytes of `file` do not change.
+ *
+ * `info` is as jxl_lossless_read_info fills it; its fields alpha, interleaved and samples are not read. `extra` describes
+ * the info.extra extra channels, as jxl_lossless_channels does after those of colours; their fields first, width, height
+ * and reserved are not read. Samples stand as jxl_lossless_decode writes them, and may be any numbers of 32 bits. `profile`
+ * has info.profile bytes. If it has any, white, primaries, transfer, gamma and intent are 1, 1, 13, 0 and 1. `effort` is
+ * JXL_LOSSLESS_FAST, _USUAL or _BEST.
+ *
+ * JXL_LOSSLESS_NO_ROOM: `file_size` is below `*needed`, the size of such a file; only then, and with JXL_LOSSLESS_DONE, the
+ * call writes `*needed`. JXL_LOSSLESS_WRONG_COUNT: `extra_count`, `profile_size` or `count` is not what `info` and `extra`
+ * say. JXL_LOSSLESS_NOT_CODABLE: a side is 0 or above 2^30; info.colours does not suit info.space; a white point or primaries
+ * by coordinates; spot colours, filter arrays, extra channels of floats; or another number that the fields above do not
+ * list. JXL_LOSSLESS_NO_MEMORY is also returned if a section of the file would have 2^30 bytes or more, and for 2^31 samples
+ * or more. */
+jxl_lossless_status jxl_lossless_encode(const jxl_lossless_info *info, const jxl_lossless_channel *extra,
+                                        size_t extra_count, const int32_t *samples, size_t count,
+                                        const uint8_t *profile, size_t profile_size, uint32_t effort,
+                                        uint8_t *file, size_t file_size, size_t *needed,
+                                        char *message, size_t message_size);
 
 #ifdef __cplusplus
 }

@@ -65,6 +65,9 @@ test_links() {
         $how $flags -Iinclude examples/c/jxl2ppm.c $last $library -o "$folder/jxl2ppm"
         "$folder/jxl2ppm" examples/ball.jxl > "$folder/ball.pgm" || fail "$how: examples/ball.jxl is not decoded"
         [ "$(md5sum < "$folder/ball.pgm")" = "${ball:=$(md5sum < "$folder/ball.pgm")}" ] || fail "$how: another picture"
+        $how $flags -Iinclude examples/c/ppm2jxl.c $last $library -o "$folder/ppm2jxl"
+        "$folder/ppm2jxl" "$folder/ball.pgm" > "$folder/again" || fail "$how: the picture is not encoded"
+        "$folder/jxl2ppm" "$folder/again" | cmp -s - "$folder/ball.pgm" || fail "$how: another picture after encoding"
     done
     echo "links: the same picture by each compiler"
 }
@@ -112,6 +115,24 @@ test_memory() {
     "$folder/refuse" $(ls "$folder"/*.jxl | head -5) || fail "refuse ended with status $?"
 }
 
+# Each picture is encoded, and decoded to the same; djxl decodes it to the pixels of the file that it is of.
+test_encode() {
+    mkdir "$folder/encoded"
+    $CC -std=c99 $flags -Iinclude c/tests/encode.c "$out/libjxl_c.a" -o "$folder/encode"
+    "$folder/encode" "$folder/encoded" "${TRIES:-20}" "$folder"/*.jxl > "$folder/encode.said" || fail "$(tail -1 "$folder/encode.said")"
+    k=0 same=0
+    for file in "$folder"/*.jxl; do
+        k=$((k + 1))
+        for kind in pgm ppm pam; do
+            [ -f "$file.$kind" ] || continue
+            djxl "$folder/encoded/$k.jxl" "$folder/encoded/$k.$kind" --quiet 2> /dev/null || fail "djxl: $(basename "$file"), encoded"
+            python3 c/tests/same_pixels.py "$folder/encoded/$k.$kind" "$file.$kind" || fail "other pixels: $(basename "$file"), encoded"
+            same=$((same + 1))
+        done
+    done
+    echo "encode: $same with the pixels of djxl"
+}
+
 test_threads() {
     $CC -std=c99 $flags -Iinclude c/tests/threads.c "$clib/libjxl_lossless.a" -pthread -o "$folder/threads"
     "$folder/threads" examples/ball.jxl || fail "threads ended with status $?"
@@ -120,7 +141,25 @@ test_threads() {
 test_python() {
     JXL_LOSSLESS_SO=$clib/libjxl_lossless.so python3 examples/python/jxl_lossless.py examples/ball.jxl > "$folder/python" ||
         fail "examples/python/jxl_lossless.py"
+    JXL_LOSSLESS_SO=$clib/libjxl_lossless.so python3 examples/python/jxl_lossless.py examples/ball.jxl "$folder/python.jxl" > "$folder/python"
+    "$folder/jxl2ppm" "$folder/python.jxl" | cmp -s - "$folder/ball.pgm" || fail "examples/python/jxl_lossless.py: encode"
     echo "python: $(head -c 60 "$folder/python")"
+}
+
+# The loader for programs of GTK, if its headers are there: a thumbnail of the size of the picture.
+test_loader() {
+    pkg-config --exists gdk-pixbuf-2.0 2> /dev/null || return 0
+    query=$(pkg-config --variable=gdk_pixbuf_query_loaders gdk-pixbuf-2.0)
+    mkdir "$folder/loaders"
+    $CC -O2 -Wall -Werror -shared -fPIC -Iinclude examples/gdk-pixbuf/loader.c $(pkg-config --cflags --libs gdk-pixbuf-2.0) \
+        "$clib/libjxl_lossless.a" -o "$folder/loaders/libpixbufloader-jxl-lossless.so"
+    has gdk-pixbuf-thumbnailer && [ -x "$query" ] || return 0
+    GDK_PIXBUF_MODULEDIR=$folder/loaders "$query" > "$folder/loaders.cache"
+    GDK_PIXBUF_MODULE_FILE=$folder/loaders.cache gdk-pixbuf-thumbnailer -s 64 examples/ball.jxl "$folder/thumbnail" ||
+        fail "gdk-pixbuf-thumbnailer"
+    sides=$(od -An -tx1 -j16 -N8 "$folder/thumbnail" | tr -d ' ')
+    [ "$sides" = 0000004000000020 ] || fail "the thumbnail has other sides: $sides"
+    echo "gdk-pixbuf: a thumbnail"
 }
 
 # The archive of the other compiler says the same of each file.
@@ -132,6 +171,8 @@ test_compilers() {
         for file in "$folder"/*.jxl; do
             "$folder/samples2" "$file" | cmp -s - "$file.said" || fail "the compilers differ: $(basename "$file")"
         done
+        $CC -std=c99 $flags -Iinclude c/tests/encode.c "$out/libjxl_c.a" -o "$folder/encode2"
+        "$folder/encode2" "$folder/encoded" 0 "$folder"/*.jxl 2> /dev/null | cmp -s - "$folder/encode.said" || fail "the compilers encode otherwise"
         echo "compilers: both archives say the same"
     else
         fail "rt lib --backend rattle: $(tail -1 "$folder/said")"
@@ -150,8 +191,10 @@ case ${1:-} in
         test_pictures
         test_damage
         test_memory
+        test_encode
         test_threads
         test_python
+        test_loader
         test_compilers
         ;;
     *) fail "usage: clib.sh build | test | install PREFIX" ;;

@@ -1,10 +1,12 @@
-"""Lossless JPEG XL pictures as arrays: `read(path)`, `decode(file)`, `pixels(file)`, `info(file)`, `profile(file)`.
+"""Lossless JPEG XL pictures as arrays: `read(path)`, `decode(file)`, `pixels(file)`, `info(file)`, `profile(file)`, and
+`encode(info, extra, samples, profile)`, which makes a file.
 
 It loads libjxl_lossless.so from beside this file, from the path in JXL_LOSSLESS_SO, or by its name. With numpy, samples
 are an int32 array and pixels a uint8 or uint16 array; without it an `array.array`. Calls release the interpreter's lock, so
 threads decode side by side.
 
-    python3 jxl_lossless.py FILE.jxl    prints what the headers say
+    python3 jxl_lossless.py FILE.jxl           prints what the headers say
+    python3 jxl_lossless.py FILE.jxl OUT.jxl   and encodes its picture again
 """
 import array
 import ctypes as c
@@ -17,7 +19,8 @@ except ImportError:
     numpy = None
 
 COLOUR, ALPHA = 256, 0
-_DONE, _NO_MEMORY, _MESSAGE = 0, 6, 128
+FAST, USUAL, BEST = 0, 1, 2
+_DONE, _NO_MEMORY, _NO_ROOM, _MESSAGE = 0, 6, 9, 128
 
 
 class Limits(c.Structure):
@@ -69,6 +72,9 @@ for _name, _out in (
 ):
     _call = getattr(_so, "jxl_lossless_" + _name)
     _call.argtypes, _call.restype = [_text, _size, c.POINTER(Limits), *_out, _text, _size], c.c_uint32
+_so.jxl_lossless_encode.argtypes = [c.POINTER(Info), c.POINTER(Channel), _size, c.c_void_p, _size, _text, _size, c.c_uint32]
+_so.jxl_lossless_encode.argtypes += [c.c_void_p, _size, c.POINTER(_size), _text, _size]
+_so.jxl_lossless_encode.restype = c.c_uint32
 _so.jxl_lossless_usual_limits.argtypes, _so.jxl_lossless_usual_limits.restype = [c.POINTER(Limits)], c.c_uint32
 
 
@@ -81,6 +87,10 @@ def usual_limits():
 def _run(name, file, limits, *out):
     why = c.create_string_buffer(_MESSAGE)
     status = getattr(_so, "jxl_lossless_" + name)(file, len(file), limits or usual_limits(), *out, why, len(why))
+    _raise_unless_done(status, why)
+
+
+def _raise_unless_done(status, why):
     if status == _NO_MEMORY:
         raise MemoryError(why.value.decode())
     if status != _DONE:
@@ -148,13 +158,52 @@ def read(path, limits=None):
         return decode(file.read(), limits)
 
 
+def _samples_of(parts):
+    """The samples of all parts, one after another, where they are, and how many they are."""
+    if numpy is not None:
+        numbers = numpy.concatenate([numpy.ascontiguousarray(it, numpy.int32).ravel() for it in parts])
+        return numbers, numbers.ctypes.data, len(numbers)
+    numbers = array.array("i")
+    for it in parts:
+        numbers.extend(it)
+    return numbers, numbers.buffer_info()[0], len(numbers)
+
+
+def described(width, height, colours=3, bits=8):
+    """What `encode` is told of a picture of sRGB colours, or of grey ones: whole numbers of this depth, no profile."""
+    grey = colours == 1
+    return Info(size=c.sizeof(Info), width=width, height=height, colours=colours, bits=bits, space=1 if grey else 0,
+                white=1, primaries=1, transfer=13, intent=1)
+
+
+def encode(it, parts, extra=(), icc=b"", effort=USUAL):
+    """A file of a picture: what `info` says of it, the samples of each channel, and its extra channels as `channels`
+    describes them."""
+    samples, place, count = _samples_of(parts)
+    list_of = (Channel * len(extra))(*extra)
+    why, needed, size = c.create_string_buffer(_MESSAGE), _size(), 2 * count + 1000
+    while True:
+        file = c.create_string_buffer(size)
+        status = _so.jxl_lossless_encode(it, list_of, len(extra), place, count, icc, len(icc), effort, file, size, needed, why, len(why))
+        if status != _NO_ROOM:
+            break
+        size = needed.value
+    _raise_unless_done(status, why)
+    return file.raw[: needed.value]
+
+
 def main():
     with open(sys.argv[1], "rb") as file:
         content = file.read()
     it = info(content)
     print(" ".join("%s=%d" % (name, getattr(it, name)) for name, _ in Info._fields_))
-    for channel in channels(content):
+    found = channels(content)
+    for channel in found:
         print(" ".join("%s=%d" % (name, getattr(channel, name)) for name, _ in Channel._fields_))
+    if len(sys.argv) > 2:
+        made = encode(it, decode(content)[0], found[it.colours :], profile(content))
+        with open(sys.argv[2], "wb") as file:
+            file.write(made)
 
 
 if __name__ == "__main__":

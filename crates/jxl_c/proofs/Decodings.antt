@@ -1,6 +1,7 @@
 -- The picture that a file was decoded to.
-use Rattle.std.proofs.Common.{◌≡◌, ◌≢◌, ℕ, ℤ, List, length, Option, true, false, sym, ap, ◌∙◌, subst}
+use Rattle.std.proofs.Common.{◌≡◌, ◌≢◌, ◌*◌, ℕ, ℤ, List, length, Option, true, false, sym, ap, ◌∙◌, subst}
 use Rattle.std.specs.List.{All}
+use Rattle.std.proofs.Math.Nat.{mul_assoc, mul_comm}
 use Rattle.jxlm_base.specs.Grid.{Grid, IsFull}
 use Rattle.jxl_image_header.specs.Images.{Image, image_of}
 use Rattle.jxl_lossless.specs.Files.{header_of, profile_of, upright}
@@ -10,22 +11,24 @@ use Rattle.jxl_picture.specs.Pictures.{IsWhole}
 use Rattle.jxl_picture.specs.declared.picture.Picture.{Picture}
 use Rattle.jxl_image_header.specs.declared.image.ImageHeader.{ImageHeader}
 use Rattle.jxl_picture.specs.Limits.{channel_count}
-use Rattle.jxl_c.specs.Channels.{AreChannelsOfFile, channels_of, sample_count}
-use Rattle.jxl_c.specs.Decoded.{AreSamplesOfFile, HasPicture, cells_of_all}
+use Rattle.jxl_c.specs.Channels.{AreChannelsOfFile}
+use Rattle.jxl_c.specs.Decoded.{AreSamplesOfFile, HasPicture}
 use Rattle.jxl_c.specs.Headers.{HasOther, profile_bytes}
 use Rattle.jxl_c.specs.Infos.{IsInfoOf, IsInfoOfFile}
 use Rattle.jxl_c.specs.Kinds.{limits_of}
 use Rattle.jxl_c.specs.Opened.{IsOpen, image_shown}
-use Rattle.jxl_interleave.specs.Pixels.{interleaved, pixels_len}
+use Rattle.jxl_interleave.specs.Pixels.{interleaved, number_len, pixels_len}
 use Rattle.jxl_interleave.specs.declared.depth.Depth.{Depth}
-use Rattle.jxl_netpbm.specs.Formats.{suits}
+use Rattle.jxl_netpbm.specs.Formats.{suits, tuple_count}
 use Rattle.jxl_netpbm.specs.declared.format.Format.TheVariants.{Pam}
-use Rattle.jxl_c.specs.Pixels.{ArePixelsOfFile, HasOtherPixels, HasUnsuited}
+use Rattle.jxl_c.specs.Pixels.{ArePixelsOfFile, HasOtherPixels, HasUnsuited, bytes_by}
 use Rattle.jxl_c.specs.Profiles.{IsProfileOfFile}
-use Rattle.jxl_c.specs.declared.channels.CChannel.{CChannel}
-use Rattle.jxl_c.specs.declared.info.CInfo.{CInfo}
+use Rattle.jxl_c_picture.specs.declared.channels.CChannel.{CChannel}
+use Rattle.jxl_c_picture.specs.declared.info.CInfo.{CInfo}
 use Rattle.jxl_c.specs.declared.limits.CLimits.{CLimits}
-use Rattle.jxl_c.proofs.Counts.{cells_counted}
+use Rattle.jxl_c_picture.specs.Cells.{cells_of_all}
+use Rattle.jxl_c_picture.specs.Channels.{channels_of, sample_count}
+use Rattle.jxl_c_picture.proofs.Counts.{cells_counted}
 use Rattle.jxl_c.proofs.Openings.{has_headers, one_header}
 
 module _ (limits : CLimits) (file : List ℕ) (read : JxlFile) (opened : IsOpen limits file read) where
@@ -49,6 +52,17 @@ module _ (limits : CLimits) (file : List ℕ) (read : JxlFile) (opened : IsOpen 
   -- the count that the headers say is the right one
   pub right_count : (info : CInfo) → IsInfoOfFile limits file info → (n : ℕ) → n ≡ info.samples → n ≡ sample_count (image_shown read)
   right_count info of n e = e ∙ of.is.samples ∙ ap (λ (image : Image). sample_count (upright image)) (one_header limits file read opened of.has)
+
+  -- as many bytes as the info says are room for the pixels
+  pub right_bytes : (depth : Depth) (p : Picture) (info : CInfo) (size : ℕ) → image_of p.header ≡ image_shown read → IsInfoOfFile limits file info → size ≡ bytes_by depth info → size ≡ pixels_len depth (image_of p.header)
+  right_bytes depth p info size header of same =
+      let image : Image = upright of.has.front.image in
+      let n = number_len depth in
+      let sides : info.width * info.height ≡ image.size.height * image.size.width =
+      ap (λ (k : ℕ). k * info.height) of.is.width ∙ ap (λ (k : ℕ). image.size.width * k) of.is.height ∙ mul_comm image.size.width image.size.height in
+      same ∙ ap (λ (k : ℕ). k * info.interleaved * n) sides ∙ ap (λ (k : ℕ). image.size.height * image.size.width * k * n) of.is.interleaved
+      ∙ mul_assoc (image.size.height * image.size.width) (tuple_count image) n ∙ ap (λ (i : Image). pixels_len depth (upright i)) (one_header limits file read opened of.has)
+      ∙ ap (pixels_len depth) (sym header)
 
   -- what a call tells of the headers
   pub channels_by : (header : ImageHeader) (channels : List CChannel) → header ≡ header_of read → channels ≡ channels_of (upright (image_of header)) → AreChannelsOfFile limits file channels

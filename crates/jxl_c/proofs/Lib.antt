@@ -1,5 +1,5 @@
 mod Alphas
 mod CellSteps
-mod Counts
 mod Openings
 mod Decodings
+mod Encodings

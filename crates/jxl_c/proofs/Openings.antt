@@ -25,13 +25,13 @@ use Rattle.jxl_lossless.specs.declared.file.JxlFile.{JxlFile}
 use Rattle.jxl_lossless.proofs.FilePictures.{refusal_read}
 use Rattle.jxl_picture.specs.Limits.{Allow, channel_count}
 use Rattle.jxl_picture.specs.declared.limits.Limits.{Limits}
-use Rattle.jxl_c.specs.Channels.{sample_count}
+use Rattle.jxl_c_picture.specs.Channels.{sample_count}
 use Rattle.jxl_c.specs.Headers.{FailsBy, HasHeaders}
 use Rattle.jxl_c.specs.Kinds.{is_small_limits, limits_of}
 use Rattle.jxl_c.specs.Opened.{IsOpen}
 use Rattle.jxl_c.specs.Statuses.{status_of}
 use Rattle.jxl_c.specs.declared.limits.CLimits.{CLimits}
-use Rattle.jxl_c.proofs.Counts.{samples_less}
+use Rattle.jxl_c_picture.proofs.Counts.{samples_less}
 
 -- the profile that was read with the frames
 profile_with : {D : Type 0} (d : Meaning D) (limits : Limits) (bytes : List ℕ) (image : Image) (profile : Option (Vec ℕ)) (frames : Result Frames FrontError) →

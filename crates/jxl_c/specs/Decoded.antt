@@ -1,17 +1,14 @@
 -- What a call has decoded.
 use Rattle.std.specs.Prelude.{◌≡◌, ◌≤◌, ℕ, ℤ, List}
-use Rattle.std.specs.List.{All, flat_map}
-use Rattle.jxlm_base.specs.Grid.{Grid, IsFull}
+use Rattle.std.specs.List.{All}
+use Rattle.jxlm_base.specs.Grid.{IsFull}
 use Rattle.jxl_image_header.specs.Images.{image_of}
 use Rattle.jxl_picture.specs.Pictures.{IsWhole}
 use Rattle.jxl_picture.specs.declared.picture.Picture.{Picture}
 use Rattle.jxl_lossless.specs.Pictures.{IsPictureOfFile}
+use Rattle.jxl_c_picture.specs.Cells.{cells_of_all}
 use Rattle.jxl_c.specs.Kinds.{limits_of}
 use Rattle.jxl_c.specs.declared.limits.CLimits.{CLimits}
-
--- the samples of all channels: one channel after another, each row by row
-abbrev pub cells_of_all : List (Grid ℤ) → List ℤ
-cells_of_all channels = flat_map (λ g. g.cells) channels
 
 -- The file has a picture, each of whose channels has all its samples, and which took this number of steps in trees.
 pub record HasPicture (limits : CLimits) (file : List ℕ) : Type 0 where

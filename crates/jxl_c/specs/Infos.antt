@@ -4,10 +4,10 @@ use Rattle.jxl_image_header.specs.Images.{Image}
 use Rattle.jxl_image_header.specs.declared.channel.ExtraChannel.{ExtraChannel}
 use Rattle.jxl_netpbm.specs.Formats.{tuple_count}
 use Rattle.jxl_picture.specs.Pictures.{colour_count, is_full_alpha}
-use Rattle.jxl_c.specs.Channels.{sample_count}
+use Rattle.jxl_c_picture.specs.Channels.{sample_count}
 use Rattle.jxl_c.specs.Headers.{HasHeaders, profile_bytes, shown_image}
-use Rattle.jxl_c.specs.Numbers.{gamma_of, intent_number, primaries_number, space_number, transfer_number, white_number}
-use Rattle.jxl_c.specs.declared.info.CInfo.{CInfo}
+use Rattle.jxl_c_picture.specs.Numbers.{gamma_of, intent_number, primaries_number, space_number, transfer_number, white_number}
+use Rattle.jxl_c_picture.specs.declared.info.CInfo.{CInfo}
 use Rattle.jxl_c.specs.declared.limits.CLimits.{CLimits}
 
 -- the number of the first alpha channel of the picture's size among extra channels after this number of others, or 0

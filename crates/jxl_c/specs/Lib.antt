@@ -2,10 +2,10 @@ pub mod Statuses
 pub mod Kinds
 pub mod Messages
 pub mod Headers
-pub mod Numbers
 pub mod Channels
 pub mod Opened
 pub mod Infos
 pub mod Profiles
 pub mod Decoded
 pub mod Pixels
+pub mod Encoded

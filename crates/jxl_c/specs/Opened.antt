@@ -4,7 +4,7 @@ use Rattle.jxl_image_header.specs.Images.{Image, image_of}
 use Rattle.jxl_lossless.specs.Files.{IsReadOf, header_of, reason_of, upright}
 use Rattle.jxl_lossless.specs.declared.file.JxlFile.{JxlFile}
 use Rattle.jxl_picture.specs.Limits.{channel_count}
-use Rattle.jxl_c.specs.Channels.{sample_count}
+use Rattle.jxl_c_picture.specs.Channels.{sample_count}
 use Rattle.jxl_c.specs.Kinds.{limits_of}
 use Rattle.jxl_c.specs.declared.limits.CLimits.{CLimits}
 

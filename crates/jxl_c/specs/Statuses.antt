@@ -1,5 +1,6 @@
 -- The numbers by which a call says how it ended: 0, done; 1, no JPEG XL file; 2, against the standard; 3, truncated; 4, not
--- supported; 5, above the limits; 6, out of memory; 7, an array of another size; 8, a struct that is too small.
+-- supported; 5, above the limits; 6, out of memory; 7, an array of another size; 8, a struct that is too small; 9, no
+-- room for the file; 10, a picture that no file holds.
 use Rattle.std.specs.Prelude.{ℕ}
 use Rattle.jxl_container.specs.declared.error.FileError.{FileError as BoxError}
 use Rattle.jxl_container.specs.declared.error.FileError.TheVariants as boxes

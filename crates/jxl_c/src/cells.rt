@@ -3,7 +3,7 @@
 ghost use Rattle.std.specs.Prelude.{◌≡◌, length};
 ghost use Rattle.std.specs.List.{All};
 ghost use Rattle.jxlm_base.specs.Grid.{IsFull};
-ghost use Rattle.jxl_c.specs.Decoded.{cells_of_all};
+ghost use Rattle.jxl_c_picture.specs.Cells.{cells_of_all};
 
 use jxlm_base::grid::AlignedGrid;
 

@@ -1,12 +1,12 @@
 //! A file is decoded into samples of the caller's.
 
 ghost use Rattle.std.specs.Prelude.{◌≡◌, ◌≢◌, [], length};
-ghost use Rattle.jxl_c.specs.Channels.{sample_count as the_sample_count};
+ghost use Rattle.jxl_c_picture.specs.Channels.{sample_count as the_sample_count};
 ghost use Rattle.jxl_c.specs.Decoded.{AreSamplesOfFile};
 ghost use Rattle.jxl_c.specs.Headers.{FailsBy, HasOther};
 ghost use Rattle.jxl_c.specs.Infos.{IsInfoOfFile};
 ghost use Rattle.jxl_c.specs.Messages.{IsMessage, with_message};
-ghost use Rattle.jxl_c.specs.declared.info.CInfo.{CInfo as TheInfo};
+ghost use Rattle.jxl_c_picture.specs.declared.info.CInfo.{CInfo as TheInfo};
 
 use crate::cells::{all_are_full, move_cells};
 use crate::channels::sample_count;

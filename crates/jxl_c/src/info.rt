@@ -4,7 +4,7 @@ ghost use Rattle.std.specs.Prelude.{◌≡◌, ◌≢◌, ◌+◌, ◌^◌, ◌<
 ghost use Rattle.jxl_image_header.specs.Images.{image_of};
 ghost use Rattle.jxl_lossless.specs.Files.{upright};
 ghost use Rattle.jxl_picture.specs.Limits.{channel_count as the_channel_count};
-ghost use Rattle.jxl_c.specs.Channels.{sample_count as the_sample_count};
+ghost use Rattle.jxl_c_picture.specs.Channels.{sample_count as the_sample_count};
 ghost use Rattle.jxl_c.specs.Infos.{IsInfoOf, IsInfoOfFile, alpha_among};
 ghost use Rattle.jxl_c.specs.Headers.{FailsBy};
 ghost use Rattle.jxl_c.specs.Messages.{IsMessage, with_message};
@@ -12,51 +12,17 @@ ghost use Rattle.jxl_c.specs.Messages.{IsMessage, with_message};
 use crate::channels::{sample_count, shown_size};
 use crate::limits::CLimits;
 use crate::message::put_message;
-use crate::numbers::{
-    gamma_of, intent_number, primaries_number, space_number, transfer_number, white_number,
-};
 use crate::open::{SMALL_STRUCT, icc_of, open};
 use crate::status::{DONE, WRONG_STRUCT};
+use jxl_c_picture::info::{CInfo, INFO_SIZE};
+use jxl_c_picture::numbers::{
+    gamma_of, intent_number, primaries_number, space_number, transfer_number, white_number,
+};
 use jxl_image_header::channel::ExtraChannel;
 use jxl_image_header::image::ImageHeader;
 use jxl_interleave::pixels::interleaved_count;
 use jxl_picture::picture::{colours, is_full_alpha};
 use std::alloc::Global;
-
-/// What the headers say.
-#[repr(C)]
-#[derive(Clone, Copy)]
-pub struct CInfo {
-    /// How many bytes this struct has, as the caller knows it.
-    pub size: u64,
-    /// The sides of the picture as it is shown.
-    pub width: u32,
-    pub height: u32,
-    /// How many channels there are of colours, and how many extra ones.
-    pub colours: u32,
-    pub extra: u32,
-    /// How many bits a sample of colours has, and how many of these are a float's exponent.
-    pub bits: u32,
-    pub exponent_bits: u32,
-    /// The number of the first alpha channel that is as large as the picture, or 0.
-    pub alpha: u32,
-    /// What colours mean, by the numbers of the header.
-    pub space: u32,
-    pub white: u32,
-    pub primaries: u32,
-    pub transfer: u32,
-    pub gamma: u32,
-    pub intent: u32,
-    /// How many numbers a pixel has.
-    pub interleaved: u32,
-    /// How many bytes the profile has, or 0.
-    pub profile: u64,
-    /// How many samples all channels have together.
-    pub samples: u64,
-}
-
-/// How many bytes the struct has here.
-const INFO_SIZE: u64 = 80;
 
 // The number among all channels of the first alpha channel that is as large as the picture, or 0.
 fn alpha_number(colours: usize, extra: &[ExtraChannel]) -> usize

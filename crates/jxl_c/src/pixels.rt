@@ -8,7 +8,9 @@ ghost use Rattle.jxl_picture.specs.Pictures.{IsWhole};
 ghost use Rattle.jxl_interleave.specs.Pixels.{interleaved, pixels_len as the_pixels_len};
 ghost use Rattle.jxl_interleave.specs.declared.depth.Depth.TheVariants.{Eight, Sixteen};
 ghost use Rattle.jxl_c.specs.Messages.{IsMessage, with_message};
-ghost use Rattle.jxl_c.specs.Pixels.{ArePixelsOfFile, HasOtherPixels, PixelsFailBy};
+ghost use Rattle.jxl_c.specs.Pixels.{ArePixelsOfFile, HasOtherPixels, PixelsFailBy, bytes_by};
+ghost use Rattle.jxl_c.specs.Infos.{IsInfoOfFile};
+ghost use Rattle.jxl_c_picture.specs.declared.info.CInfo.{CInfo as TheInfo};
 
 use crate::cells::all_are_full;
 use crate::limits::CLimits;
@@ -65,6 +67,8 @@ fn decode_pixels(
     ensures kept { result ≢ 0 → pixels.new ≡ pixels.old }
     ensures message { IsMessage message.old message.new }
     ensures count { result ≡ 7 → HasOtherPixels depth limits.now file.now (length pixels.old) }
+    ensures enough { (info : TheInfo) → IsInfoOfFile limits.now file.now info → length pixels.old ≡ bytes_by depth info
+        → result ≢ 7 }
     ensures fails { result ≢ 0 → result ≢ 7 → PixelsFailBy limits.now file.now result }
 {
     let read = match open(alloc, file, limits, message) {
@@ -82,7 +86,8 @@ fn decode_pixels(
 }
 
 /// Decodes a file: with status 0 `pixels` holds its picture, row by row, with numbers of 8 bits. With any other status
-/// these are as they were, and `message` says why.
+/// these are as they were, and `message` says why. With as many bytes as `jxl_lossless_read_info` says, the status is
+/// never 7.
 #[unsafe(no_mangle)]
 pub extern "C" fn jxl_lossless_decode_8(
     alloc: Global,
@@ -96,6 +101,8 @@ pub extern "C" fn jxl_lossless_decode_8(
     ensures kept { result ≢ 0 → pixels.new ≡ pixels.old }
     ensures message { IsMessage message.old message.new }
     ensures count { result ≡ 7 → HasOtherPixels Eight limits.now file.now (length pixels.old) }
+    ensures enough { (info : TheInfo) → IsInfoOfFile limits.now file.now info → length pixels.old ≡ bytes_by Eight info
+        → result ≢ 7 }
     ensures fails { result ≢ 0 → result ≢ 7 → PixelsFailBy limits.now file.now result }
 {
     decode_pixels(alloc, file, limits, Depth::Eight, pixels, message)
@@ -115,6 +122,8 @@ pub extern "C" fn jxl_lossless_decode_16(
     ensures kept { result ≢ 0 → pixels.new ≡ pixels.old }
     ensures message { IsMessage message.old message.new }
     ensures count { result ≡ 7 → HasOtherPixels Sixteen limits.now file.now (length pixels.old) }
+    ensures enough { (info : TheInfo) → IsInfoOfFile limits.now file.now info
+        → length pixels.old ≡ bytes_by Sixteen info → result ≢ 7 }
     ensures fails { result ≢ 0 → result ≢ 7 → PixelsFailBy limits.now file.now result }
 {
     decode_pixels(alloc, file, limits, Depth::Sixteen, pixels, message)

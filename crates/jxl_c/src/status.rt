@@ -30,6 +30,10 @@ pub const WRONG_COUNT: u32 = 7;
 
 pub const WRONG_STRUCT: u32 = 8;
 
+pub const NO_ROOM: u32 = 9;
+
+pub const NOT_CODABLE: u32 = 10;
+
 fn of_box(error: BoxError) -> u32
     ensures gives { result ≡ status_of_box error }
     ensures some { 1 ≤ result }

@@ -2,7 +2,7 @@ use Rattle.std.proofs.Common.{◌≡◌, suc, ◌+◌, ◌<◌, ◌≤◌, ℤ, 
 use Rattle.std.specs.List.{All}
 use Rattle.std.proofs.lemmas.List.{take_all}
 use Rattle.jxlm_base.specs.Grid.{Grid, IsFull}
-use Rattle.jxl_c.proofs.Counts.{full_more}
+use Rattle.jxl_c_picture.proofs.Counts.{full_more}
 use Rattle.jxl_c.proofs.cells.all_are_full.Goals as goal
 
 pub loop-channel-preserved : goal.loop-channel-preserved

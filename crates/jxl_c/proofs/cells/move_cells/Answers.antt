@@ -1,5 +1,5 @@
 use Rattle.std.proofs.Common.{length, ap, ◌∙◌, ◌++◌, sym, arith, List, ℤ}
-use Rattle.jxl_c.specs.Decoded.{cells_of_all}
+use Rattle.jxl_c_picture.specs.Cells.{cells_of_all}
 use Rattle.jxl_c.proofs.CellSteps.{moved_more}
 use Rattle.jxl_c.proofs.cells.move_cells.Goals as goal
 

@@ -1,6 +1,6 @@
 -- The cells of the channels so far stand there, and there is room for exactly those of the others.
 use Rattle.std.proofs.Common.{◌≡◌, ◌+◌, ◌++◌, length, take}
-use Rattle.jxl_c.specs.Decoded.{cells_of_all}
+use Rattle.jxl_c_picture.specs.Cells.{cells_of_all}
 use Rattle.jxl_c.proofs.cells.move_cells.Given as goal
 
 abbrev pub invariant-loop-channel : goal.invariant-loop-channel

@@ -1,4 +1,7 @@
-use Rattle.std.proofs.Common.{length, arith}
+use Rattle.std.proofs.Common.{ap, ◌∙◌, length, arith}
+use Rattle.jxl_image_header.specs.Images.{image_of}
+use Rattle.jxl_image_header.specs.declared.size.Size.{Size}
+use Rattle.jxl_c_picture.specs.Channels.{channels_of, shown_as}
 use Rattle.jxl_c.proofs.Decodings.{channels_by, other_channels}
 use Rattle.jxl_c.proofs.channels.jxl_lossless_channels.Goals as goal
 
@@ -9,4 +12,5 @@ returns-then-channels-channel_count-clause-count c = λ _.
 
 pub returns-clause-done : goal.returns-clause-done
 returns-clause-done c = λ _.
-    channels_by c.args.limits.now c.args.file.now c.in-Ok.read c.in-Ok.ensures.ok c.header-header.result.now c.put_channels.new.channels c.header-header.ensures c.put_channels.ensures
+    channels_by c.args.limits.now c.args.file.now c.in-Ok.read c.in-Ok.ensures.ok c.header-header.result.now c.put_channels.new.channels c.header-header.ensures
+    (c.put_channels.ensures ∙ ap (λ (s : Size). channels_of (shown_as s (image_of c.header-header.result.now))) c.shown_size.ensures)

@@ -1,24 +1,11 @@
-use Rattle.std.proofs.Common.{arith}
-use Rattle.jxl_image_header.specs.Images.{Image, image_of}
-use Rattle.jxl_lossless.specs.Files.{upright}
-use Rattle.jxl_c.specs.Channels.{cell_count, entries_of}
-use Rattle.jxl_c.proofs.Counts.{entry_count, sum_done, sum_next}
+use Rattle.std.proofs.Common.{◌^◌, ◌<◌, ap, ◌∙◌, sym, subst}
+use Rattle.jxl_image_header.specs.Images.{image_of}
+use Rattle.jxl_image_header.specs.declared.size.Size.{Size}
+use Rattle.jxl_c_picture.specs.Channels.{sample_count, shown_as}
 use Rattle.jxl_c.proofs.channels.sample_count.Goals as goal
 
-pub overflow_add-count : goal.overflow_add-count
-overflow_add-count c =
-    let image : Image = upright (image_of c.args.header.now) in
-    let next = sum_next cell_count (entries_of image) c.loop-k.k c.channel_at-channel.result (omega (arith, entry_count image, c.loop-k-test.true, c.channel_count-channels.ensures)) c.channel_at-channel.ensures in
-    omega (arith, next, c.loop-k.invariant, c.cells_in-count.ensures, c.requires.small)
-
-pub loop-k-preserved : goal.loop-k-preserved
-loop-k-preserved c =
-    let image : Image = upright (image_of c.args.header.now) in
-    let next = sum_next cell_count (entries_of image) c.loop-k.k c.channel_at-channel.result (omega (arith, entry_count image, c.loop-k-test.true, c.channel_count-channels.ensures)) c.channel_at-channel.ensures in
-    omega (arith, next, c.loop-k.invariant, c.cells_in-count.ensures)
+pub sample_count-requires-clause-small : goal.sample_count-requires-clause-small
+sample_count-requires-clause-small c = subst (λ (s : Size). sample_count (shown_as s (image_of c.args.header.now)) < 2 ^ 64) (sym c.shown_size.ensures) c.requires.small
 
 pub returns : goal.returns
-returns c =
-    let image : Image = upright (image_of c.args.header.now) in
-    let done = sum_done cell_count (entries_of image) c.loop-k.k (omega (arith, entry_count image, c.loop-k-test.false, c.channel_count-channels.ensures)) in
-    omega (arith, done, c.loop-k.invariant)
+returns c = c.sample_count.ensures ∙ ap (λ (s : Size). sample_count (shown_as s (image_of c.args.header.now))) c.shown_size.ensures

@@ -2,7 +2,7 @@ use Rattle.std.proofs.Common.{length, ap, ◌∙◌, arith}
 use Rattle.jxl_image_header.specs.Images.{image_of}
 use Rattle.jxl_image_header.specs.declared.image.ImageHeader.{ImageHeader}
 use Rattle.jxl_lossless.specs.Files.{upright}
-use Rattle.jxl_c.specs.Channels.{sample_count}
+use Rattle.jxl_c_picture.specs.Channels.{sample_count}
 use Rattle.jxl_c.specs.Kinds.{limits_of}
 use Rattle.jxl_c.proofs.Decodings.{never_other, other_samples, samples_by, samples_fit}
 use Rattle.jxl_c.proofs.decode.jxl_lossless_decode.Goals as goal

@@ -17,9 +17,9 @@ use Rattle.jxl_image_header.specs.declared.size.Size.{Size}
 use Rattle.jxl_picture.specs.Limits.{channel_count}
 use Rattle.jxl_picture.specs.Pictures.{IsWhole, colour_count}
 use Rattle.jxl_picture.proofs.Channels.{HasShift}
-use Rattle.jxl_c.specs.Channels.{cell_count, colour_entry, entries_of, extra_entry, placed, sample_count}
-use Rattle.jxl_c.specs.Decoded.{cells_of_all}
-use Rattle.jxl_c.specs.declared.channels.CChannel.{CChannel}
+use Rattle.jxl_c_picture.specs.Channels.{cell_count, colour_entry, entries_of, extra_entry, placed, sample_count}
+use Rattle.jxl_c_picture.specs.Cells.{cells_of_all}
+use Rattle.jxl_c_picture.specs.declared.channels.CChannel.{CChannel}
 
 -- one more full channel
 pub full_more : (channels : List (Grid ℤ)) (i : ℕ) (g : Grid ℤ) → i < length channels → g ≡ get_or channels i g → IsFull g → All IsFull (take i channels) → All IsFull (take (suc i) channels)
@@ -138,7 +138,7 @@ samples_less image =
     subst (λ (n : ℕ). sample_count image ≤ n * b) (entry_count image) p
 
 -- a channel has the sides of its entry
-abbrev HasEntry : CChannel → Grid ℤ → Type 0
+abbrev pub HasEntry : CChannel → Grid ℤ → Type 0
 HasEntry e g = (g.width ≡ e.width) × (g.height ≡ e.height)
 
 to_extra : (size : Size) (cs : List ExtraChannel) (gs : List (Grid ℤ)) → AllZip (HasShift size) (map (λ (c : ExtraChannel). c.dim_shift) cs) gs → AllZip HasEntry (map (extra_entry size) cs) gs

@@ -1,7 +1,7 @@
 //! The numbers by which C knows what a header names.
 
 ghost use Rattle.std.specs.Prelude.{◌≡◌};
-ghost use Rattle.jxl_c.specs.Numbers.{gamma_of as the_gamma, intent_number as the_intent, kind_number as the_kind, primaries_number as the_primaries, space_number as the_space, transfer_number as the_transfer, white_number as the_white};
+ghost use Rattle.jxl_c_picture.specs.Numbers.{gamma_of as the_gamma, intent_number as the_intent, kind_number as the_kind, primaries_number as the_primaries, space_number as the_space, transfer_number as the_transfer, white_number as the_white};
 
 use jxl_image_header::channel::ExtraChannelKind;
 use jxl_image_header::colour::{

@@ -1,0 +1,6 @@
+pub mod Numbers
+pub mod Channels
+pub mod Meanings
+pub mod Described
+pub mod Cells
+pub mod Narrow
