@@ -1,15 +1,17 @@
 -- What a file that was read up to the sections of its frames says of its picture.
 use Rattle.std.proofs.Common.{◌≡◌, ap, if◌then◌else◌, ℕ, List, length, true, false, Bool, Option, Result, Ok, Err, Some, None, refl, sym, subst, ◌∙◌}
-use Rattle.std.specs.Prelude.{IfOk, MatchResult, string_bytes}
+use Rattle.std.specs.Prelude.{◌&&◌, IfOk, MatchResult, string_bytes}
+use Rattle.std.specs.Option.{option_map}
 use Rattle.jxl_coding.specs.Parse.{decoder_at}
 use Rattle.jxl_coding.specs.Tokens.{entropy}
 use Rattle.jxl_container.specs.Files.{HasLaterError, stream_of}
+use Rattle.jxl_container.specs.Metadata.{HasExif, HasXmp}
 use Rattle.jxl_container.specs.declared.error.FileError.{FileError as BoxError}
 use Rattle.jxl_image_header.specs.Images.{Image, image_of}
 use Rattle.jxl_image_header.specs.declared.image.ImageHeader.{ImageHeader}
 use Rattle.jxl_image_header.specs.declared.size.Size.{Size}
 use Rattle.jxl_codestream.specs.Fronts.{FrontFails}
-use Rattle.jxl_codestream.specs.FrontParts.{AreFramesOf}
+use Rattle.jxl_codestream.specs.FrontParts.{AreFramesOf, bytes_if}
 use Rattle.jxl_codestream.specs.declared.error.FrontError.{FrontError}
 use Rattle.jxl_codestream.specs.declared.error.FrontError.TheVariants as fronts
 use Rattle.jxl_codestream.specs.declared.front.Frames.{Frames}
@@ -19,15 +21,20 @@ use Rattle.jxl_lossless.specs.Files.{IsReadOf, error_of, header_of, later_error_
 use Rattle.jxl_lossless.specs.Pictures.{FileFails, IsPictureOfFile}
 use Rattle.jxl_lossless.specs.declared.error.FileError.TheVariants as files
 use Rattle.jxl_lossless.specs.declared.file.JxlFile.{JxlFile}
-use Rattle.jxl_netpbm.specs.Formats.{suits, text_of, usual_whole}
+use Rattle.jxl_netpbm.specs.Formats.{suits, usual, usual_whole}
 use Rattle.jxl_netpbm.specs.declared.format.Format.{Format}
 use Rattle.jxl_netpbm.specs.declared.format.Format.TheVariants.{Pgm, Ppm, Pam, Pfm, Text}
+use Rattle.jxl_picture.specs.Orientations.{is_turned}
 use Rattle.jxl_picture.specs.declared.limits.Limits.{Limits}
 use Rattle.jxl_picture.specs.declared.picture.Picture.{Picture}
+use Rattle.jxl_png_write.specs.Headers.{alpha_of, alpha_suits, is_side, is_whole, suits_png}
 use Rattle.jxldec.specs.Contents.{content_text}
-use Rattle.jxldec.specs.Texts.{HasNoFormat, IsAboveLimits, IsTextOfFile, chosen}
+use Rattle.jxldec.specs.Formats.{IsWrittenAs, chosen, is_profile_left_out, suits_output}
+use Rattle.jxldec.specs.Texts.{HasNoFormat, IsAboveLimits, IsTextOfFile}
 use Rattle.jxldec.specs.Warnings.{kinds_left_out}
 use Rattle.jxldec.specs.declared.failures.Failure.{Failure}
+use Rattle.jxldec.specs.declared.format.OutputFormat.{OutputFormat}
+use Rattle.jxldec.specs.declared.format.OutputFormat.TheVariants.{Netpbm, Png}
 use Rattle.jxldec.specs.declared.run.Output.{Output}
 
 module _ (limits : Limits) (bytes : List ℕ) (header : ImageHeader) where
@@ -51,7 +58,7 @@ module _ (limits : Limits) (file : List ℕ) (read : JxlFile) (is : IsReadOf lim
   }
 
   -- it is supported, and has no format
-  pub no_format : (asked : Option Format) → reason_of read ≡ None → chosen asked (image_of (header_of read)) ≡ None → HasNoFormat limits file asked
+  pub no_format : (asked : Option OutputFormat) → reason_of read ≡ None → chosen asked (image_of (header_of read)) ≡ None → HasNoFormat limits file asked
   no_format asked reason none = record {
     image = image_of (header_of read);
     headers = headers None (supported limits (stream_of read.stream) (header_of read) read.front.frames is.front.frames reason);
@@ -80,37 +87,56 @@ same_suits Pam image = refl
 same_suits Pfm image = refl
 same_suits Text image = refl
 
+swapped : (a b c : Bool) → (b && (a && c)) ≡ (a && (b && c))
+swapped true true c = refl
+swapped true false c = refl
+swapped false true c = refl
+swapped false false c = refl
+
+-- a PNG file holds the picture as it is shown, too: its sides are exchanged or not
+turned : (t : Bool) (image : Image) →
+    suits_png (record image { size = if t then record { width = image.size.height; height = image.size.width } else image.size; orientation = 1 }) ≡ suits_png image
+turned true image = swapped (is_side image.size.width) (is_side image.size.height) (is_whole 16 image.bit_depth && alpha_suits (alpha_of image.ec_info))
+turned false image = refl
+
+same_output : (format : OutputFormat) (image : Image) → suits_output format (upright image) ≡ suits_output format image
+same_output (Netpbm format) image = same_suits format image
+same_output Png image = turned (is_turned image.orientation) image
+
+same_usual : (image : Image) → usual (upright image) ≡ usual image
+same_usual image = ap (λ (b : Bool). if suits Pfm image then Some Pfm else if b then Some (usual_whole image) else None) (same_suits (usual_whole image) image)
+
 -- the format is that of the picture as it is shown, too
-pub same_choice : (asked : Option Format) (image : Image) → chosen asked (upright image) ≡ chosen asked image
-same_choice None image = ap (λ (b : Bool). if suits Pfm image then Some Pfm else if b then Some (usual_whole image) else None) (same_suits (usual_whole image) image)
-same_choice (Some Pgm) image = refl
-same_choice (Some Ppm) image = refl
-same_choice (Some Pam) image = refl
-same_choice (Some Pfm) image = refl
-same_choice (Some Text) image = refl
+pub same_choice : (asked : Option OutputFormat) (image : Image) → chosen asked (upright image) ≡ chosen asked image
+same_choice None image = ap (λ (o : Option Format). option_map (λ (f : Format). Netpbm f) o) (same_usual image)
+same_choice (Some format) image = ap (λ (b : Bool). if b then Some format else None) (same_output format image)
 
 -- so a format that was chosen for the file is that of its picture
-pub choice_kept : (asked : Option Format) (image shown : Image) (format : Format) → chosen asked image ≡ Some format → shown ≡ upright image → chosen asked shown ≡ Some format
+pub choice_kept : (asked : Option OutputFormat) (image shown : Image) (format : OutputFormat) → chosen asked image ≡ Some format → shown ≡ upright image → chosen asked shown ≡ Some format
 choice_kept asked image shown format e same = subst (λ (i : Image). chosen asked i ≡ Some format) (sym same) (same_choice asked image ∙ e)
 
--- what is written is the text of the file's picture
-pub text_of_file : (limits : Limits) (file : List ℕ) (asked : Option Format) (picture : Picture) (steps : ℕ) (format : Format) →
-    IsPictureOfFile limits file picture 0 steps → chosen asked (image_of picture.header) ≡ Some format → (result : Result Output Failure) →
-    IfOk result (λ o. content_text o.content ≡ text_of format (image_of picture.header) picture.channels.items) →
+-- what is written is the file's picture in the format
+pub text_of_file : (limits : Limits) (file : List ℕ) (asked : Option OutputFormat) (picture : Picture) (steps : ℕ) (format : OutputFormat) (exif xmp : Option (List ℕ)) →
+    IsPictureOfFile limits file picture 0 steps → HasExif file exif → HasXmp file xmp → chosen asked (image_of picture.header) ≡ Some format → (result : Result Output Failure) →
+    IfOk result (λ o. IsWrittenAs format (image_of picture.header) picture.channels.items (bytes_if picture.profile) exif xmp (content_text o.content)) →
     IfOk result (λ o. string_bytes o.left_out.channels ≡ kinds_left_out format (image_of picture.header).ec_info) →
-    IfOk result (λ o. o.left_out.profile ≡ (image_of picture.header).colour_encoding.want_icc) →
+    IfOk result (λ o. o.left_out.profile ≡ is_profile_left_out format (image_of picture.header)) →
     IfOk result (λ o. IsTextOfFile limits file asked (content_text o.content) (string_bytes o.left_out.channels) o.left_out.profile)
-text_of_file limits file asked picture steps format is suited (Ok o) written without plain = record {
+text_of_file limits file asked picture steps format exif xmp is has_exif has_xmp suited (Ok o) written without plain = record {
   picture = picture;
   steps = steps;
   is = is;
+  exif = exif;
+  exif_is = has_exif;
+  xmp = xmp;
+  xmp_is = has_xmp;
   format = format;
   suited = suited;
   written = written;
   without = without;
   plain = plain;
 }
-text_of_file limits file asked picture steps format is suited (Err e) written without plain = tt
+text_of_file limits file asked picture steps format exif xmp is has_exif has_xmp suited (Err e) written without plain = tt
 
 -- what is left out has the error of the boxes after the codestream
 pub later_kept : (limits : Limits) (file : List ℕ) (read : JxlFile) → IsReadOf limits file read → (error : Option BoxError) → error ≡ later_error_of read → (result : Result Output Failure) →

@@ -3,7 +3,6 @@ use Rattle.std.proofs.Common.{◌≡◌, ℕ, ◌++◌, List, [], Bool, true, fa
 use Rattle.std.specs.Io.KnownBytes.{Appends, Consumes, IsAtEnd}
 use Rattle.std.proofs.lemmas.List.{append-nil}
 use Rattle.jxl_netpbm.specs.Output.{AppendsBeginning}
-use Rattle.jxl_netpbm.specs.declared.format.Format.{Format}
 use Rattle.jxl_picture.specs.declared.limits.Limits.{Limits}
 use Rattle.jxl_command.specs.Streams.{IsKept, IsReadWhole}
 use Rattle.jxldec.specs.Failures.{IsOfSaving}
@@ -12,6 +11,7 @@ use Rattle.jxldec.specs.declared.failures.Failure.{Failure}
 use Rattle.jxldec.specs.declared.failures.Failure.TheVariants as failures
 use Rattle.jxldec.specs.declared.options.Task.{Task}
 use Rattle.jxldec.specs.declared.options.Task.TheVariants as tasks
+use Rattle.jxldec.specs.declared.format.OutputFormat.{OutputFormat}
 
 -- data that were found and kept are saved
 pub saved : (wanted : Bool) (Has : List ℕ → Type 0) (found held holds : Option (List ℕ)) (Flushed Stays : Type 0) →
@@ -23,7 +23,7 @@ saved false Has (Some bytes) held holds Flushed Stays is kept = let bad : ⊥ = 
 saved false Has None held holds Flushed Stays is kept = kept
 
 -- what is wrong with the data of a file is a failure, whatever is asked of it
-info_of_text : (limits : Limits) (file : List ℕ) (asked : Option Format) (failure : Failure) → InfoFails limits file failure → AskedFails tasks.Picture limits asked file failure
+info_of_text : (limits : Limits) (file : List ℕ) (asked : Option OutputFormat) (failure : Failure) → InfoFails limits file failure → AskedFails tasks.Picture limits asked file failure
 info_of_text limits file asked (failures.File e) h = h
 info_of_text limits file asked (failures.TooLarge size extra most) h = h
 info_of_text limits file asked (failures.Missing extra) h = h
@@ -35,7 +35,7 @@ info_of_text limits file asked (failures.Unwritable e) h = absurd h
 info_of_text limits file asked failures.Closed h = absurd h
 info_of_text limits file asked (failures.Unsaved extra e) h = absurd h
 
-pub info_so : (task : Task) (limits : Limits) (file : List ℕ) (asked : Option Format) (failure : Failure) → InfoFails limits file failure → AskedFails task limits asked file failure
+pub info_so : (task : Task) (limits : Limits) (file : List ℕ) (asked : Option OutputFormat) (failure : Failure) → InfoFails limits file failure → AskedFails task limits asked file failure
 info_so tasks.Headers limits file asked failure h = h
 info_so tasks.Picture limits file asked failure h = info_of_text limits file asked failure h
 info_so tasks.Nothing limits file asked failure h = h
@@ -45,7 +45,7 @@ pub whole_begins : (held holds : Option (List ℕ)) (text : List ℕ) → Append
 whole_begins held holds text appended = record { part = text; rest = []; appended = appended; whole = sym (append-nil text) }
 
 -- so where data beside the picture cannot be written, the output holds a beginning of its text
-pub saving_fails : (task : Task) (limits : Limits) (asked : Option Format) (left rest held holds : Option (List ℕ)) (failure : Failure) → IsOfSaving failure →
+pub saving_fails : (task : Task) (limits : Limits) (asked : Option OutputFormat) (left rest held holds : Option (List ℕ)) (failure : Failure) → IsOfSaving failure →
     IsReadWhole left rest (IsBegun task limits asked held holds) → InputFails task limits asked left rest held holds failure
 saving_fails task limits asked left rest held holds (failures.Unsaved extra e) of begun = begun
 saving_fails task limits asked left rest held holds (failures.File e) of begun = absurd of

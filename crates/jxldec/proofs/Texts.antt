@@ -5,7 +5,10 @@ use Rattle.jxl_image_header.specs.Images.{Image}
 use Rattle.jxl_netpbm.specs.Formats.{suits, usual, usual_whole}
 use Rattle.jxl_netpbm.specs.declared.format.Format.{Format}
 use Rattle.jxl_netpbm.specs.declared.format.Format.TheVariants.{Pfm}
-use Rattle.jxldec.specs.Texts.{chosen}
+use Rattle.std.specs.Option.{option_map}
+use Rattle.jxldec.specs.Formats.{chosen, suits_output}
+use Rattle.jxldec.specs.declared.format.OutputFormat.{OutputFormat}
+use Rattle.jxldec.specs.declared.format.OutputFormat.TheVariants.{Netpbm}
 
 if_some : {X : Type 0} (b : Bool) (x y : X) → (if b then Some x else None) ≡ Some y → (b ≡ true) × (x ≡ y)
 if_some true x y e = (refl, cc)
@@ -17,6 +20,10 @@ usual_suits image format e = by (suits Pfm image) refl e where
   by true is e = let same : Pfm ≡ format = cc in subst (λ g. suits g image ≡ true) same is
   by false is e = let p = if_some (suits (usual_whole image) image) (usual_whole image) format e in subst (λ g. suits g image ≡ true) p.1 p.0
 
-pub chosen_suits : (asked : Option Format) (image : Image) (format : Format) → chosen asked image ≡ Some format → suits format image ≡ true
-chosen_suits (Some f) image format e = let p = if_some (suits f image) f format e in subst (λ g. suits g image ≡ true) p.1 p.0
-chosen_suits None image format e = usual_suits image format e
+usual_output : (image : Image) (o : Option Format) (format : OutputFormat) → usual image ≡ o → option_map (λ (f : Format). Netpbm f) o ≡ Some format → suits_output format image ≡ true
+usual_output image (Some f) format e same = let at : Netpbm f ≡ format = cc in subst (λ g. suits_output g image ≡ true) at (usual_suits image f e)
+usual_output image None format e same = let bad : ⊥ = cc in absurd bad
+
+pub chosen_suits : (asked : Option OutputFormat) (image : Image) (format : OutputFormat) → chosen asked image ≡ Some format → suits_output format image ≡ true
+chosen_suits (Some f) image format e = let p = if_some (suits_output f image) f format e in subst (λ g. suits_output g image ≡ true) p.1 p.0
+chosen_suits None image format e = usual_output image (usual image) format refl e

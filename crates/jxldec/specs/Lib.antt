@@ -1,5 +1,6 @@
 pub mod Causes
 pub mod Failures
+pub mod Formats
 pub mod Inner
 pub mod Options
 pub mod Reasons

@@ -5,22 +5,29 @@ use Rattle.std.specs.Char.{to_ascii_lowercase}
 use Rattle.jxl_netpbm.specs.declared.format.Format.{Format}
 use Rattle.jxl_netpbm.specs.declared.format.Format.TheVariants as formats
 use Rattle.jxl_picture.specs.declared.limits.Limits.{Limits}
+use Rattle.jxldec.specs.declared.format.OutputFormat.{OutputFormat}
+use Rattle.jxldec.specs.declared.format.OutputFormat.TheVariants.{Netpbm, Png}
 
 -- the word is a name of a format, which is an ending of its files, too: PNM is PGM for grey and PPM for red, green and blue
-abbrev pub IsName : List ℕ → Format → Type 0
-IsName word formats.Pgm = word ≡ codes "pgm"
-IsName word formats.Ppm = (word ≡ codes "ppm") ⊎ (word ≡ codes "pnm")
-IsName word formats.Pam = word ≡ codes "pam"
-IsName word formats.Pfm = word ≡ codes "pfm"
-IsName word formats.Text = word ≡ codes "text"
+abbrev pub IsName : List ℕ → OutputFormat → Type 0
+IsName word (Netpbm formats.Pgm) = word ≡ codes "pgm"
+IsName word (Netpbm formats.Ppm) = (word ≡ codes "ppm") ⊎ (word ≡ codes "pnm")
+IsName word (Netpbm formats.Pam) = word ≡ codes "pam"
+IsName word (Netpbm formats.Pfm) = word ≡ codes "pfm"
+IsName word (Netpbm formats.Text) = word ≡ codes "text"
+IsName word Png = word ≡ codes "png"
 
 -- the text is a name of a format, in letters of either case
-abbrev pub IsWordOf : List ℕ → Format → Type 0
+abbrev pub IsWordOf : List ℕ → OutputFormat → Type 0
 IsWordOf text format = IsName (map to_ascii_lowercase text) format
 
 -- it is the name of none
 abbrev pub IsNoFormat : List ℕ → Type 0
-IsNoFormat text = (format : Format) → ¬ (IsWordOf text format)
+IsNoFormat text = (format : OutputFormat) → ¬ (IsWordOf text format)
+
+-- it is the name of no netpbm format
+abbrev pub IsNoNetpbm : List ℕ → Type 0
+IsNoNetpbm text = (format : Format) → ¬ (IsWordOf text (Netpbm format))
 
 -- how large a picture may be, where these numbers of pixels, of bytes of samples and of decisions for a sample are asked for: of
 -- what is not asked for, as much as by default

@@ -1,6 +1,7 @@
 -- What the program writes of a file: its picture, or what its headers tell.
 use Rattle.std.specs.Prelude.{◌≡◌, ℕ, List, [], length, Bool, true, false, not, ◌&&◌, MatchBool, Option, Some, None, if◌then◌else◌}
 use Rattle.std.specs.Io.KnownBytes.{Appends, Consumes, IsAtEnd}
+use Rattle.jxl_codestream.specs.FrontParts.{bytes_if}
 use Rattle.jxl_coding.specs.Parse.{decoder_at}
 use Rattle.jxl_coding.specs.Tokens.{entropy}
 use Rattle.jxl_container.specs.Files.{HasLaterError}
@@ -10,9 +11,7 @@ use Rattle.jxl_command.specs.Streams.{IsReadWhole}
 use Rattle.jxl_command.specs.declared.extra.Extra.{Extra}
 use Rattle.jxl_command.specs.declared.extra.Extra.TheVariants as extras
 use Rattle.jxl_image_header.specs.Images.{Image, image_of}
-use Rattle.jxl_netpbm.specs.Formats.{suits, text_of, usual}
 use Rattle.jxl_netpbm.specs.Output.{AppendsBeginning}
-use Rattle.jxl_netpbm.specs.declared.format.Format.{Format}
 use Rattle.jxl_picture.specs.declared.limits.Limits.{Limits}
 use Rattle.jxl_picture.specs.declared.picture.Picture.{Picture}
 use Rattle.jxl_info.specs.Headers.{HeadersOfFile, IsInfoOfFile}
@@ -20,31 +19,33 @@ use Rattle.jxl_lossless.specs.Pictures.{FileFails, IsPictureOfFile, ProfileOfFil
 use Rattle.jxl_codestream.specs.declared.error.FrontError.TheVariants as fronts
 use Rattle.jxl_image_header.specs.declared.size.Size.{Size}
 use Rattle.jxldec.specs.Failures.{failure_line, is_of_output, subject}
+use Rattle.jxldec.specs.Formats.{IsWrittenAs, chosen, is_profile_left_out}
 use Rattle.jxldec.specs.Warnings.{kinds_left_out, warnings}
 use Rattle.jxldec.specs.declared.failures.Failure.{Failure}
 use Rattle.jxldec.specs.declared.failures.Failure.TheVariants as failures
+use Rattle.jxldec.specs.declared.format.OutputFormat.{OutputFormat}
 use Rattle.jxldec.specs.declared.options.Options.{Options}
 use Rattle.jxldec.specs.declared.options.Task.{Task}
 use Rattle.jxldec.specs.declared.options.Task.TheVariants as tasks
 
--- the format in which a picture is written: the one that is asked for, if it suits the picture, or that of its kind
-abbrev pub chosen : Option Format → Image → Option Format
-chosen (Some format) image = if suits format image then Some format else None
-chosen None image = usual image
-
--- The text is that of the picture of the file; of its channels these kinds are left out, and perhaps its profile.
-pub record IsTextOfFile (limits : Limits) (file : List ℕ) (asked : Option Format) (text others : List ℕ) (profile : Bool) : Type 0 where
+-- The text is the picture of the file in a format, in PNG with its profile, Exif and XMP data; of its channels these kinds are left out, and
+-- perhaps its profile.
+pub record IsTextOfFile (limits : Limits) (file : List ℕ) (asked : Option OutputFormat) (text others : List ℕ) (profile : Bool) : Type 0 where
   pub picture : Picture
   pub steps : ℕ
   pub is : IsPictureOfFile limits file picture 0 steps
-  pub format : Format
+  pub exif : Option (List ℕ)
+  pub exif_is : HasExif file exif
+  pub xmp : Option (List ℕ)
+  pub xmp_is : HasXmp file xmp
+  pub format : OutputFormat
   pub suited : chosen asked (image_of picture.header) ≡ Some format
-  pub written : text ≡ text_of format (image_of picture.header) picture.channels.items
+  pub written : IsWrittenAs format (image_of picture.header) picture.channels.items (bytes_if picture.profile) exif xmp text
   pub without : others ≡ kinds_left_out format (image_of picture.header).ec_info
-  pub plain : profile ≡ (image_of picture.header).colour_encoding.want_icc
+  pub plain : profile ≡ is_profile_left_out format (image_of picture.header)
 
 -- The headers of the file are supported, of a picture that is not written in the format that is asked for, or in any.
-pub record HasNoFormat (limits : Limits) (file : List ℕ) (asked : Option Format) : Type 0 where
+pub record HasNoFormat (limits : Limits) (file : List ℕ) (asked : Option OutputFormat) : Type 0 where
   pub image : Image
   pub headers : HeadersOfFile (entropy decoder_at) limits file image None
   pub none : chosen asked image ≡ None
@@ -64,7 +65,7 @@ IsMissing limits file extras.Exif = HasExif file None
 IsMissing limits file extras.Xmp = HasXmp file None
 
 -- what each failure says of the file whose picture is asked for
-abbrev pub TextFails : Limits → List ℕ → Option Format → Failure → Type 0
+abbrev pub TextFails : Limits → List ℕ → Option OutputFormat → Failure → Type 0
 TextFails limits file asked (failures.File error) = FileFails limits file error
 TextFails limits file asked (failures.TooLarge size extra most) = IsAboveLimits limits file size extra most
 TextFails limits file asked failures.NoFormat = HasNoFormat limits file asked
@@ -85,18 +86,18 @@ abbrev pub IsInfo : Limits → List ℕ → List ℕ → List ℕ → Bool → T
 IsInfo limits file text others profile = IsInfoOfFile (entropy decoder_at) limits file text × (others ≡ []) × (profile ≡ false)
 
 -- what is asked of a file for the output: what its headers tell, its picture, or nothing
-abbrev pub IsAsked : Task → Limits → Option Format → List ℕ → List ℕ → List ℕ → Bool → Type 0
+abbrev pub IsAsked : Task → Limits → Option OutputFormat → List ℕ → List ℕ → List ℕ → Bool → Type 0
 IsAsked tasks.Headers limits asked file text others profile = IsInfo limits file text others profile
 IsAsked tasks.Picture limits asked file text others profile = IsTextOfFile limits file asked text others profile
 IsAsked tasks.Nothing limits asked file text others profile = (text ≡ []) × (others ≡ []) × (profile ≡ false)
 
 -- why what is asked of a file is not made
-abbrev pub AskedFails : Task → Limits → Option Format → List ℕ → Failure → Type 0
+abbrev pub AskedFails : Task → Limits → Option OutputFormat → List ℕ → Failure → Type 0
 AskedFails tasks.Picture limits asked file failure = TextFails limits file asked failure
 AskedFails task limits asked file failure = InfoFails limits file failure
 
 -- The text is what is asked of a file, and the output, which held `held`, holds after it a beginning of the text.
-pub record IsBegun (task : Task) (limits : Limits) (asked : Option Format) (held holds : Option (List ℕ)) (file : List ℕ) : Type 0 where
+pub record IsBegun (task : Task) (limits : Limits) (asked : Option OutputFormat) (held holds : Option (List ℕ)) (file : List ℕ) : Type 0 where
   pub text : List ℕ
   pub others : List ℕ
   pub profile : Bool
@@ -106,7 +107,7 @@ pub record IsBegun (task : Task) (limits : Limits) (asked : Option Format) (held
 -- what each failure says of the input, from left to rest, and of the output, which held `held`: the input was read to its
 -- end, but where it cannot be read; what is asked of it was made before the output was written, and the output holds a
 -- beginning of that
-abbrev pub InputFails : Task → Limits → Option Format → Option (List ℕ) → Option (List ℕ) → Option (List ℕ) → Option (List ℕ) → Failure → Type 0
+abbrev pub InputFails : Task → Limits → Option OutputFormat → Option (List ℕ) → Option (List ℕ) → Option (List ℕ) → Option (List ℕ) → Failure → Type 0
 InputFails task limits asked left rest held holds (failures.Unreadable error) = Unit {0}
 InputFails task limits asked left rest held holds (failures.Unwritable error) = IsReadWhole left rest (IsBegun task limits asked held holds)
 InputFails task limits asked left rest held holds failures.Closed = IsReadWhole left rest (IsBegun task limits asked held holds)
@@ -115,7 +116,7 @@ InputFails task limits asked left rest held holds failure = IsReadWhole left res
 
 -- The input was read to its end, from left to rest, and the output, which held `held`, holds after it what was asked of
 -- what was read, which has this error after its codestream, or none.
-pub record IsWritten (task : Task) (limits : Limits) (asked : Option Format) (left rest held holds : Option (List ℕ)) (others : List ℕ) (profile : Bool) (error : Option BoxError) : Type 0 where
+pub record IsWritten (task : Task) (limits : Limits) (asked : Option OutputFormat) (left rest held holds : Option (List ℕ)) (others : List ℕ) (profile : Bool) (error : Option BoxError) : Type 0 where
   pub file : List ℕ
   pub text : List ℕ
   pub read : Consumes left rest file
@@ -136,7 +137,7 @@ IsSaved wanted Has held holds Flushed Stays = MatchBool wanted ((bytes : List �
 -- So it is, and standard error gets the lines that warn of what is left out, and of the error after the codestream, unless
 -- nothing but errors is to be printed; it gets nothing then, nor where there is nothing to warn of. A profile that is saved is
 -- not left out.
-pub record IsDone (task : Task) (quiet saved : Bool) (limits : Limits) (asked : Option Format) (name : List ℕ) (left rest held holds : Option (List ℕ)) (Gets : List ℕ → Type 0) (Silent : Type 0) : Type 0 where
+pub record IsDone (task : Task) (quiet saved : Bool) (limits : Limits) (asked : Option OutputFormat) (name : List ℕ) (left rest held holds : Option (List ℕ)) (Gets : List ℕ → Type 0) (Silent : Type 0) : Type 0 where
   pub others : List ℕ
   pub profile : Bool
   pub error : Option BoxError

@@ -5,10 +5,11 @@ use Rattle.jxl_container.specs.declared.error.FileError.{FileError as BoxError}
 use Rattle.jxl_image_header.specs.declared.channel.ExtraChannel.{ExtraChannel}
 use Rattle.jxl_info.specs.Names.{kind_name}
 use Rattle.jxl_picture.specs.Pictures.{is_full_alpha}
-use Rattle.jxl_netpbm.specs.declared.format.Format.{Format}
 use Rattle.jxl_netpbm.specs.declared.format.Format.TheVariants as formats
 use Rattle.jxldec.specs.Failures.{line_about}
 use Rattle.jxldec.specs.Reasons.{box_text}
+use Rattle.jxldec.specs.declared.format.OutputFormat.{OutputFormat}
+use Rattle.jxldec.specs.declared.format.OutputFormat.TheVariants.{Netpbm, Png}
 
 -- the kinds of channels, each after a space
 abbrev pub kinds : List ExtraChannel → List ℕ
@@ -20,16 +21,17 @@ kinds_but_alpha [] = []
 kinds_but_alpha (c ∷ cs) = if is_full_alpha c then kinds cs else codes " " ++ kind_name c.kind ++ kinds_but_alpha cs
 
 -- the kinds of extra channels that a format leaves out, each after a space
-abbrev pub kinds_left_out : Format → List ExtraChannel → List ℕ
-kinds_left_out formats.Text channels = []
-kinds_left_out formats.Pam channels = kinds_but_alpha channels
+abbrev pub kinds_left_out : OutputFormat → List ExtraChannel → List ℕ
+kinds_left_out (Netpbm formats.Text) channels = []
+kinds_left_out (Netpbm formats.Pam) channels = kinds_but_alpha channels
+kinds_left_out Png channels = kinds_but_alpha channels
 kinds_left_out format channels = kinds channels
 
 -- the line on channels that are left out, if there are any
 unfoldable pub channel_line : List ℕ → List ℕ → List ℕ
 channel_line name others = if length others == 0 then [] else line_about name (codes "channels left out:" ++ others)
 
--- the line on a colour profile, which no format holds
+-- the line on a colour profile, which the format does not hold
 unfoldable pub profile_line : List ℕ → Bool → List ℕ
 profile_line name profile = if profile then line_about name (codes "colour profile left out") else []
 

@@ -96,7 +96,7 @@ impl fmt::Display for Failure {
             Failure::Missing(extra) => f.write_str(missing_text(extra)),
             Failure::OutOfMemory => f.write_str("out of memory"),
             Failure::Ending => f.write_str(
-                "no format has this ending; there are .pgm, .ppm, .pnm, .pam, .pfm and .text",
+                "no format has this ending; there are .png, .pgm, .ppm, .pnm, .pam, .pfm and .text",
             ),
             Failure::Unwritable(error) | Failure::Unsaved(_, error) => {
                 write!(f, "cannot write: {error}")

@@ -1,9 +1,10 @@
-//! Decodes a lossless JPEG XL file to a picture in a netpbm format, or tells what its headers say.
+//! Decodes a lossless JPEG XL file to a picture in PNG or a netpbm format, or tells what its headers say.
 #![tactic(auto)]
 
 mod cause;
 mod codes;
 mod failures;
+mod format;
 mod meter;
 mod options;
 mod reason;

@@ -4,9 +4,11 @@ ghost use Rattle.std.specs.Prelude.{◌≡◌, ◌≢◌, MatchOption, Some, map
 ghost use Rattle.std.specs.Option.{option_copied};
 ghost use Rattle.std.specs.Path.{path_extension};
 ghost use Rattle.jxldec.specs.Failures.{subject};
-ghost use Rattle.jxldec.specs.Options.{IsNoFormat, IsWordOf, limits_of as the_limits};
+ghost use Rattle.jxldec.specs.Options.{IsNoFormat, IsNoNetpbm, IsWordOf, limits_of as the_limits};
+ghost use Rattle.jxldec.specs.declared.format.OutputFormat.TheVariants.{Netpbm};
 
 use crate::failures::Failure;
+use crate::format::OutputFormat;
 use clap::{Arg, ArgAction, ArgMatches, Command};
 use jxl_command::extra::ExtraPaths;
 use jxl_netpbm::format::Format;
@@ -39,7 +41,7 @@ pub struct Options<'a> {
     /// Where the profile, the Exif data and the XMP data are written, those that are asked for.
     pub paths: ExtraPaths<'a>,
     /// The format of the picture; where there is none, that of its kind.
-    pub format: Option<Format>,
+    pub format: Option<OutputFormat>,
     /// How large a picture may be.
     pub limits: Limits,
     /// Whether nothing is printed but errors.
@@ -91,7 +93,7 @@ fn format(alloc: Global) -> Arg<'static> {
     Arg::new(alloc, "format")
         .long("format")
         .value_name("FORMAT")
-        .value_parser(["pgm", "ppm", "pnm", "pam", "pfm", "text"].as_slice())
+        .value_parser(["png", "pgm", "ppm", "pnm", "pam", "pfm", "text"].as_slice())
         .help("Its format [default: by the ending of its name, else by what the picture holds]")
 }
 
@@ -144,13 +146,13 @@ pub fn command<'a>(alloc: Global) -> Result<Command<'a>, AllocError> {
     ]?;
     Command::new(alloc, "jxldec")
         .version("0.1.0")
-        .about("Decodes a lossless JPEG XL file to a netpbm picture")
+        .about("Decodes a lossless JPEG XL file to a PNG or netpbm picture")
         .args(args)
 }
 
-// The format of this name, in letters of either case.
-fn format_of(name: &str) -> Option<Format>
-    ensures { MatchOption result (IsNoFormat name.now) (IsWordOf name.now) }
+// The netpbm format of this name, in letters of either case.
+fn netpbm_of(name: &str) -> Option<Format>
+    ensures { MatchOption result (IsNoNetpbm name.now) (λ format. IsWordOf name.now (Netpbm format)) }
 {
     if name.eq_ignore_ascii_case("pgm") {
         Some(Format::Pgm)
@@ -164,6 +166,19 @@ fn format_of(name: &str) -> Option<Format>
         Some(Format::Text)
     } else {
         None
+    }
+}
+
+// The format of this name, in letters of either case.
+fn format_of(name: &str) -> Option<OutputFormat>
+    ensures { MatchOption result (IsNoFormat name.now) (IsWordOf name.now) }
+{
+    if name.eq_ignore_ascii_case("png") {
+        return Some(OutputFormat::Png);
+    }
+    match netpbm_of(name) {
+        Some(format) => Some(OutputFormat::Netpbm(format)),
+        None => None,
     }
 }
 

@@ -10,16 +10,17 @@ ghost use Rattle.jxl_container.specs.Metadata.{HasExif, HasXmp};
 ghost use Rattle.jxl_image_header.specs.Images.{image_of};
 ghost use Rattle.jxl_lossless.specs.Files.{IsReadOf, header_of, reason_of};
 ghost use Rattle.jxl_lossless.specs.Pictures.{ProfileOfFile};
-ghost use Rattle.jxl_netpbm.specs.Formats.{suits, text_of};
 ghost use Rattle.jxl_netpbm.specs.Output.{AppendsBeginning};
 ghost use Rattle.jxl_picture.specs.Pictures.{IsWhole};
 ghost use Rattle.jxl_picture.specs.declared.limits.Limits.{Limits as TheLimits};
 ghost use Rattle.jxldec.specs.Contents.{IsWritable, content_text};
 ghost use Rattle.jxldec.specs.Failures.{IsOfContent, IsOfSaving, failure_line, is_of_output};
-ghost use Rattle.jxldec.specs.Texts.{AskedFails, InfoFails, InputFails, IsAsked, IsDone, IsFailed, IsFound, IsInfo, IsSaved, IsTextOfFile, IsWritten, TextFails, chosen};
+ghost use Rattle.jxldec.specs.Formats.{IsWrittenAs, chosen, is_profile_left_out, suits_output};
+ghost use Rattle.jxldec.specs.Texts.{AskedFails, InfoFails, InputFails, IsAsked, IsDone, IsFailed, IsFound, IsInfo, IsSaved, IsTextOfFile, IsWritten, TextFails};
 ghost use Rattle.jxldec.specs.Warnings.{kinds_left_out, warnings};
 
 use crate::failures::Failure;
+use crate::format::{OutputFormat, format_for};
 use crate::options::{Options, Task};
 use crate::warning::{LeftOut, warn};
 use jxl_codestream::error::FrontError;
@@ -37,6 +38,7 @@ use jxl_info::text::info_text;
 use jxl_lossless::{FileError, JxlFile, Limits, Picture, Progress, Steps};
 use jxl_netpbm::format::Format;
 use jxl_netpbm::output::{WriteError, write_whole};
+use jxl_png_write::picture::png_file;
 use std::alloc::Global;
 use std::io::{Read, Write};
 
@@ -49,6 +51,8 @@ pub enum Content {
     Nothing,
     /// Its picture, in a format that suits it.
     Picture { picture: Picture, format: Format },
+    /// A PNG file of its picture.
+    Png(Vec<u8>),
 }
 
 /// What is written of a file, and what that leaves out.
@@ -56,22 +60,6 @@ pub enum Content {
 pub struct Output {
     pub content: Content,
     pub left_out: LeftOut,
-}
-
-// The format in which a picture is written: the one that is asked for, where it suits the picture, or that of its kind.
-fn format_for(asked: Option<Format>, header: &ImageHeader) -> Option<Format>
-    ensures { result ≡ chosen asked (image_of header.now) }
-{
-    match asked {
-        Some(format) => {
-            if format.suits(header) {
-                Some(format)
-            } else {
-                None
-            }
-        }
-        None => Format::usual(header),
-    }
 }
 
 // What the headers of a file tell.
@@ -123,9 +111,9 @@ fn support(read: &JxlFile<'_>, limits: &Limits) -> Result<(), Failure>
 // picture has no such format, the error comes before any sample is decoded.
 fn format_of_file(
     read: &JxlFile<'_>,
-    asked: Option<Format>,
+    asked: Option<OutputFormat>,
     limits: &Limits,
-) -> Result<Format, Failure>
+) -> Result<OutputFormat, Failure>
     ensures ok { IfOk result (λ format. chosen asked (image_of (header_of read.now)) ≡ Some format) }
     ensures err { (file : List ℕ) → IsReadOf limits.now file read.now
         → IfErr result (TextFails limits.now file asked) }
@@ -140,32 +128,55 @@ fn format_of_file(
     }
 }
 
-// A picture with a format that suits it, and what that leaves out, from a file with this error after its codestream.
+// What is written of a picture in a format that suits it: of a PNG file the bytes are made.
+fn content_of(
+    alloc: Global,
+    picture: Picture,
+    format: OutputFormat,
+    exif: Option<&[u8]>,
+    xmp: Option<&[u8]>,
+) -> Result<Content, Failure>
+    requires whole { IsWhole (image_of picture.header) picture.channels.items }
+    requires suits { suits_output format (image_of picture.header) ≡ true }
+    ensures text { IfOk result (λ content. IsWrittenAs format (image_of picture.header) picture.channels.items
+        (bytes_if picture.profile) (option_copied exif.entry) (option_copied xmp.entry) (content_text content)) }
+    ensures writable { IfOk result IsWritable }
+    ensures err { IfErr result (λ failure. failure ≡ Failure.OutOfMemory) }
+{
+    match format {
+        OutputFormat::Netpbm(format) => Ok(Content::Picture { picture, format }),
+        OutputFormat::Png => match png_file(alloc, &picture, exif, xmp) {
+            Ok(file) => Ok(Content::Png(file)),
+            Err(_) => Err(Failure::OutOfMemory),
+        },
+    }
+}
+
+// A picture in a format that suits it, and what that leaves out, from a file with this error after its codestream.
 fn output_of(
     alloc: Global,
     picture: Picture,
-    format: Format,
+    format: OutputFormat,
+    exif: Option<&[u8]>,
+    xmp: Option<&[u8]>,
     later_error: Option<BoxError>,
 ) -> Result<Output, Failure>
     requires whole { IsWhole (image_of picture.header) picture.channels.items }
-    requires suits { suits format (image_of picture.header) ≡ true }
-    ensures text { IfOk result (λ o. content_text o.content
-        ≡ text_of format (image_of picture.header) picture.channels.items) }
+    requires suits { suits_output format (image_of picture.header) ≡ true }
+    ensures text { IfOk result (λ o. IsWrittenAs format (image_of picture.header) picture.channels.items
+        (bytes_if picture.profile) (option_copied exif.entry) (option_copied xmp.entry) (content_text o.content)) }
     ensures writable { IfOk result (λ o. IsWritable o.content) }
     ensures channels { IfOk result (λ o. string_bytes o.left_out.channels
         ≡ kinds_left_out format (image_of picture.header).ec_info) }
-    ensures profile { IfOk result (λ o. o.left_out.profile
-        ≡ (image_of picture.header).colour_encoding.want_icc) }
+    ensures profile { IfOk result (λ o. o.left_out.profile ≡ is_profile_left_out format (image_of picture.header)) }
     ensures later { IfOk result (λ o. o.left_out.later_error ≡ later_error) }
     ensures err { IfErr result (λ failure. failure ≡ Failure.OutOfMemory) }
 {
-    match LeftOut::of(alloc, format, &picture.header, later_error) {
-        Ok(left_out) => Ok(Output {
-            content: Content::Picture { picture, format },
-            left_out,
-        }),
-        Err(_) => Err(Failure::OutOfMemory),
-    }
+    let Ok(left_out) = LeftOut::of(alloc, format, &picture.header, later_error) else {
+        return Err(Failure::OutOfMemory);
+    };
+    let content = content_of(alloc, picture, format, exif, xmp)?;
+    Ok(Output { content, left_out })
 }
 
 /// The picture of a file, with the format that is asked for, or that of its kind. If the headers stand and there is no
@@ -173,7 +184,7 @@ fn output_of(
 pub fn picture_of_file<P: Progress + Line>(
     alloc: Global,
     file: &[u8],
-    asked: Option<Format>,
+    asked: Option<OutputFormat>,
     limits: &Limits,
     progress: &mut P,
 ) -> Result<Output, Failure>
@@ -189,9 +200,11 @@ pub fn picture_of_file<P: Progress + Line>(
     };
     let format = format_of_file(&read, asked, limits)?;
     let later_error = read.later_error();
+    let exif = read.exif();
+    let xmp = read.xmp();
     let mut steps = Steps::new();
     match read.decode(alloc, &mut steps, progress) {
-        Ok(picture) => output_of(alloc, picture, format, later_error),
+        Ok(picture) => output_of(alloc, picture, format, exif, xmp, later_error),
         Err(error) => Err(Failure::File(error)),
     }
 }
@@ -244,7 +257,7 @@ fn write_content<W: Flush>(alloc: Global, output: &mut W, content: &Content) -> 
     ensures err { IfErr result IsOfContent }
 {
     match content {
-        Content::Headers(text) => match write_whole(output, text) {
+        Content::Headers(text) | Content::Png(text) => match write_whole(output, text) {
             Ok(()) => Ok(()),
             Err(error) => Err(Failure::of_write(error)),
         },
@@ -504,7 +517,7 @@ fn succeed<E: Write>(errors: &mut E, options: &Options<'_>, left_out: &LeftOut) 
     }
 }
 
-/// Reads a file from `input`, and writes to `output` what its headers tell, or its picture in a netpbm format or in
+/// Reads a file from `input`, and writes to `output` what its headers tell, or its picture in PNG, a netpbm format or
 /// decimal numbers, or nothing; and to `extras` its profile, its Exif data and its XMP data, those that are asked for. It
 /// returns the status to end with: 0 where each got that, alone and whole; else 1, and `errors` got the line of a failure
 /// that holds of the file, unless the output is a pipe that was closed. Nothing is written unless the whole picture was

@@ -4,9 +4,11 @@ ghost use Rattle.std.specs.Prelude.{◌≡◌, ◌++◌, ◌&&◌, IfOk, None, O
 ghost use Rattle.std.specs.Io.KnownBytes.{Appends};
 ghost use Rattle.jxl_image_header.specs.Images.{image_of};
 ghost use Rattle.jxl_picture.specs.Pictures.{is_full_alpha as the_full_alpha};
+ghost use Rattle.jxldec.specs.Formats.{is_profile_left_out};
 ghost use Rattle.jxldec.specs.Warnings.{kinds_left_out, later_line, left_out_lines, warning_lines};
 ghost use Rattle.jxldec.specs.Inner.Kinds.{rest_kinds};
 
+use crate::format::OutputFormat;
 use crate::reason::box_text;
 use jxl_container::error::FileError as BoxError;
 use jxl_image_header::channel::ExtraChannel;
@@ -23,7 +25,7 @@ use std::{fmt, io};
 pub struct LeftOut {
     /// The kinds of the channels that are left out, each after a space.
     pub channels: String,
-    /// Whether a profile says what colours mean, which no format holds.
+    /// Whether a profile says what colours mean, which the format does not hold.
     pub profile: bool,
     /// The first error of the boxes after the codestream, if there is one: from there on they are left out.
     pub later_error: Option<BoxError>,
@@ -56,24 +58,26 @@ impl LeftOut {
     /// What the text of a picture leaves out in this format, and the boxes from this error on.
     pub fn of(
         alloc: Global,
-        format: Format,
+        format: OutputFormat,
         header: &ImageHeader,
         later_error: Option<BoxError>,
     ) -> Result<LeftOut, OutOfMemory>
         ensures channels { IfOk result (λ l. string_bytes l.channels
             ≡ kinds_left_out format (image_of header.now).ec_info) }
-        ensures profile { IfOk result (λ l. l.profile ≡ (image_of header.now).colour_encoding.want_icc) }
+        ensures profile { IfOk result (λ l. l.profile ≡ is_profile_left_out format (image_of header.now)) }
         ensures later { IfOk result (λ l. l.later_error ≡ later_error) }
     {
         let mut channels = String::new(alloc);
         match format {
-            Format::Text => {}
-            Format::Pam => append_kinds(&mut channels, false, &header.ec_info)?,
+            OutputFormat::Netpbm(Format::Text) => {}
+            OutputFormat::Netpbm(Format::Pam) | OutputFormat::Png => {
+                append_kinds(&mut channels, false, &header.ec_info)?
+            }
             _ => append_kinds(&mut channels, true, &header.ec_info)?,
         }
         Ok(LeftOut {
             channels,
-            profile: header.colour_encoding.want_icc,
+            profile: format.leaves_profile_out(header),
             later_error,
         })
     }
