@@ -112,12 +112,14 @@ expect 0 - ball.jxl -o a.b/c
 begins a.b/c P5
 expect 0 - ball.jxl -o .pam
 begins .pam P5
-expect 1 'jxldec: a.png: no format has this ending; there are .pgm, .ppm, .pnm, .pam, .pfm and .text' ball.jxl -o a.png
-absent a.png
+expect 1 'jxldec: a.bmp: no format has this ending; there are .png, .pgm, .ppm, .pnm, .pam, .pfm and .text' ball.jxl -o a.bmp
+absent a.bmp
+expect 0 - ball.jxl -o a.PNG
+begins a.PNG "$(printf '\211PNG')"
 expect 1 'jxldec: ball.jxl: this format cannot hold the picture; --format text can' ball.jxl -o a.pfm
 absent a.pfm
 expect 1 'jxldec: colours.jxl: this format cannot hold the picture; --format text can' colours.jxl -o b.pgm
-expect 2 "error: invalid value 'png'" ball.jxl --format png
+expect 2 "error: invalid value 'bmp'" ball.jxl --format bmp
 
 # Standard input and standard output.
 expect 0 - ball.jxl
@@ -466,6 +468,28 @@ encode_rows() {
     expect 0 - grey.pgm --exif turn.exif -o c.jxl
     "$decoder" c.jxl -o again.pgm --exif out.exif && cmp -s turned.pgm again.pgm && cmp -s upright.exif out.exif
     judge $? 'the orientation in the data of --exif is not that of the picture'
+
+    # PNG files that jxldec writes are encoded to the same pictures, with the profile, Exif and XMP data.
+    for pair in 'grey pgm' 'rgb ppm' 'alpha pam' 'two pgm'; do
+        name=${pair% *}.${pair#* }
+        "$encoder" "$name" -o c.jxl && "$decoder" c.jxl -o c.png && "$encoder" c.png -o d.jxl && "$decoder" d.jxl -o "again.${pair#* }"
+        judge $? "$name does not go through PNG"
+        cmp -s "$name" "again.${pair#* }"
+        judge $? "$name is another picture after it went through PNG"
+    done
+    rm -f d.jxl
+    "$encoder" grey.pgm --icc p.icc --exif in.exif --xmp in.xmp -o c.jxl && "$decoder" c.jxl --format png > c.png && "$encoder" c.png -o e.jxl &&
+        "$decoder" e.jxl -o again.pgm --icc out.icc --exif out.exif --xmp out.xmp
+    judge $? 'a picture with profile, Exif and XMP data does not go through PNG'
+    cmp -s grey.pgm again.pgm && cmp -s p.icc out.icc && cmp -s in.exif out.exif && cmp -s in.xmp out.xmp
+    judge $? 'a picture, its profile, Exif or XMP data are others after they went through PNG'
+    "$decoder" c.jxl -o c.png 2> err && test ! -s err
+    judge $? 'jxldec warns of a profile that PNG holds'
+    "$encoder" float.pfm -o c.jxl
+    "$decoder" c.jxl -o none.png 2> err
+    test "$?$(cat err)" = '1jxldec: c.jxl: this format cannot hold the picture; --format text can'
+    judge $? 'jxldec writes floats to PNG'
+    absent none.png
 
     # Pictures that cannot be read: an output that exists keeps its contents.
     printf 'kept' > b.jxl
