@@ -16,7 +16,7 @@ use jxl_encode_advice::values::scheme_by_values;
 use jxl_image_header::channel::BitDepth;
 use jxl_image_header::image::ImageHeader;
 use jxl_picture::picture::{Picture, is_grey};
-use jxlm_base::grid::OutOfMemory;
+use jxlm_base::grid::{AlignedGrid, OutOfMemory};
 use jxlm_encode_write::tree::EncodeNode;
 use jxlm_predictor::predictor::Predictor;
 use jxlm_transform::transform::Rct;
@@ -192,6 +192,26 @@ fn care_of(effort: Effort) -> (usize, Care) {
                 clusters: 64,
             },
         ),
+    }
+}
+
+/// How a group may be coded by what its samples are like.
+pub(crate) fn group_scheme(
+    alloc: Global,
+    channels: &[AlignedGrid<i32>],
+    depth: BitDepth,
+    effort: Effort,
+    colour: Option<u32>,
+) -> Result<Scheme, OutOfMemory> {
+    let (slopes, care) = care_of(effort);
+    let axes = slope_axes(alloc, depth, slopes)?;
+    let scheme = scheme_by_residuals(alloc, channels, colour.is_some(), axes, care)?;
+    if colour.is_some() {
+        return Ok(scheme);
+    }
+    match scheme_by_values(alloc, channels)? {
+        Some(other) if other.cost < scheme.cost => Ok(other),
+        _ => Ok(scheme),
     }
 }
 

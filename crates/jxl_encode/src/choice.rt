@@ -10,6 +10,7 @@ ghost use Rattle.jxl_encode.specs.Files.{IsCodestreamOf};
 use crate::advice::{Advice, advices_for};
 use crate::codestream::codestream_by;
 use crate::effort::Effort;
+use crate::groups::{OwnTrees, own_trees};
 use crate::progress::Progress;
 use jxl_picture::picture::Picture;
 use jxlm_base::grid::OutOfMemory;
@@ -36,6 +37,7 @@ fn shortest<P: Progress>(
     alloc: Global,
     picture: &Picture,
     advices: &[Advice],
+    own: &OwnTrees,
     progress: &mut P,
 ) -> Result<Option<Vec<u8>>, OutOfMemory>
     requires whole { IsWhole (image_of picture.now.header) picture.now.channels.items }
@@ -44,7 +46,7 @@ fn shortest<P: Progress>(
 {
     let mut best = None;
     for advice in advices {
-        let bytes = codestream_by(alloc, picture, advice)?;
+        let bytes = codestream_by(alloc, picture, advice, own.by(advice.colour))?;
         best = Some(shorter(best, bytes));
         progress.way_tried(advices.len());
     }
@@ -64,7 +66,8 @@ pub(crate) fn encode_codestream<P: Progress>(
     ensures { IfOk result (λ v. IsCodestreamOf picture.now v.items) }
 {
     let advices = advices_for(alloc, picture, effort)?;
-    if let Some(bytes) = shortest(alloc, picture, &advices, progress)? {
+    let own = own_trees(alloc, picture, effort, &advices)?;
+    if let Some(bytes) = shortest(alloc, picture, &advices, &own, progress)? {
         return Ok(bytes);
     }
     let plain = Advice {
@@ -72,5 +75,5 @@ pub(crate) fn encode_codestream<P: Progress>(
         clusters: Vec::new(alloc),
         colour: None,
     };
-    codestream_by(alloc, picture, &plain)
+    codestream_by(alloc, picture, &plain, &[])
 }

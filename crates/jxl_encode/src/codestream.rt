@@ -12,11 +12,12 @@ use crate::frame::{FrameInput, GROUP_DIM, GROUP_SHIFT, frame_sections};
 use crate::sizes::{add_sections, sizes_of};
 use jxl_codestream::layout::Layout;
 use jxl_codestream_write::front::write_front_with_profile;
+use jxl_encode_sections::own::GroupTree;
 use jxl_picture::picture::Picture;
 use jxlm_base::grid::OutOfMemory;
 use std::alloc::Global;
 
-/// A codestream of the picture by this advice.
+/// A codestream of the picture by this advice, where groups may have these trees of their own.
 ///
 /// # Errors
 ///
@@ -26,6 +27,7 @@ pub(crate) fn codestream_by(
     alloc: Global,
     picture: &Picture,
     advice: &Advice,
+    own: &[GroupTree],
 ) -> Result<Vec<u8>, OutOfMemory>
     requires whole { IsWhole (image_of picture.now.header) picture.now.channels.items }
     requires codable { IsCodable picture.now }
@@ -39,6 +41,7 @@ pub(crate) fn codestream_by(
         picture,
         given: &given,
         layout: &layout,
+        own,
     };
     let Ok(sections) = frame_sections(alloc, &input, advice) else {
         return Err(OutOfMemory);

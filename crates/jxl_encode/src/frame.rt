@@ -21,6 +21,7 @@ use crate::channels::copies_of;
 use jxl_codestream::layout::Layout;
 use jxl_codestream::start::tree_limit;
 use jxl_encode_sections::frame::{FrameCut, FrameTree, encode_sections};
+use jxl_encode_sections::own::GroupTree;
 use jxl_image_header::image::ImageHeader;
 use jxl_picture::picture::{Picture, colours};
 use jxlm_base::grid::OutOfMemory;
@@ -41,12 +42,14 @@ pub(crate) const GROUP_DIM: u32 = 256;
 /// The maximum depth of the tree: the default limit on decisions for a sample.
 const MAX_DEPTH: usize = 128;
 
-/// What the sections of a frame are written from: the picture, its channels, and the frame's groups.
+/// What the sections of a frame are written from: the picture, its channels, the frame's groups, and trees that they may have
+/// of their own.
 #[derive(Clone, Copy)]
 pub(crate) struct FrameInput<'a> {
     pub(crate) picture: &'a Picture,
     pub(crate) given: &'a [ModularChannelParams],
     pub(crate) layout: &'a Layout,
+    pub(crate) own: &'a [GroupTree],
 }
 
 /// How large the tree of a frame may be, in a picture with this header.
@@ -93,6 +96,7 @@ fn sections_by_tree(
         nodes,
         clusters,
         limits: limits_of(&input.picture.header),
+        own: input.own,
     };
     let cut = FrameCut {
         group_dim: GROUP_DIM,

@@ -9,6 +9,7 @@ mod codestream;
 pub mod effort;
 pub mod file;
 mod frame;
+mod groups;
 mod level;
 pub mod orientation;
 pub mod profile;

@@ -1,24 +1,22 @@
 -- Sections behind the tree that they share are a frame.
-use Rattle.std.proofs.Common.{◌≡◌, ℕ, ℤ, pos, List, [], get_or, Bool, true, false, Option, Some, None, Ok, refl, sym, ap, ◌∙◌, subst}
+use Rattle.std.proofs.Common.{◌≡◌, ℕ, List, [], get_or, Bool, true, false, Option, Some, None, refl, sym, subst}
 use Rattle.std.specs.Int.{w32}
 use Rattle.jxlm_bits.specs.Decoding.{Meaning}
-use Rattle.jxlm_base.specs.Grid.{Grid}
 use Rattle.jxlm_groups.specs.Passes.{passes_of}
 use Rattle.jxlm_transform.specs.Channels.{ChannelList}
-use Rattle.jxl_image_header.specs.Images.{Image}
 use Rattle.jxl_image_header.specs.declared.size.Size.{Size}
 use Rattle.jxl_frame_header.specs.Frames.{frame_size}
 use Rattle.jxl_frame_header.specs.Passes.{pass_shifts}
-use Rattle.jxl_codestream.specs.Fronts.{FrameAt, StandsAt, layout_in}
-use Rattle.jxl_patches.specs.Slots.{Slots, optional_patches, sizes_of}
+use Rattle.jxl_codestream.specs.Fronts.{StandsAt, layout_in}
+use Rattle.jxl_patches.specs.Slots.{optional_patches}
 use Rattle.jxl_picture.specs.Pictures.{colour_count}
 use Rattle.jxl_picture.specs.Limits.{channel_count}
-use Rattle.jxl_lossless.specs.Frames.{IsFrame, SharedTree, channels_given, dictionary}
+use Rattle.jxl_lossless.specs.Frames.{SharedTree, channels_given}
 use Rattle.jxl_lossless.specs.Sections.{section_of, sections_in}
 use Rattle.jxl_lossless.specs.Stills.{IsStill}
 use Rattle.jxl_lossless.proofs.Channels.{alike, are_given, valid}
 use Rattle.jxl_lossless.proofs.PassShifts.{can_be_cut}
-use Rattle.jxl_encode_frame.specs.Codings.{AreSections, FrameCoding}
+use Rattle.jxl_encode_frame.specs.Codings.{AreSections}
 use Rattle.jxl_encode_frame.specs.Laws.{CodingIsFrame}
 use Rattle.jxl_encode_frame.proofs.Stills.{sections_still}
 
@@ -36,9 +34,9 @@ coding_frame {D} d image slots bytes frame grids fit c before =
     let ok = valid (colour_count image) size.width size.height image.ec_info fit.wide fit.high fit.low in
     let can = can_be_cut frame.header.passes fit.passes (pass_shifts frame.header.passes) refl in
     let s = c.sections in
-    let of_size = subst (λ (z : Size). AreSections d w32 c.config (channels_given image z) frame.header.group_dim (passes_of (pass_shifts frame.header.passes)) c.first c.end
+    let of_size = subst (λ (z : Size). AreSections d w32 c.config (channels_given image z) frame.header.group_dim frame.deepest (passes_of (pass_shifts frame.header.passes)) c.first c.end
     (section_of (layout_in image frame.header) (sections_in bytes frame)) grids) c.size_is s in
-    let given = subst (λ (l : ChannelList). AreSections d w32 c.config l frame.header.group_dim (passes_of (pass_shifts frame.header.passes)) c.first c.end
+    let given = subst (λ (l : ChannelList). AreSections d w32 c.config l frame.header.group_dim frame.deepest (passes_of (pass_shifts frame.header.passes)) c.first c.end
     (section_of (layout_in image frame.header) (sections_in bytes frame)) grids) (sym are) of_size in
     let (after, still) = sections_still d w32 c.config _ frame.header.group_dim image.bit_depth.bits_per_sample (passes_of (pass_shifts frame.header.passes)) (layout_in image frame.header) c.first c.end
     (sections_in bytes frame) frame.deepest grids c.within ok one can given before in

@@ -1,5 +1,5 @@
 -- Each group with samples is a group of the frame, where the frame has one pass.
-use Rattle.std.proofs.Common.{◌≡◌, ◌≢◌, ◌∙◌, inl, inr, ℕ, zero, suc, ◌+◌, ◌-◌, ◌*◌, ◌/◌, ◌<◌, ◌≤◌, Bool, true, false, nat_lt, if◌then◌else◌, ℤ, pos, List, get_or, length, Ok, refl, sym, ap, subst, arith, eqb-true}
+use Rattle.std.proofs.Common.{◌≡◌, ◌∙◌, inl, inr, ℕ, zero, suc, ◌+◌, ◌-◌, ◌*◌, ◌/◌, ◌<◌, ◌≤◌, Bool, true, false, nat_lt, if◌then◌else◌, ℤ, pos, get_or, refl, sym, ap, subst, arith, eqb-true}
 use Rattle.std.specs.Prelude.{find, int_le}
 use Rattle.std.specs.Option.{option_map_or}
 use Rattle.std.specs.Int.{div_ceil}
@@ -20,16 +20,14 @@ use Rattle.jxlm_groups.proofs.Parts.{get_of}
 use Rattle.jxlm_groups.proofs.PieceFacts.{counted_of, held_exists, lf_exists, pass_exists}
 use Rattle.jxlm_groups.proofs.Pictured.{IsOfPicture, image_of_picture}
 use Rattle.jxlm_groups.proofs.Steps.{IsPictured, pictured_after_all}
-use Rattle.jxlm_samples.specs.Part.{cell_count}
 use Rattle.jxlm_transform.specs.Channels.{Channel, ChannelList, image_channel, image_list}
-use Rattle.jxlm_transform.specs.Params.{IsValidChannel}
 use Rattle.jxlm_transform.specs.declared.param.ModularChannelParams.{ModularChannelParams}
 use Rattle.jxlm_transform.proofs.StepLaws.{steps_list}
 use Rattle.jxlm_encode.proofs.NoPalettes.{steps_have, written_steps}
 use Rattle.jxlm_section_split.specs.CutPicture.{one_pass}
 use Rattle.jxl_image_header.specs.declared.size.Size.{Size}
 use Rattle.jxl_codestream.specs.Layouts.{groups_of, has_part, layout_of}
-use Rattle.jxl_encode_frame.specs.Laws.{GroupsAreInLayout, IsOfSize}
+use Rattle.jxl_encode_frame.specs.Laws.{GroupsAreInLayout}
 
 -- as many squares cover a side
 ceil_within : (x y : ℕ) → 0 < y → div_ceil x y ≤ (x + y - 1) / y

@@ -1,5 +1,5 @@
--- Headers that use the frame's tree, without palettes: what they come to.
-use Rattle.std.proofs.Common.{◌≡◌, ℕ, zero, suc, ◌≤◌, Bool, true, false, List, [], ◌∷◌, length, Some, Result, Ok, refl, sym, ap, ◌∙◌, subst, arith}
+-- Headers without palettes: what they come to.
+use Rattle.std.proofs.Common.{◌≡◌, ℕ, zero, suc, ◌≤◌, Bool, true, false, List, ◌∷◌, length, None, Some, Result, Ok, refl, sym, ap, ◌∙◌, subst}
 use Rattle.std.specs.Prelude.{◌==◌, Any, MatchBool}
 use Rattle.std.specs.List.{All}
 use Rattle.std.proofs.lemmas.Bool.{le-ltb}
@@ -9,7 +9,7 @@ use Rattle.jxlm_bits.specs.ErrorKind.{ErrorAt}
 use Rattle.jxlm_bits.specs.Grammar.{flag, repeated}
 use Rattle.jxlm_bits.proofs.GrammarLaws.{exact-flag}
 use Rattle.jxlm_header.specs.Header.{Header, header, header_by}
-use Rattle.jxlm_header.specs.Opening.{Opening, opening, opening_of, resolve}
+use Rattle.jxlm_header.specs.Opening.{opening, opening_of, resolve}
 use Rattle.jxlm_header.proofs.HeaderLaws.{exact-header, exact-opening}
 use Rattle.jxlm_nested.specs.Starts.{opening_at}
 use Rattle.jxlm_transform.specs.Channels.{ChannelList, tables_for}
@@ -18,11 +18,11 @@ use Rattle.jxlm_transform.specs.Transforms.{Transform, OfPalette, transform_by}
 use Rattle.jxlm_transform.specs.declared.param.PaletteTables.{PaletteTables}
 use Rattle.jxlm_transform.specs.declared.param.PaletteTables.TheVariants.{OfColours}
 use Rattle.jxlm_tree.specs.Tree.{Config}
+use Rattle.jxlm_weighted.specs.WeightsHeader.{default_weights}
 use Rattle.jxlm_weighted.specs.declared.weights.WpHeader.{WpHeader}
 use Rattle.jxlm_encode_write.specs.Laws.{IsWritten}
 use Rattle.jxl_lossless.specs.Codewords.{UsesGlobalAt}
 use Rattle.jxl_lossless.specs.Stills.{IsWeightedAt}
-use Rattle.jxl_encode_image.specs.Preparations.{shared_header}
 
 -- ---- without palettes the tables of palettes do not matter
 
@@ -59,31 +59,69 @@ any_tables a b bytes p h q written s =
 same_found : (x y : Found Header) → ◌≡◌ {A = Result (Found Header) ErrorAt} (Ok x) (Ok y) → x ≡ y
 same_found x y e = cc
 
-module _ (ts : List Transform) (written : All IsWritten ts) (bytes : List ℕ) (p q : ℕ) (stands : header.Stands bytes p (shared_header ts) q) where
+-- a header that uses the frame's tree, or has one of its own, with the default weights and these transforms
+abbrev pub plain_header : Bool → List Transform → Header
+plain_header shared ts = record { use_global_tree = shared; wp_params = default_weights; transform = ts }
+
+module _ (ts : List Transform) (given : ChannelList) (coded : CodedList) (come : coded_list ts given ≡ Ok coded) (count : length coded.list.channels ≤ 65536) where
+  resolves : (shared : Bool) → resolve true given (plain_header shared ts) ≡ Ok (opening_of (plain_header shared ts) coded)
+  resolves true = rw (come, le-ltb 65536 (length coded.list.channels) count) refl
+  resolves false = rw (come, le-ltb 65536 (length coded.list.channels) count) refl
+
+  resolves_alone : resolve false given (plain_header false ts) ≡ Ok (opening_of (plain_header false ts) coded)
+  resolves_alone = rw (come, le-ltb 65536 (length coded.list.channels) count) refl
+
+module _ (shared : Bool) (ts : List Transform) (written : All IsWritten ts) (bytes : List ℕ) (p q : ℕ) (stands : header.Stands bytes p (plain_header shared ts) q) where
   -- none of its palettes is of the weighted predictor
   pub not_weighted : ¬ (IsWeightedAt bytes p)
   not_weighted h =
       let (found, read, palette, some, weighted) = h in
-      let own : Found Header = record { value = shared_header ts; position = q } in
-      let is : own ≡ found = same_found own found (sym ((exact-header OfColours).stands_read bytes p (shared_header ts) q stands) ∙ read) in
+      let own : Found Header = record { value = plain_header shared ts; position = q } in
+      let is : own ≡ found = same_found own found (sym ((exact-header OfColours).stands_read bytes p (plain_header shared ts) q stands) ∙ read) in
       let (k, t, lt, at, same) = subst (λ (f : Found Header). Any (λ t. t ≡ OfPalette palette) f.value.transform) (sym is) some in
       subst IsWritten (at ∙ same) (written k t lt)
 
-  -- it uses the global tree
-  pub uses_global : UsesGlobalAt bytes p
-  uses_global =
+  -- its first field says which tree it uses
+  flag_is : (i : ℕ) × (flag.read bytes p ≡ Ok (record { value = shared; position = i }))
+  flag_is =
       let (global, i, first, after_flag) = stands in
       let (weights, j, second, after_weights) = after_flag in
       let (count, k, third, after_count) = after_weights in
       let (list, m, fourth, last) = after_count in
-      let is : global ≡ true = sym (ap (λ (h : Header). h.use_global_tree) last.0) in
+      let is : global ≡ shared = sym (ap (λ (h : Header). h.use_global_tree) last.0) in
       (i, subst (λ (b : Bool). flag.read bytes p ≡ Ok (record { value = b; position = i })) is (exact-flag.stands_read bytes p global i first))
 
-  module _ (given : ChannelList) (coded : CodedList) (come : coded_list ts given ≡ Ok coded) (count : length coded.list.channels ≤ 65536) where
+  module _ (given : ChannelList) (coded : CodedList) where
+    opens_by : (has_global : Bool) → resolve has_global given (plain_header shared ts) ≡ Ok (opening_of (plain_header shared ts) coded) →
+        (opening has_global given).read bytes p ≡ Ok (record { value = opening_of (plain_header shared ts) coded; position = q })
+    opens_by has_global comes =
+        let there : (header_by (tables_for given.channels)).Stands bytes p (plain_header shared ts) q = any_tables OfColours (tables_for given.channels) bytes p (plain_header shared ts) q written stands in
+        let whole : (opening has_global given).Stands bytes p (opening_of (plain_header shared ts) coded) q = (plain_header shared ts, q, there, rw comes (refl, refl)) in
+        (exact-opening has_global given).stands_read bytes p (opening_of (plain_header shared ts) coded) q whole
+
     -- it comes to the coded channels
-    pub opens : {D : Type 0} (config : Config D) → opening_at (Some config) bytes given p ≡ Ok (record { value = opening_of (shared_header ts) coded; position = q })
-    opens config =
-        let comes : resolve true given (shared_header ts) ≡ Ok (opening_of (shared_header ts) coded) = rw (come, le-ltb 65536 (length coded.list.channels) count) refl in
-        let there : (header_by (tables_for given.channels)).Stands bytes p (shared_header ts) q = any_tables OfColours (tables_for given.channels) bytes p (shared_header ts) q written stands in
-        let whole : (opening true given).Stands bytes p (opening_of (shared_header ts) coded) q = (shared_header ts, q, there, rw comes (refl, refl)) in
-        (exact-opening true given).stands_read bytes p (opening_of (shared_header ts) coded) q whole
+    pub opens : coded_list ts given ≡ Ok coded → length coded.list.channels ≤ 65536 → {D : Type 0} (config : Config D) →
+        opening_at (Some config) bytes given p ≡ Ok (record { value = opening_of (plain_header shared ts) coded; position = q })
+    opens come count config = opens_by true (resolves ts given coded come count shared)
+
+-- one that uses the frame's tree
+pub uses_global : (ts : List Transform) (written : All IsWritten ts) (bytes : List ℕ) (p q : ℕ) → header.Stands bytes p (plain_header true ts) q → UsesGlobalAt bytes p
+uses_global ts written bytes p q stands = flag_is true ts written bytes p q stands
+
+same_flag : (x y : Found Bool) → ◌≡◌ {A = Result (Found Bool) ErrorAt} (Ok x) (Ok y) → x ≡ y
+same_flag x y e = cc
+
+not_true : false ≡ true → ⊥
+not_true e = cc
+
+-- one that has a tree of its own does not, and comes to the coded channels where no frame has a tree
+module _ (ts : List Transform) (written : All IsWritten ts) (bytes : List ℕ) (p q : ℕ) (stands : header.Stands bytes p (plain_header false ts) q) where
+  pub not_global : ¬ (UsesGlobalAt bytes p)
+  not_global h =
+      let (i, reads) = flag_is false ts written bytes p q stands in
+      let (j, other) = h in
+      not_true (ap (λ (f : Found Bool). f.value) (same_flag (record { value = false; position = i }) (record { value = true; position = j }) (sym reads ∙ other)))
+
+  pub opens_alone : (D : Type 0) (given : ChannelList) (coded : CodedList) → coded_list ts given ≡ Ok coded → length coded.list.channels ≤ 65536 →
+      opening_at {D = D} None bytes given p ≡ Ok (record { value = opening_of (plain_header false ts) coded; position = q })
+  opens_alone D given coded come count = opens_by false ts written bytes p q stands given coded false (resolves_alone ts given coded come count)

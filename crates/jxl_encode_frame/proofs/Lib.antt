@@ -1,4 +1,5 @@
 pub mod Headers
+pub mod Codewords
 pub mod Within
 pub mod Readers
 pub mod Ends

@@ -1,6 +1,5 @@
 -- The frame of a file, decoded to its picture.
-use Rattle.std.proofs.Common.{◌≡◌, ℕ, ℤ, List, refl, sym, subst}
-use Rattle.jxlm_base.specs.Grid.{Grid}
+use Rattle.std.proofs.Common.{List, refl, sym, subst}
 use Rattle.jxl_coding.specs.Parse.{decoder_at}
 use Rattle.jxl_coding.specs.Tokens.{entropy}
 use Rattle.jxl_codestream.specs.Fronts.{FrameAt}

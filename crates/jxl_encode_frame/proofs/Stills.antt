@@ -1,32 +1,33 @@
 -- Sections that were written are a frame.
-use Rattle.std.proofs.Common.{◌≡◌, ◌≢◌, ◌↔◌, ℕ, zero, suc, ◌+◌, ◌*◌, ◌/◌, ◌%◌, ◌<◌, ◌≤◌, ℤ, pos, List, [], ◌∷◌, length, map, get_or, true, false, inl, inr, Option, Some, None, Ok, refl, sym, ap, ◌∙◌, subst, arith}
-use Rattle.std.specs.Prelude.{Any, IsTrue, sum}
+use Rattle.std.proofs.Common.{◌≡◌, ◌≢◌, ◌↔◌, ℕ, ◌+◌, ◌*◌, ◌<◌, ◌≤◌, ℤ, pos, List, [], ◌∷◌, length, map, Bool, true, false, inl, inr, Option, Some, None, Ok, refl, sym, ap, subst, arith}
+use Rattle.std.specs.Prelude.{Any, IsTrue, MatchBool, sum, sum_by}
 use Rattle.std.specs.Int.{Width}
 use Rattle.std.specs.List.{All, AllPairs, AllZip}
 use Rattle.std.proofs.lemmas.List.Elements.{All-cons, All-head, All-nil, All-tail}
+use Rattle.std.proofs.lemmas.List.Sums.{sum_by-cons}
 use Rattle.jxlm_bits.specs.Bits.{bytes_of, position_of}
 use Rattle.jxlm_bits.specs.Decoding.{Meaning}
 use Rattle.jxlm_base.specs.Grid.{Grid}
 use Rattle.jxlm_base.specs.Regions.{grids_in}
 use Rattle.jxlm_chain.specs.Chain.{Chain}
 use Rattle.jxlm_chain.proofs.OneImage.{no_two_images}
-use Rattle.jxlm_groups.specs.Cutting.{can_cut}
 use Rattle.jxlm_groups.specs.Passes.{can_group, one_picture}
-use Rattle.jxlm_groups.specs.Pieces.{part_channels, pieces}
 use Rattle.jxlm_groups.specs.declared.part.SectionPart.{SectionPart}
 use Rattle.jxlm_groups.specs.declared.part.SectionPart.TheVariants as parts
 use Rattle.jxlm_groups.specs.declared.pass.Pass.{Pass}
 use Rattle.jxlm_groups.proofs.PartChannels.{few_channels}
-use Rattle.jxlm_header.specs.Opening.{Opening, opening_of}
+use Rattle.jxlm_header.specs.Header.{header}
+use Rattle.jxlm_header.specs.Opening.{Opening, depth_limit, node_limit, opening_of}
 use Rattle.jxlm_nested.specs.Starts.{IsStartAt, opening_at}
 use Rattle.jxlm_samples.specs.Coded.{IsCodedWhole}
 use Rattle.jxlm_samples.specs.Part.{cell_count}
-use Rattle.jxlm_transform.specs.Channels.{AreGridsOf, Channel, ChannelList, image_list}
+use Rattle.jxlm_transform.specs.Channels.{Channel, ChannelList, image_list}
 use Rattle.jxlm_transform.specs.ChannelSteps.{CodedList}
 use Rattle.jxlm_transform.specs.Params.{IsValidChannel}
 use Rattle.jxlm_transform.specs.declared.param.ModularChannelParams.{ModularChannelParams}
 use Rattle.jxlm_transform.specs.declared.param.PaletteTables.TheVariants.{OfColours}
 use Rattle.jxlm_tree.specs.Tree.{Config, depth}
+use Rattle.jxlm_tree.specs.TreeReading.{IsTreeAt}
 use Rattle.jxlm_section_split.proofs.Openings.{opened_steps}
 use Rattle.jxlm_section_split.proofs.Pictures.{HasPicture, still_picture}
 use Rattle.jxlm_encode_write.specs.Laws.{IsWritten}
@@ -44,10 +45,11 @@ use Rattle.jxl_lossless.proofs.Codewords.{sum_first}
 use Rattle.jxl_lossless.proofs.Complete.{all_ones, complete, each_one, sections_in_order}
 use Rattle.jxl_lossless.proofs.Order.{Before, Ordered}
 use Rattle.jxl_encode_image.specs.Preparations.{shared_header}
-use Rattle.jxl_encode_frame.specs.Codings.{AreSections}
+use Rattle.jxl_encode_frame.specs.Codings.{AreSections, part_by_tree}
 use Rattle.jxl_encode_frame.specs.Laws.{SectionsAreStill}
+use Rattle.jxl_encode_frame.proofs.Codewords.{each_once}
 use Rattle.jxl_encode_frame.proofs.Ends.{prepared_sides}
-use Rattle.jxl_encode_frame.proofs.Headers.{not_weighted, opens, uses_global}
+use Rattle.jxl_encode_frame.proofs.Headers.{not_weighted, opens, plain_header, uses_global}
 use Rattle.jxl_encode_image.proofs.Parts.{part_sides}
 use Rattle.jxl_encode_frame.proofs.Readers.{at_start, place_is, reader}
 use Rattle.jxl_encode_frame.proofs.Streams.{streams_rise}
@@ -56,7 +58,7 @@ use Rattle.jxl_encode_frame.proofs.Within.{header_ends}
 module _ {D : Type 0} (d : Meaning D) (w : Width) (config : Config D) (ps : List ModularChannelParams) (group_dim bit_depth : ℕ)
     (passes : List Pass) (layout : Layout) (first : List ℕ) (p : ℕ) (sections : List (List ℕ)) (deepest : ℕ) (image : List (Grid ℤ)) (low : depth config.tree ≤ deepest)
     (valid : All IsValidChannel ps) (one : IsTrue (one_picture (image_list ps).channels)) (can : IsTrue (can_group passes []))
-    (c : AreSections d w config (image_list ps) group_dim passes first p (section_of layout sections) image) where
+    (c : AreSections d w config (image_list ps) group_dim deepest passes first p (section_of layout sections) image) where
   abbrev given : ChannelList
   given = image_list ps
 
@@ -71,7 +73,7 @@ module _ {D : Type 0} (d : Meaning D) (w : Width) (config : Config D) (ps : List
   list = c.ready.coded.list
 
   opened : opening_at (Some config) first given p ≡ Ok (record { value = head; position = c.global.samples_at })
-  opened = opens c.ready.transforms c.ready.accepted.written first p c.global.samples_at c.global.header given c.ready.coded c.ready.accepted.come c.ready.count config
+  opened = opens true c.ready.transforms c.ready.accepted.written first p c.global.samples_at c.global.header given c.ready.coded c.ready.accepted.come c.ready.count config
 
   start : IsStartAt d (Some config) first given p head config c.global.samples_at
   start = record { tree_at = c.global.samples_at; header = opened; tree = (refl, refl) }
@@ -84,7 +86,7 @@ module _ {D : Type 0} (d : Meaning D) (w : Width) (config : Config D) (ps : List
 
   abbrev stands : Stands
   stands = record {
-    plain = not_weighted c.ready.transforms c.ready.accepted.written first p c.global.samples_at c.global.header;
+    plain = not_weighted true c.ready.transforms c.ready.accepted.written first p c.global.samples_at c.global.header;
     start = record { head = head; config = config; samples_at = c.global.samples_at; start = start };
   }
 
@@ -116,13 +118,6 @@ module _ {D : Type 0} (d : Meaning D) (w : Width) (config : Config D) (ps : List
   abbrev IsPlain : Section → Type 0
   IsPlain s = ¬ (IsWeightedAt (bytes_of s.bits) 0)
 
-  listed_plain : (qs : List SectionPart) (all : All IsOne qs) → All IsPlain (listed qs all)
-  listed_plain [] all = All-nil IsPlain
-  listed_plain (q ∷ qs) all =
-      let g = All-head IsOne q qs all in
-      let codes = (c.groups q g.0 g.1).3 in
-      All-cons IsPlain (of_part q g) (listed qs (All-tail IsOne q qs all)) (not_weighted [] (All-nil IsWritten) (c.groups q g.0 g.1).0 0 codes.samples_at codes.header) (listed_plain qs (All-tail IsOne q qs all))
-
   -- ---- what each codes
 
   abbrev cost : List Channel → ℕ
@@ -131,41 +126,69 @@ module _ {D : Type 0} (d : Meaning D) (w : Width) (config : Config D) (ps : List
   abbrev Codes : Section → ℕ → Type 0
   Codes s n = CodesPart d w (λ v. v) (pos 0) x passes (Some config) s (grids_in (pieces_of x passes s.part) c.ready.samples) n
 
-  group_nested : (part : SectionPart) (g : IsOne part) → CodesNested d w (λ v. v) (pos 0) x passes (Some config) (of_part part g) (grids_in (pieces_of x passes part) c.ready.samples) (cost (channels_in x passes part))
-  group_nested part g =
+  -- what holds of the section of a group
+  abbrev GroupCodes : (part : SectionPart) → IsOne part → Type 0
+  GroupCodes part g = IsPlain (of_part part g) × ((nodes : ℕ)
+      × ((codes : CodesNested d w (λ v. v) (pos 0) x passes (Some config) (of_part part g) (grids_in (pieces_of x passes part) c.ready.samples) nodes)
+      × (depth codes.start.config.tree ≤ deepest)))
+
+  -- with a header that uses the frame's tree, or has one of its own
+  group_by : (part : SectionPart) (g : IsOne part) (shared : Bool) (tree_at samples_at end : ℕ) (own : Config D) →
+      header.Stands (c.groups part g.0 g.1).0 0 (plain_header shared []) tree_at →
+      MatchBool shared ((◌≡◌ {A = Option (Config D)} (Some config) (Some own)) × (samples_at ≡ tree_at)) (IsTreeAt d (c.groups part g.0 g.1).0 (node_limit (channels_in x passes part)) depth_limit tree_at own samples_at) →
+      depth own.tree ≤ deepest →
+      IsCodedWhole d w (part_by_tree own (channels_in x passes part) (c.groups part g.0 g.1).1) (c.groups part g.0 g.1).0 own.decoder samples_at (grids_in (pieces_of x passes part) c.ready.samples) end → GroupCodes part g
+  group_by part g shared tree_at samples_at end own stands tree shallow coded =
       let bytes : List ℕ = (c.groups part g.0 g.1).0 in
-      let codes = (c.groups part g.0 g.1).3 in
-      let own : ChannelList = record { channels = channels_in x passes part; nb_meta = 0 } in
-      let alone : CodedList = record { steps = []; list = own } in
+      let given_list : ChannelList = record { channels = channels_in x passes part; nb_meta = 0 } in
+      let alone : CodedList = record { steps = []; list = given_list } in
       let sides = part_sides group_dim passes list part c.ready.samples in
       let few = few_channels group_dim passes list part in
-      let most = c.ready.count in
-      record {
-        start = record {
-          head = opening_of (shared_header []) alone;
-          config = config;
-          samples_at = codes.samples_at;
-          start = record {
-            tree_at = codes.samples_at;
-            header = opens [] (All-nil IsWritten) bytes 0 codes.samples_at codes.header own alone refl (omega (arith, few, most)) config;
-            tree = (refl, refl);
-          };
-        };
-        samples = grids_in (pieces_of x passes part) c.ready.samples;
-        coded = record { end = codes.end; coded = codes.coded; sizes = sides; costs = refl };
-        only = record { chain = (sides, refl); only = λ other chain. sym chain.1 };
-      }
+      let most = c.ready.count in (
+        not_weighted shared [] (All-nil IsWritten) bytes 0 tree_at stands,
+        (
+          cell_count (channels_in x passes part) * (depth own.tree + 1),
+          (
+            record {
+              start = record {
+                head = opening_of (plain_header shared []) alone;
+                config = own;
+                samples_at = samples_at;
+                start = record {
+                  tree_at = tree_at;
+                  header = opens shared [] (All-nil IsWritten) bytes 0 tree_at stands given_list alone refl (omega (arith, few, most)) config;
+                  tree = tree;
+                };
+              };
+              samples = grids_in (pieces_of x passes part) c.ready.samples;
+              coded = record { end = end; coded = coded; sizes = sides; costs = refl };
+              only = record { chain = (sides, refl); only = λ other chain. sym chain.1 };
+            },
+            shallow,
+          ),
+        ),
+      )
 
-  group_codes : (part : SectionPart) (g : IsOne part) → Codes (of_part part g) (cost (channels_in x passes part))
-  group_codes part g = group_nested part g
+  group_codes : (part : SectionPart) (g : IsOne part) → GroupCodes part g
+  group_codes part g =
+      elim (c.groups part g.0 g.1).3 [
+        | inl codes ↦ group_by part g true codes.samples_at codes.samples_at codes.end config codes.header (refl, refl) low codes.coded
+        | inr own ↦ group_by part g false own.0.tree_at own.0.samples_at own.0.end own.0.own own.0.header own.0.tree own.0.within own.0.coded
+      ]
 
-  abbrev costs : List SectionPart → List ℕ
-  costs [] = []
-  costs (q ∷ qs) = cost (channels_in x passes q) ∷ costs qs
+  listed_plain : (qs : List SectionPart) (all : All IsOne qs) → All IsPlain (listed qs all)
+  listed_plain [] all = All-nil IsPlain
+  listed_plain (q ∷ qs) all =
+      let g = All-head IsOne q qs all in
+      All-cons IsPlain (of_part q g) (listed qs (All-tail IsOne q qs all)) (group_codes q g).0 (listed_plain qs (All-tail IsOne q qs all))
 
-  listed_codes : (qs : List SectionPart) (all : All IsOne qs) → AllZip Codes (listed qs all) (costs qs)
+  abbrev costs : (qs : List SectionPart) → All IsOne qs → List ℕ
+  costs [] all = []
+  costs (q ∷ qs) all = (group_codes q (All-head IsOne q qs all)).1.0 ∷ costs qs (All-tail IsOne q qs all)
+
+  listed_codes : (qs : List SectionPart) (all : All IsOne qs) → AllZip Codes (listed qs all) (costs qs all)
   listed_codes [] all = tt
-  listed_codes (q ∷ qs) all = (group_codes q (All-head IsOne q qs all), listed_codes qs (All-tail IsOne q qs all))
+  listed_codes (q ∷ qs) all = ((group_codes q (All-head IsOne q qs all)).1.1.0, listed_codes qs (All-tail IsOne q qs all))
 
   abbrev of_global : Section
   of_global = record { part = parts.Global; bits = reader first c.global.samples_at header_within; stream_index = 0; nested = false }
@@ -185,36 +208,44 @@ module _ {D : Type 0} (d : Meaning D) (w : Width) (config : Config D) (ps : List
   IsShallow s = IsShallowAt d (Some config) (list_in x passes s.part) deepest (bytes_of s.bits) 0
 
   listed_shallow : (qs : List SectionPart) (all : All IsOne qs) → All IsShallow (listed qs all)
-  unfolding group_nested
   listed_shallow [] all = All-nil IsShallow
   listed_shallow (q ∷ qs) all =
       let g = All-head IsOne q qs all in
-      All-cons IsShallow (of_part q g) (listed qs (All-tail IsOne q qs all)) (inr (inl ((group_nested q g).start, low))) (listed_shallow qs (All-tail IsOne q qs all))
+      All-cons IsShallow (of_part q g) (listed qs (All-tail IsOne q qs all)) (inr (inl ((group_codes q g).1.1.0.start, (group_codes q g).1.1.1))) (listed_shallow qs (All-tail IsOne q qs all))
 
-  -- ---- no section has a tree of its own
+  -- ---- how many codewords the codes of sections' own trees may have
 
   abbrev Group : SectionPart → ℕ → Type 0
   Group part n = GroupHas d w (Some config) given group_dim bit_depth first p passes (section_of layout sections) stands part n
 
-  group_has : (part : SectionPart) (g : IsOne part) → Group part 0
+  group_has : (part : SectionPart) → IsOne part → (n : ℕ) × Group part n × (n ≤ c.codewords part)
   group_has part g =
-      let codes = (c.groups part g.0 g.1).3 in
-      ((c.groups part g.0 g.1).0, (c.groups part g.0 g.1).1, (c.groups part g.0 g.1).2, (None, inl (uses_global [] (All-nil IsWritten) (c.groups part g.0 g.1).0 0 codes.samples_at codes.header), refl))
+      let (bytes, stream, found, coded) = c.groups part g.0 g.1 in
+      elim coded [
+        | inl codes ↦ (0, (bytes, stream, found, (None, inl (uses_global [] (All-nil IsWritten) bytes 0 codes.samples_at codes.header), refl)), omega arith)
+        | inr own ↦ (c.codewords part, (bytes, stream, found, own.1), omega arith)
+      ]
 
-  groups_have : (qs : List SectionPart) → All IsOne qs → (ns : List ℕ) × AllZip Group qs ns × (sum ns ≡ 0)
-  groups_have [] all = ([], tt, refl)
+  groups_have : (qs : List SectionPart) → All IsOne qs → (ns : List ℕ) × AllZip Group qs ns × (sum ns ≤ sum_by c.codewords qs)
+  groups_have [] all = ([], tt, omega arith)
   groups_have (q ∷ qs) all =
-      let (ns, has, none) = groups_have qs (All-tail IsOne q qs all) in
-      let sum_is = sum_first 0 ns in
-      (0 ∷ ns, (group_has q (All-head IsOne q qs all), has), omega (arith, sum_is, none))
+      let (n, own, low) = group_has q (All-head IsOne q qs all) in
+      let (ns, has, least) = groups_have qs (All-tail IsOne q qs all) in
+      let sum_is = sum_first n ns in
+      let bound = sum_by-cons c.codewords q qs in
+      (n ∷ ns, (own, has), omega (arith, sum_is, bound, low, least))
 
   header_has : HasCodewords given first p 0
   header_has = (None, inl (uses_global c.ready.transforms c.ready.accepted.written first p c.global.samples_at c.global.header), refl)
 
+  in_order : (qs : List SectionPart) (ones : All IsOne qs) → (map (λ (s : Section). s.part) (listed qs ones) ≡ qs → Ordered Before (map (λ (s : Section). s.part) (listed qs ones))) → Ordered Before qs
+  in_order qs ones facts = subst (Ordered Before) (listed_parts qs ones) (facts (listed_parts qs ones))
+
   few : (n : ℕ) × HaveCodewords d w (Some config) given group_dim bit_depth first p passes (section_of layout sections) stands (groups_in_order x passes) n × (n ≤ most_codewords)
   few =
-      let (ns, has, none) = groups_have (groups_in_order x passes) (all_ones x passes) in
-      (sum ns, (0, header_has, ns, has, omega arith), omega (arith, none))
+      let (ns, has, least) = groups_have (groups_in_order x passes) (all_ones x passes) in
+      let most = c.few (groups_in_order x passes) (each_once (groups_in_order x passes) (in_order (groups_in_order x passes) (all_ones x passes) (λ are. sections_in_order x passes _ are))) in
+      (sum ns, (0, header_has, ns, has, omega arith), omega (arith, least, most))
 
   -- ---- all of them
 
@@ -248,7 +279,7 @@ module _ {D : Type 0} (d : Meaning D) (w : Width) (config : Config D) (ps : List
       coded = c.ready.samples;
       sizes = prepared_sides w given image c.ready;
       complete = complete;
-      costs = cost (channels_in x passes parts.Global) ∷ costs qs;
+      costs = cost (channels_in x passes parts.Global) ∷ costs qs ones;
       parts = (global_codes, listed_codes qs ones);
       only = record { chain = chain_given; only = λ other chain. no_two_images w bit_depth x.steps given other image c.ready.samples chain chain_given };
       counted = (omega arith, omega arith);

@@ -1,5 +1,5 @@
 -- The streams of groups, in the order of their sections.
-use Rattle.std.proofs.Common.{◌≡◌, ℕ, zero, suc, ◌+◌, ◌*◌, ◌<◌, inl, inr, Bool, true, false, List, get_or, nat_lt, if◌then◌else◌, Option, Some, None, refl, sym, ap, arith}
+use Rattle.std.proofs.Common.{◌≡◌, ℕ, zero, suc, ◌+◌, ◌*◌, ◌<◌, inl, inr, Bool, true, false, List, get_or, nat_lt, if◌then◌else◌, Option, Some, None, sym, ap, arith}
 use Rattle.std.specs.Prelude.{◌&&◌, slice_get, map}
 use Rattle.std.specs.Option.{option_map, option_map_or}
 use Rattle.std.specs.List.{All, AllPairs}

@@ -1,5 +1,5 @@
 -- A header ends within the bytes.
-use Rattle.std.proofs.Common.{◌≡◌, ℕ, zero, suc, ◌+◌, ◌*◌, ◌≤◌, Bool, true, false, List, length, Result, Ok, Err, refl, arith}
+use Rattle.std.proofs.Common.{ℕ, zero, suc, ◌*◌, ◌≤◌, Bool, true, false, List, length, Result, Ok, Err, arith}
 use Rattle.std.specs.Prelude.{◌==◌, MatchBool}
 use Rattle.jxlm_bits.specs.ErrorKind.{ErrorKind}
 use Rattle.jxlm_bits.specs.Grammar.{from_result, number, part, repeated, u32}

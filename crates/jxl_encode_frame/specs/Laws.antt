@@ -38,17 +38,17 @@ use Rattle.jxl_encode_frame.specs.Codings.{AreSections, FrameCoding, IsOneSectio
 
 -- Where one section has all samples of an image, no group needs one.
 abbrev pub OneSectionIsAll : {D : Type 0} → Meaning D → Type 0
-OneSectionIsAll {D} d = (w : Width) (config : Config D) (given : List ModularChannelParams) (group_dim : ℕ) (passes : List Pass) (bytes : List ℕ) (p : ℕ)
+OneSectionIsAll {D} d = (w : Width) (config : Config D) (given : List ModularChannelParams) (group_dim deepest : ℕ) (passes : List Pass) (bytes : List ℕ) (p : ℕ)
     (section_of : SectionPart → Option (List ℕ × ℕ)) (image : List (Grid ℤ)) →
-    IsOneSection d w config (image_list given) group_dim bytes p image → AreSections d w config (image_list given) group_dim passes bytes p section_of image
+    IsOneSection d w config (image_list given) group_dim bytes p image → AreSections d w config (image_list given) group_dim deepest passes bytes p section_of image
 
 -- The sections of an image are a frame of it, as the decoder defines it: its channels are of one picture, the passes can cut it,
--- and the tree that they share is not too deep.
+-- and the tree that they share is not too deep. Nor is one of a group's own.
 abbrev pub SectionsAreStill : {D : Type 0} → Meaning D → Width → Type 0
 SectionsAreStill {D} d w = (config : Config D) (given : List ModularChannelParams) (group_dim bit_depth : ℕ) (passes : List Pass) (layout : Layout)
     (first : List ℕ) (p : ℕ) (sections : List (List ℕ)) (deepest : ℕ) (image : List (Grid ℤ)) → depth config.tree ≤ deepest →
     All IsValidChannel given → IsTrue (one_picture (image_list given).channels) → IsTrue (can_group passes []) →
-    AreSections d w config (image_list given) group_dim passes first p (section_of layout sections) image → (before : ℕ) → (after : ℕ) ×
+    AreSections d w config (image_list given) group_dim deepest passes first p (section_of layout sections) image → (before : ℕ) → (after : ℕ) ×
     IsStill d w (Some config) (image_list given) group_dim bit_depth first p passes (section_of layout sections) deepest image before after
 
 -- the channel is of a picture of this size

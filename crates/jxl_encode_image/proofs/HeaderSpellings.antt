@@ -1,5 +1,5 @@
--- Spellings of a header that uses the frame's tree.
-use Rattle.std.proofs.Common.{◌≡◌, ℕ, ◌≤◌, List, [], ◌∷◌, true, refl}
+-- Spellings of a header that uses the frame's tree, or has one of its own.
+use Rattle.std.proofs.Common.{◌≡◌, ℕ, ◌≤◌, List, [], ◌∷◌, true, false, refl}
 use Rattle.jxlm_bits.specs.Grammar.{flag, number, u32}
 use Rattle.jxlm_bits.specs.declared.bits.U32Spec.TheVariants.{Const, Offset}
 use Rattle.jxlm_bit_writer.specs.Writes.{Spells}
@@ -8,7 +8,7 @@ use Rattle.jxlm_header.specs.Header.{header}
 use Rattle.jxlm_transform.specs.Transforms.{OfRct, Transform, begin_channel, transform}
 use Rattle.jxlm_transform.specs.declared.transform.Rct.{Rct}
 use Rattle.jxlm_weighted.specs.WeightsHeader.{default_weights}
-use Rattle.jxl_encode_image.specs.Preparations.{colour_transforms, shared_header}
+use Rattle.jxl_encode_image.specs.Preparations.{colour_transforms, own_header, shared_header}
 use Rattle.jxl_encode_image.specs.Inner.Lists.{transform_list}
 
 pub colour_spelled : (t : Rct) (b0 b1 b2 b3 : List ℕ) → Spells b0 b1 (number 2) 0 → Spells b1 b2 begin_channel t.begin_c → Spells b2 b3 (u32 (Const 6) (Offset 0 2) (Offset 2 4) (Offset 10 6)) t.rct_type →
@@ -27,3 +27,7 @@ header_spelled ts b0 b1 b2 b3 f g l =
     becomes (after f (after g l)) (λ bytes p q s.
     let (count, k, counted, listed) = s.2.2 in
     (true, s.0, s.1, (default_weights, s.2.0, (true, s.2.0, s.2.1, (refl, refl)), (count, k, counted, (ts, q, listed, (refl, refl))))))
+
+pub own_spelled : (b0 b1 b2 b3 : List ℕ) → Spells b0 b1 flag false → Spells b1 b2 flag true → Spells b2 b3 (u32 (Const 0) (Const 1) (Offset 2 4) (Offset 18 8)) 0 → Spells b0 b3 header own_header
+own_spelled b0 b1 b2 b3 f g u =
+    becomes (after f (after g u)) (λ bytes p q s. (false, s.0, s.1, (default_weights, s.2.0, (true, s.2.0, s.2.1, (refl, refl)), (0, q, s.2.2, ([], q, (refl, refl), (refl, refl))))))

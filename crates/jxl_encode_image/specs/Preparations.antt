@@ -1,6 +1,6 @@
 -- What an encoder makes of an image before it writes samples: a header, and coded samples (ISO/IEC 18181-1, Modular: Modular
 -- header, TransformInfo).
-use Rattle.std.specs.Prelude.{ℕ, ◌≤◌, ℤ, List, [], ◌∷◌, length, true, Option, None, Some}
+use Rattle.std.specs.Prelude.{ℕ, ◌≤◌, ℤ, List, [], ◌∷◌, length, true, false, Option, None, Some}
 use Rattle.std.specs.Int.{Width}
 use Rattle.jxlm_base.specs.Grid.{Grid}
 use Rattle.jxlm_chain.specs.Chain.{Chain}
@@ -15,6 +15,10 @@ use Rattle.jxlm_encode.specs.Encoded.{AreAccepted}
 -- a header that uses the frame's tree, with the default weights and these transforms
 abbrev pub shared_header : List Transform → Header
 shared_header ts = record { use_global_tree = true; wp_params = default_weights; transform = ts }
+
+-- a header that has a tree of its own, with the default weights and without transforms
+abbrev pub own_header : Header
+own_header = record { use_global_tree = false; wp_params = default_weights; transform = [] }
 
 -- a colour transform, if there is one
 abbrev pub colour_transforms : Option Rct → List Transform

@@ -1,17 +1,19 @@
 -- Sections that were written, in a frame of a codestream.
-use Rattle.std.proofs.Common.{◌≡◌, ◌≤◌, ℕ, ℤ, List, [], ◌∷◌, get_or, Some, refl, sym, subst, arith}
+use Rattle.std.proofs.Common.{◌≡◌, ◌≤◌, ℕ, ℤ, List, [], ◌∷◌, get_or, inl, inr, Option, Some, refl, sym, subst, arith}
 use Rattle.std.specs.Int.{w32}
 use Rattle.std.specs.Prelude.{slice_get}
 use Rattle.jxlm_base.specs.Grid.{Grid}
 use Rattle.jxlm_groups.specs.Passes.{passes_of}
+use Rattle.jxlm_groups.specs.declared.part.SectionPart.{SectionPart}
 use Rattle.jxlm_groups.specs.declared.pass.Pass.{Pass}
 use Rattle.jxlm_section_split.specs.CutPicture.{one_pass}
 use Rattle.jxlm_transform.specs.Channels.{ChannelList}
+use Rattle.jxlm_tree.specs.Tree.{Config}
 use Rattle.jxl_codestream.specs.Fronts.{FrameAt, layout_in}
 use Rattle.jxl_codestream.specs.Layouts.{Layout}
 use Rattle.jxl_codestream.specs.Starts.{tree_limit}
 use Rattle.jxl_coding.specs.Parse.{decoder_at}
-use Rattle.jxl_coding.specs.Tokens.{entropy}
+use Rattle.jxl_coding.specs.Tokens.{Entropy, entropy}
 use Rattle.jxl_encode_frame.specs.Codings.{AreSections, FrameCoding}
 use Rattle.jxl_encode_sections.specs.Laws.{SectionsAreCoding}
 use Rattle.jxl_encode_sections.specs.Sections.{AreFrameSections}
@@ -27,6 +29,39 @@ use Rattle.jxl_picture.specs.Limits.{channel_count}
 got : (sections : List (List ℕ)) (first : List ℕ) → slice_get sections 0 ≡ Some first → first ≡ get_or sections 0 []
 got [] first e = cc
 got (x ∷ xs) first e = cc
+
+-- trees that are at most this deep are at most as deep as a greater number
+deeper : (config : Config Entropy) (given : ChannelList) (dim deepest most : ℕ) (passes : List Pass) (first : List ℕ) (p : ℕ) (sections : SectionPart → Option (List ℕ × ℕ)) (grids : List (Grid ℤ)) → deepest ≤ most →
+    AreSections (entropy decoder_at) w32 config given dim deepest passes first p sections grids → AreSections (entropy decoder_at) w32 config given dim most passes first p sections grids
+deeper config given dim deepest most passes first p sections grids le s = record {
+  ready = s.ready;
+  cut = s.cut;
+  global = s.global;
+  codewords = s.codewords;
+  few = s.few;
+  groups = λ part other some.
+      let found = s.groups part other some in (
+        found.0,
+        found.1,
+        found.2,
+        elim found.3 [
+          | inl codes ↦ inl codes
+          | inr o ↦ inr (
+            record {
+              tree_at = o.0.tree_at;
+              header = o.0.header;
+              own = o.0.own;
+              samples_at = o.0.samples_at;
+              tree = o.0.tree;
+              within = let low = o.0.within in omega (arith, low, le);
+              end = o.0.end;
+              coded = o.0.coded;
+            },
+            o.1,
+          )
+        ],
+      );
+}
 
 module _ (image : Image) (bytes : List ℕ) (frame : FrameAt) (deepest : ℕ) (grids : List (Grid ℤ)) where
   abbrev size : Size
@@ -47,8 +82,9 @@ module _ (image : Image) (bytes : List ℕ) (frame : FrameAt) (deepest : ℕ) (g
     end = made.end;
     tree = made.tree;
     within = let below = made.within in omega (arith, below, most);
-    sections = subst (λ (ps : List Pass). AreSections (entropy decoder_at) w32 made.config (channels_given image size) frame.header.group_dim ps made.first made.end (section_of (layout_in image frame.header) (sections_in bytes frame)) grids)
-        (sym passes) made.sections_are;
+    sections = subst (λ (ps : List Pass). AreSections (entropy decoder_at) w32 made.config (channels_given image size) frame.header.group_dim frame.deepest ps made.first made.end (section_of (layout_in image frame.header) (sections_in bytes frame)) grids)
+        (sym passes)
+        (deeper made.config (channels_given image size) frame.header.group_dim deepest frame.deepest one_pass made.first made.end (section_of (layout_in image frame.header) (sections_in bytes frame)) grids most made.sections_are);
   }
 
 pub written_are_coding : SectionsAreCoding

@@ -1,10 +1,10 @@
 -- Sections by the tokens of a coded image are those of its frame.
-use Rattle.std.proofs.Common.{◌≡◌, ◌≢◌, ◌∙◌, ℕ, ◌<◌, ◌≤◌, ℤ, List, [], ◌∷◌, map, true, IsTrue, Ok, sym, ap, subst, arith}
+use Rattle.std.proofs.Common.{◌≡◌, ◌≢◌, ◌∙◌, ℕ, ◌<◌, ◌≤◌, ℤ, List, [], ◌∷◌, length, map, inl, inr, true, IsTrue, Some, Ok, refl, sym, ap, subst, arith}
 use Rattle.std.specs.Global.{Vec}
 use Rattle.std.specs.Int.{Width}
 use Rattle.std.specs.List.{All}
-use Rattle.std.specs.Option.{IfSome}
-use Rattle.std.specs.Prelude.{Option}
+use Rattle.std.specs.Option.{IfSome, option_map}
+use Rattle.std.specs.Prelude.{Option, slice_get}
 use Rattle.std.proofs.lemmas.List.{length-map}
 use Rattle.std.proofs.lemmas.List.Elements.{All-contains, All-cons, All-head, All-map, All-nil, All-tail, All-weaker}
 use Rattle.jxlm_base.specs.Grid.{Grid}
@@ -41,10 +41,12 @@ use Rattle.jxl_encode_tree.specs.Trees.{IsClusteredTree}
 use Rattle.jxl_image_header.specs.declared.size.Size.{Size}
 use Rattle.jxl_encode_sections.specs.Sections.{AreFrameSections, IsFirstSection}
 use Rattle.jxl_encode_sections.specs.Inner.Frames.{AreTokensOfFrame, AreWrittenSections}
-use Rattle.jxl_encode_sections.specs.Inner.Groups.{HasSection, HaveTokens}
+use Rattle.jxl_encode_sections.specs.Inner.Groups.{HasSection, HaveTokens, MayHaveOwn}
 use Rattle.jxl_encode_sections.specs.Inner.Parts.{AreTokensIn, CodedSamples, part_grids, part_of}
+use Rattle.jxl_lossless.specs.Codewords.{most_codewords}
 use Rattle.jxl_encode_sections.specs.declared.frame.FrameTokens.{FrameTokens}
 use Rattle.jxl_encode_sections.specs.declared.parts.PartTokens.{PartTokens}
+use Rattle.jxl_encode_sections.proofs.FirstSections.{global_is_first}
 use Rattle.jxl_encode_sections.proofs.Frames.{frame_sections}
 use Rattle.jxl_encode_sections.proofs.LeafClusters.{leaves_below, numbers_below}
 use Rattle.jxl_encode_sections.proofs.OneGroup.{all_global}
@@ -116,7 +118,16 @@ module _ {S : Type 0} (to_int : S → ℤ) (w : Width) (colour : Option Rct) (gi
 
   module _ (cells : IsTrue (can_cut dim (image_list given))) (nodes : List EncodeNode) (clusters : List ℕ) (limits : MaConfigParams) (t : Shape Leaf) (is_tree : IsClusteredTree nodes clusters limits t) (few : limits.depth_limit ≤ 2048)
       (codes : StreamWriter) (same : codes.clusters.items ≡ clusters) (tokens : FrameTokens) (are : AreTokensOfFrame w dim in_store t l tokens) (sections : List (Vec ℕ))
-      (written : AreWrittenSections nodes codes (colour_transforms colour) l tokens sections) where
+      (written : AreWrittenSections nodes codes (colour_transforms colour) l tokens sections) (final : List (Vec ℕ)) (count : length final ≡ section_count_of l)
+      (own : MayHaveOwn w dim limits.depth_limit one_pass in_store l sections final most_codewords 0) where
+    -- the first section is still there
+    first_kept : slice_get (map (λ (v : Vec ℕ). v.items) final) 0 ≡ Some written.first
+    first_kept =
+        elim (own.1 parts.Global) [
+          | inl same ↦ global_is_first l final written.first (stream_index l parts.Global) (same ∙ ap (option_map {U = List ℕ × ℕ} (λ (b : List ℕ). (b, stream_index l parts.Global))) written.first_is)
+          | inr o ↦ absurd (o.0 refl)
+        ]
+
     found : (part : SectionPart) → part ≢ parts.Global → 0 < cell_count (part_channels dim one_pass coded.ready.coded.list part) → HasSection codes l tokens.groups.items sections part
     found part other some =
         let among = are.groups.each part other (subst (λ (m : ChannelList). 0 < cell_count (part_channels dim one_pass m part)) coded.list_is some) in
@@ -124,10 +135,10 @@ module _ {S : Type 0} (to_int : S → ℤ) (w : Width) (colour : Option Rct) (gi
         (All-map (HasSection codes l tokens.groups.items sections) (λ (p : PartTokens). p.part) tokens.groups.items written.groups) among
 
     -- the sections are those of the frame
-    pub encoded : AreFrameSections w (image_list given) l dim limits.node_limit limits.depth_limit (map (λ v. v.items) sections) image
+    pub encoded : AreFrameSections w (image_list given) l dim limits.node_limit limits.depth_limit (map (λ v. v.items) final) image
     encoded =
         frame_sections w (image_list given) image coded.ready l dim nodes clusters limits t is_tree few codes same (subst (λ (m : ChannelList). IsTrue (can_cut dim m)) (sym kept) cells) tokens.global.items written.first written.end
         (subst (λ (ts : List Transform). IsFirstSection nodes codes ts tokens.global.items written.first 0 written.end) (sym coded.transforms_are) written.is_first)
         (subst (λ (x : CodedSamples). AreTokensIn w dim one_pass x t parts.Global 0 tokens.global.items) same_samples are.global) tokens.groups.items
-        (subst (λ (x : CodedSamples). All (HaveTokens w dim one_pass x t l) tokens.groups.items) same_samples are.tokens) sections found written.count written.first_is
-        (length-map sections (λ (v : Vec ℕ). v.items))
+        (subst (λ (x : CodedSamples). All (HaveTokens w dim one_pass x t l) tokens.groups.items) same_samples are.tokens) sections final found
+        (subst (λ (x : CodedSamples). MayHaveOwn w dim limits.depth_limit one_pass x l sections final most_codewords 0) same_samples own) count first_kept (length-map final (λ (v : Vec ℕ). v.items))

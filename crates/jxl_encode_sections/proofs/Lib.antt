@@ -8,5 +8,7 @@ pub mod GroupLists
 pub mod FirstSections
 pub mod LeafClusters
 pub mod OneGroup
+pub mod AlphabetSums
+pub mod OwnTrees
 pub mod EncodedFrames
 pub mod Codings

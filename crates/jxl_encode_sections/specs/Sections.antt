@@ -18,7 +18,7 @@ use Rattle.jxl_coding.specs.Parse.{decoder_at}
 use Rattle.jxl_coding.specs.Tokens.{Entropy, entropy}
 use Rattle.jxl_coding_stream_write.specs.declared.stream.StreamWriter.{StreamWriter}
 use Rattle.jxl_encode_frame.specs.Codings.{AreSections}
-use Rattle.jxl_encode_image.specs.Preparations.{shared_header}
+use Rattle.jxl_encode_image.specs.Preparations.{own_header, shared_header}
 use Rattle.jxl_encode_tree.specs.Samples.{AreCoded}
 use Rattle.jxl_encode_tree.specs.Trees.{IsWrittenTree}
 use Rattle.jxl_lossless.specs.Sections.{section_of}
@@ -39,8 +39,17 @@ pub record IsFirstSection (nodes : List EncodeNode) (codes : StreamWriter) (ts :
   pub tree : IsWrittenTree nodes codes bytes tree_at tree_end
   pub samples : AreBehindHeader codes ts tokens bytes tree_end q
 
+-- From bit p up to bit q are a header that has a tree of its own, the tree of these nodes with these codes at its leaves, and the
+-- samples of each part that has these tokens.
+pub record IsOwnSection (nodes : List EncodeNode) (codes : StreamWriter) (tokens : List Token) (bytes : List ℕ) (p q : ℕ) : Type 0 where
+  pub tree_at : ℕ
+  pub header : header.Stands bytes p own_header tree_at
+  pub tree_end : ℕ
+  pub tree : IsWrittenTree nodes codes bytes tree_at tree_end
+  pub coded : AreCoded codes tokens bytes tree_end q
+
 -- These are the sections of a frame of one pass, which is cut like this: the first begins with the default factors and the tree
--- that all share, which is within these limits, and from there on they have these channels.
+-- that they share, which is within these limits, and from there on they have these channels. Some groups have trees of their own.
 pub record AreFrameSections (w : Width) (given : ChannelList) (l : Layout) (group_dim node_limit deepest : ℕ) (sections : List (List ℕ)) (image : List (Grid ℤ)) : Type 0 where
   pub count : length sections ≡ section_count_of l
   pub first : List ℕ
@@ -51,4 +60,4 @@ pub record AreFrameSections (w : Width) (given : ChannelList) (l : Layout) (grou
   pub end : ℕ
   pub tree : IsTreeAt (entropy decoder_at) first node_limit 2048 tree_at config end
   pub within : depth config.tree ≤ deepest
-  pub sections_are : AreSections (entropy decoder_at) w config given group_dim one_pass first end (section_of l sections) image
+  pub sections_are : AreSections (entropy decoder_at) w config given group_dim deepest one_pass first end (section_of l sections) image

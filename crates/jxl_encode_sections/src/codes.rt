@@ -3,12 +3,14 @@
 ghost use Rattle.std.specs.Prelude.{◌≡◌, ◌<◌, ◌≤◌, ◌++◌, Ok, IfOk};
 ghost use Rattle.std.specs.List.{All};
 ghost use Rattle.jxl_coding.specs.Clusters.{count_of};
+ghost use Rattle.jxl_coding_stream_write.specs.Codes.{codes_of};
 ghost use Rattle.jxl_coding_stream_write.specs.Heads.{IsHead};
 ghost use Rattle.jxl_coding_stream_write.specs.Tokens.{HasSlot};
 ghost use Rattle.jxl_encode_sections.specs.Inner.Parts.{all_tokens};
 
 use crate::parts::PartTokens;
 use jxl_coding_build::streams::writer_for;
+use jxl_coding_codes::fields::power;
 use jxl_coding_stream_write::stream::StreamWriter;
 use jxlm_base::grid::OutOfMemory;
 use jxlm_bit_writer::token::Token;
@@ -67,4 +69,11 @@ pub(crate) fn codes_for(
     let own = copied(alloc, clusters)?;
     let codes = writer_for(alloc, own, many, &tokens)?;
     Ok(codes)
+}
+
+/// How many codewords these codes may have: the sum of the sizes of their alphabets.
+pub(crate) fn codewords_of(codes: &StreamWriter) -> u64
+    ensures { result ≡ (codes_of codes.now).alphabets }
+{
+    codes.codes.len() as u64 * u64::from(power(codes.log))
 }

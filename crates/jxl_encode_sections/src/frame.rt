@@ -35,6 +35,7 @@ ghost use Rattle.jxlm_tree.specs.Tree.{AllLeaves};
 use crate::codes::codes_for;
 use crate::groups::{CutImage, put_groups, tokens_of_parts};
 use crate::list::{groups_of, one_pass};
+use crate::own::{GroupTree, put_own_sections};
 use crate::parts::{PartTokens, part_tokens};
 use crate::section::first_section;
 use jxl_codestream::layout::Layout;
@@ -54,7 +55,8 @@ use jxlm_transform::transform::Rct;
 use jxlm_tree::ma::MaConfigParams;
 use std::alloc::{AllocError, Global};
 
-/// The tree of a frame: its nodes, and the cluster of each leaf, in the order of the leaves.
+/// The tree of a frame: its nodes, and the cluster of each leaf, in the order of the leaves; and trees that groups may have
+/// of their own.
 #[derive(Clone, Copy)]
 pub struct FrameTree<'a> {
     /// Its nodes, level by level, the left child before the right.
@@ -63,6 +65,8 @@ pub struct FrameTree<'a> {
     pub clusters: &'a [u8],
     /// How large it may be in this frame.
     pub limits: MaConfigParams,
+    /// Trees that groups may have of their own, at most as deep as that of the frame may be.
+    pub own: &'a [GroupTree],
 }
 
 /// How a frame is cut.
@@ -146,7 +150,7 @@ fn written(
 }
 
 /// The sections of a frame of one pass with these channels, all of one size, by a colour transform, if there is one.
-/// They have the grids, whatever else is in the file.
+/// They have the grids, whatever else is in the file. A group has a tree of its own where its section is shorter by it.
 ///
 /// # Errors
 ///
@@ -189,6 +193,10 @@ pub fn encode_sections<S: Sample>(
     };
     let tokens = frame_tokens(alloc, &image)?;
     let codes = codes_for(alloc, tree.clusters, many, &tokens.global, &tokens.groups)?;
-    let sections = written(alloc, cut.layout, tree.nodes, &codes, colour, &tokens)?;
+    let mut sections = written(alloc, cut.layout, tree.nodes, &codes, colour, &tokens)?;
+    let deepest = tree.limits.depth_limit;
+    let Ok(()) = put_own_sections(alloc, &mut sections, &image, tree.own, deepest) else {
+        return Err(EncodeError::OutOfMemory);
+    };
     Ok(sections)
 }

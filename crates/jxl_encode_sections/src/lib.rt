@@ -7,5 +7,6 @@ pub mod frame;
 mod groups;
 pub mod laws;
 mod list;
+pub mod own;
 mod parts;
 mod section;

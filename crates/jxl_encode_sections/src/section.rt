@@ -10,11 +10,11 @@ ghost use Rattle.jxlm_transform.specs.Transforms.{IsRct};
 ghost use Rattle.jxl_coding_stream_write.specs.Heads.{IsHead};
 ghost use Rattle.jxl_coding_stream_write.specs.Tokens.{HasSlot};
 ghost use Rattle.jxl_encode_image.specs.Preparations.{colour_transforms};
-ghost use Rattle.jxl_encode_sections.specs.Sections.{AreBehindHeader, IsFirstSection};
+ghost use Rattle.jxl_encode_sections.specs.Sections.{AreBehindHeader, IsFirstSection, IsOwnSection};
 
 use jxl_codestream_write::start::write_section_start;
 use jxl_coding_stream_write::stream::StreamWriter;
-use jxl_encode_image::header::write_shared_header;
+use jxl_encode_image::header::{write_own_header, write_shared_header};
 use jxl_encode_tree::samples::write_samples;
 use jxl_encode_tree::tree::write_tree;
 use jxlm_bit_writer::token::Token;
@@ -79,6 +79,29 @@ pub(crate) fn first_section(
     write_section_start(&mut bits, true)?;
     write_tree(alloc, &mut bits, nodes, codes)?;
     write_part(alloc, &mut bits, codes, colour, tokens)?;
+    let bytes = bits.into_bytes()?;
+    Ok(bytes)
+}
+
+/// The section of a group by a tree of its own: a header without transforms, the tree, and the samples of the group by
+/// their tokens.
+pub(crate) fn own_section(
+    alloc: Global,
+    nodes: &[EncodeNode],
+    codes: &StreamWriter,
+    tokens: &[Token],
+) -> Result<Vec<u8>, AllocError>
+    requires properties { All (λ n. has_token n ≡ true) nodes.now }
+    requires few { length nodes.now ≤ 2 ^ 26 }
+    requires head { IsHead codes.now }
+    requires contexts { length codes.now.clusters.items ≡ leaves_in nodes.now }
+    requires slots { All (HasSlot codes.now.codes.items) tokens.now }
+    ensures { IfOk result (λ v. (end : ℕ) × IsOwnSection nodes.now codes.now tokens.now v.items 0 end) }
+{
+    let mut bits = BitWriter::new(alloc);
+    write_own_header(&mut bits)?;
+    write_tree(alloc, &mut bits, nodes, codes)?;
+    write_samples(alloc, &mut bits, codes, tokens)?;
     let bytes = bits.into_bytes()?;
     Ok(bytes)
 }

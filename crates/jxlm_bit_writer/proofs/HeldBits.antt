@@ -44,7 +44,7 @@ low_bytes i (suc k) v =
     ∙ sym (digits_split 8 (8 * k) (v / 2 ^ (8 * i)))
     ∙ ap (λ n. digits n (v / 2 ^ (8 * i))) (sym more)
 
-pub first_bytes : (k v : ℕ) → bits_of (bytes_low_first 0 k v) ≡ digits (8 * k) v
+first_bytes : (k v : ℕ) → bits_of (bytes_low_first 0 k v) ≡ digits (8 * k) v
 first_bytes k v = low_bytes 0 k v ∙ ap (digits (8 * k)) (div-one v)
 
 -- what a put adds to the held number, as the machine computes it

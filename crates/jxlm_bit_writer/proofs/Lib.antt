@@ -2,4 +2,3 @@ pub mod BitLists
 pub mod FieldLaws
 pub mod HeldBits
 pub mod WriteLaws
-pub mod WordsBack

@@ -1,7 +1,7 @@
 //! Bits written, least significant first (ISO/IEC 18181-1, bit packing).
 
 ghost use Rattle.std.specs.Prelude.{◌≡◌, ◌≤◌, [], ◌++◌, IfOk};
-ghost use Rattle.jxlm_bit_writer.specs.Written.{digits, words_back, AreFilled};
+ghost use Rattle.jxlm_bit_writer.specs.Written.{digits, AreFilled};
 
 use std::alloc::{AllocError, Global};
 use std::marker::Model;
@@ -57,26 +57,6 @@ impl BitWriter {
             self.bytes.extend_from_slice(&word.to_le_bytes())?;
             self.held = held >> 32;
             self.count = count - 32;
-        }
-        Ok(())
-    }
-
-    /// Adds 32 bits of each of these words, the last word first.
-    #[inline]
-    pub fn put_words_back(&mut self, words: &[u32]) -> Result<(), AllocError>
-        ensures { IfOk result (λ _. self.new ≡ self.old ++ words_back words.now) }
-    {
-        let n = words.len();
-        for i in 0..n / 2 {
-            let first = words[n - 1 - 2 * i];
-            let second = words[n - 2 - 2 * i];
-            let pair = u64::from(first) + (u64::from(second) << 32);
-            let all = self.held.wrapping_add(pair << self.count);
-            self.bytes.extend_from_slice(&all.to_le_bytes())?;
-            self.held = u64::from(second) >> (32 - self.count);
-        }
-        if n % 2 == 1 {
-            self.put(words[0], 32)?;
         }
         Ok(())
     }

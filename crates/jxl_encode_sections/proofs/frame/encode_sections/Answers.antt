@@ -63,4 +63,5 @@ returns-clause-ok g c =
     let coded = c.in_ok-coded.ensures in
     encoded g.S.Sealed.to_int g.S.Sealed.width c.args.colour c.args.given.now c.requires.suits (store_meanings g.S.Sealed.to_int c.args.grids.items) c.in_ok-coded.coded.channels c.in_ok-coded.coded.store.items coded
     c.args.cut.now.group_dim c.requires.group_dim c.requires.valid frame.0 frame.1 (parts_of c.args.cut.now.layout.now) frame.2 c.requires.cells c.args.tree.now.nodes.now c.args.tree.now.clusters.now c.args.tree.now.limits
-    c.in_ok-config.config.tree c.in_ok-config.ensures.ok c.requires.depth c.in_ok-codes.codes c.in_ok-codes.ensures.clusters c.in_ok-tokens.tokens c.in_ok-tokens.ensures c.in_ok-sections.sections.items c.in_ok-sections.ensures
+    c.in_ok-config.config.tree c.in_ok-config.ensures.ok c.requires.depth c.in_ok-codes.codes c.in_ok-codes.ensures.clusters c.in_ok-tokens.tokens c.in_ok-tokens.ensures c.in_ok-sections.sections.items c.in_ok-sections.ensures c.put_own_sections.new.sections.items c.in-Ok-put_own_sections.ensures.count
+    c.in-Ok-put_own_sections.ensures.own

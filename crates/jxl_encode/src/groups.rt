@@ -1,0 +1,148 @@
+//! Trees that groups of a picture may have of their own, learnt from the samples of each.
+
+use crate::advice::{Advice, group_scheme};
+use crate::effort::Effort;
+use crate::frame::GROUP_DIM;
+use jxl_encode_sections::own::GroupTree;
+use jxl_picture::picture::Picture;
+use jxlm_base::grid::{AlignedGrid, OutOfMemory};
+use jxlm_groups::part::SectionPart;
+use std::alloc::Global;
+
+/// The side of a group.
+const SIDE: usize = GROUP_DIM as usize;
+
+/// The trees that groups may have of their own: without a colour transform, and with one.
+#[derive(Drop)]
+pub(crate) struct OwnTrees {
+    plain: Vec<GroupTree>,
+    luma: Vec<GroupTree>,
+}
+
+impl OwnTrees {
+    /// Those of groups that are coded by this colour transform.
+    pub(crate) fn by(&self, colour: Option<u32>) -> &[GroupTree] {
+        if colour.is_some() {
+            &self.luma
+        } else {
+            &self.plain
+        }
+    }
+}
+
+/// Copies the samples of a row from this column on.
+fn copy_piece(piece: &mut [i32], row: &[i32], left: usize) {
+    for x in 0..piece.len() {
+        piece[x] = row.get(left.saturating_add(x)).copied().unwrap_or(0);
+    }
+}
+
+/// The samples of a channel in the group that begins in this column and row.
+fn cropped(
+    alloc: Global,
+    grid: &AlignedGrid<i32>,
+    left: usize,
+    top: usize,
+) -> Result<AlignedGrid<i32>, OutOfMemory> {
+    let width = grid.width().saturating_sub(left).min(SIDE);
+    let height = grid.height().saturating_sub(top).min(SIDE);
+    let mut piece = AlignedGrid::new(alloc, width, height)?;
+    for y in 0..height {
+        let from = top.saturating_add(y);
+        if y < piece.height() && from < grid.height() {
+            copy_piece(piece.get_row_mut(y), grid.get_row(from), left);
+        }
+    }
+    Ok(piece)
+}
+
+/// The samples of the channels in that group.
+fn channels_in(
+    alloc: Global,
+    channels: &[AlignedGrid<i32>],
+    left: usize,
+    top: usize,
+) -> Result<Vec<AlignedGrid<i32>>, OutOfMemory> {
+    let mut pieces = Vec::new(alloc);
+    for channel in channels {
+        pieces.push(cropped(alloc, channel, left, top)?)?;
+    }
+    Ok(pieces)
+}
+
+/// The tree of the group of this number, where this number of groups are side by side.
+fn tree_of(
+    alloc: Global,
+    picture: &Picture,
+    effort: Effort,
+    colour: Option<u32>,
+    group: u64,
+    across: u64,
+) -> Result<GroupTree, OutOfMemory> {
+    let left = (group % across.max(1)) as usize;
+    let top = (group / across.max(1)) as usize;
+    let channels = channels_in(
+        alloc,
+        &picture.channels,
+        left.saturating_mul(SIDE),
+        top.saturating_mul(SIDE),
+    )?;
+    let scheme = group_scheme(alloc, &channels, picture.header.bit_depth, effort, colour)?;
+    Ok(GroupTree {
+        part: SectionPart::Pass(0, group),
+        nodes: scheme.nodes,
+        clusters: scheme.clusters,
+    })
+}
+
+/// The trees of all groups.
+fn trees_by(
+    alloc: Global,
+    picture: &Picture,
+    effort: Effort,
+    colour: Option<u32>,
+) -> Result<Vec<GroupTree>, OutOfMemory> {
+    let mut trees = Vec::new(alloc);
+    let across = u64::from(picture.header.size.width.div_ceil(GROUP_DIM));
+    let down = u64::from(picture.header.size.height.div_ceil(GROUP_DIM));
+    for group in 0..across.saturating_mul(down) {
+        trees.push(tree_of(alloc, picture, effort, colour, group, across)?)?;
+    }
+    Ok(trees)
+}
+
+/// Whether groups may have trees of their own: there are several, of numbers, and there is time.
+fn are_tried(picture: &Picture, effort: Effort) -> bool {
+    let size = picture.header.size;
+    let several = size.width > GROUP_DIM || size.height > GROUP_DIM;
+    let floats = picture.header.bit_depth.exp_bits != 0;
+    several && !floats && !matches!(effort, Effort::Fast)
+}
+
+/// The trees that groups may have of their own, for each colour transform that these ways have.
+pub(crate) fn own_trees(
+    alloc: Global,
+    picture: &Picture,
+    effort: Effort,
+    advices: &[Advice],
+) -> Result<OwnTrees, OutOfMemory> {
+    let mut own = OwnTrees {
+        plain: Vec::new(alloc),
+        luma: Vec::new(alloc),
+    };
+    if !are_tried(picture, effort) {
+        return Ok(own);
+    }
+    for advice in advices {
+        match advice.colour {
+            Some(_) if own.luma.is_empty() => {
+                own.luma = trees_by(alloc, picture, effort, advice.colour)?;
+            }
+            None if own.plain.is_empty() => {
+                own.plain = trees_by(alloc, picture, effort, None)?;
+            }
+            _ => {}
+        }
+    }
+    Ok(own)
+}
