@@ -25,7 +25,9 @@
  * call needs at most 64 kB of stack.
  *
  * Structs grow. The first field of a struct is its size in bytes, as the program was compiled: set it before each call.
- * A call returns JXL_LOSSLESS_WRONG_STRUCT if it is smaller than what the library knows.
+ * A program that was compiled before a struct grew goes on to work: a call neither reads nor writes what its struct does
+ * not have, and takes the usual value in its place. A call returns JXL_LOSSLESS_WRONG_STRUCT if the size is smaller than
+ * that of the first version of the struct.
  *
  * If a call does not return JXL_LOSSLESS_DONE, it has changed nothing but the message (and `*needed`, with
  * JXL_LOSSLESS_NO_ROOM).
@@ -56,7 +58,7 @@ enum {
     JXL_LOSSLESS_TOO_LARGE = 5,    /* above the limits */
     JXL_LOSSLESS_NO_MEMORY = 6,    /* malloc failed */
     JXL_LOSSLESS_WRONG_COUNT = 7,  /* the array has another size than the call needs */
-    JXL_LOSSLESS_WRONG_STRUCT = 8, /* the size of a struct is smaller than what the library knows */
+    JXL_LOSSLESS_WRONG_STRUCT = 8, /* the size of a struct is smaller than that of its first version */
     JXL_LOSSLESS_NO_ROOM = 9,      /* the buffer is too small for the file: `*needed` is the size that it needs */
     JXL_LOSSLESS_NOT_CODABLE = 10  /* a number of the description names nothing, or no file can hold the picture */
 };
@@ -71,7 +73,8 @@ typedef struct jxl_lossless_limits {
     uint64_t bytes;     /* the maximum number of bytes of all samples, four for each */
     uint64_t profile;   /* the maximum number of bytes of the ICC profile */
     uint32_t channels;  /* the maximum number of channels */
-    uint32_t decisions; /* the maximum number of decisions for a sample, in the tree that sections share */
+    uint32_t decisions; /* the maximum number of decisions for a sample, in trees that sections share or have of their own */
+    uint64_t codewords; /* the maximum number of codewords of sections' own codes in a frame; not in the first version */
 } jxl_lossless_limits;
 
 /* What the headers of a file say of its picture. */
@@ -121,7 +124,8 @@ typedef struct jxl_lossless_channel {
 } jxl_lossless_channel;
 
 /* Fills the limits, but for their size, with those that serve most: 2^28 pixels, 256 channels, 2^31 bytes of samples,
- * 2^24 bytes of a profile, and 128 decisions for a sample. Returns JXL_LOSSLESS_DONE or JXL_LOSSLESS_WRONG_STRUCT. */
+ * 2^24 bytes of a profile, 128 decisions for a sample, and 2^26 codewords. Returns JXL_LOSSLESS_DONE or
+ * JXL_LOSSLESS_WRONG_STRUCT. */
 jxl_lossless_status jxl_lossless_usual_limits(jxl_lossless_limits *limits);
 
 /* Reads the headers of a file, and decodes no sample. With JXL_LOSSLESS_DONE `info` is filled, but for its size, and all
@@ -163,8 +167,8 @@ jxl_lossless_status jxl_lossless_decode_16(const uint8_t *file, size_t file_size
 enum { JXL_LOSSLESS_FAST = 0, JXL_LOSSLESS_USUAL = 1, JXL_LOSSLESS_BEST = 2 };
 
 /* Encodes a picture: with JXL_LOSSLESS_DONE the first `*needed` bytes of `file` are a file that is decoded to these
- * samples, within all limits that allow the picture, its profile with 16 bytes more, and 128 decisions for a sample. Other
- * bytes of `file` do not change.
+ * samples, within all limits that allow the picture, its profile with 16 bytes more, 128 decisions for a sample, and 2^26
+ * codewords. Other bytes of `file` do not change.
  *
  * `info` is as jxl_lossless_read_info fills it; its fields alpha, interleaved and samples are not read. `extra` describes
  * the info.extra extra channels, as jxl_lossless_channels does after those of colours; their fields first, width, height

@@ -28,6 +28,8 @@ printf '\377\012\010\100\120\020\200\000\000\340\001\000\000\000\000\300\101\161
 printf '\377\012\010\100\220\024\027\002\000\022\010\001\000\310\000\135\345\022\000\000\025\052\243\214\033\274\234\353\371\362\103\207' > lossy.jxl
 # A grey one of 4x3 whose tree is a chain of five decisions.
 printf '\377\012\020\000\006\200\240\270\021\010\006\001\000\320\000\053\011\044\340\200\003\122\226\121\125\104\125\125\004\000\000\000\000\000\000\000\000\000\000\104\314\124\025\121\125\025\002\000\000\340\333\037\300\341\077\340\364\017\060\376\003\352\077\000\040\011\060' > chain.jxl
+# One of 4x3 whose image has a tree of its own.
+printf '\377\012\020\000\006\200\240\270\021\010\006\001\000\074\000\211\204\102\142\354\011\172\201\036\240\023\164\000\040\001' > own.jxl
 # A grey one of 16x16 with a profile, of cjxl.
 printf '\377\012\103\100\030\227\012\003\022\346\001\320\234\222\001\056\316\274\216\057\265\325\027\264\317\035\013\055\160\311\224\040\167\072\326\061\300\314\046\061\263\111\135\135\115\255\013\236\010\000\200\326\357\372\117\346\003\014\370\137\130\132\361\035\155\262\270\324\165\042\216\141\003\145\151\123\115\113\361\000\041\247\000\017\145\103\363\000\041\145\137\115\123\131\313\066\077\166\170\357\022\317\260\203\257\260\271\262\251\247\250\164\300\223\225\223\257\246\264\267\241\262\145\100\144\140\142\340\317\251\366\126\131\000\235\206\361\216\265\000\010\002\001\000\050\001\113\050\044\306\267\025\024\114\061\122\174\336\112\362\110\107\214\301\032\061\130\061\006\301\263\145\161\004\260\073\146\373\153\316\153\171\220\200\177\036\044\000\000\325\070\376\001\046\015\300\147\064\077\000\370\330\376\007\104\272\000\340\262\260\037\000\021\127\374\243\070\002\200\003' > profile.jxl
 input=/dev/null
@@ -262,9 +264,15 @@ expect 1 "jxldec: ball.jxl: $limits (maximum: 2048 pixels, 256 channels, 8191 by
 expect 0 - ball.jxl --max-pixels 2048 --max-bytes 8192
 expect 1 'jxldec: chain.jxl: global tree: more decisions than the limit' chain.jxl --max-decisions 0
 expect 0 - chain.jxl --max-decisions 1
+expect 1 'jxldec: own.jxl: codes of sections: more codewords than the limit' own.jxl --max-codewords @BELOW@
+expect 0 - own.jxl --max-codewords @EXACT@
+expect 1 'jxldec: own.jxl: codes of sections: more codewords than the limit' own.jxl --max-codewords 0 --max-decisions 0
+expect 1 'jxldec: own.jxl: tree of a section: more decisions than the limit' own.jxl --max-decisions 0
 expect 0 - --help
 grep -q 'max-decisions.*default: 128' out
 judge $? 'the help does not say the default of --max-decisions'
+grep -q 'max-codewords.*default: 67108864' out
+judge $? 'the help does not say the default of --max-codewords'
 grep -q 'max-pixels.*default: 268435456' out
 judge $? 'the help does not say the default of --max-pixels'
 grep -q 'max-bytes.*default: 2147483648' out
@@ -272,6 +280,7 @@ judge $? 'the help does not say the default of --max-bytes'
 expect 2 "error: invalid value 'many'" ball.jxl --max-bytes many
 expect 2 "error: invalid value 'many'" ball.jxl --max-pixels many
 expect 2 "error: invalid value 'many'" ball.jxl --max-decisions many
+expect 2 "error: invalid value 'many'" ball.jxl --max-codewords many
 expect 2 "error: " ball.jxl --max-pixels -1
 
 # Outputs that cannot be written.

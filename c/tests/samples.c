@@ -30,7 +30,14 @@ int main(int count, char **words) {
     fclose(in);
     limits.size = sizeof limits;
     info.size = sizeof info;
-    if (jxl_lossless_usual_limits(&limits) != JXL_LOSSLESS_DONE) return 3;
+    if (jxl_lossless_usual_limits(&limits) != JXL_LOSSLESS_DONE || limits.codewords != 1 << 26) return 3;
+    /* The struct of an older program ends before `codewords`, which then is neither read nor written. */
+    limits.size = offsetof(jxl_lossless_limits, codewords);
+    limits.codewords = 0;
+    if (jxl_lossless_usual_limits(&limits) != JXL_LOSSLESS_DONE || limits.codewords != 0) return 5;
+    limits.size--;
+    if (jxl_lossless_usual_limits(&limits) != JXL_LOSSLESS_WRONG_STRUCT) return 6;
+    limits.size++;
     status = jxl_lossless_read_info(file, size, &limits, &info, why, sizeof why);
     if (status != JXL_LOSSLESS_DONE) {
         printf("%u %s\n", status, why);

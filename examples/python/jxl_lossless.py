@@ -24,9 +24,11 @@ _DONE, _NO_MEMORY, _NO_ROOM, _MESSAGE = 0, 6, 9, 128
 
 
 class Limits(c.Structure):
-    _fields_ = [(it, c.c_uint64) for it in "size pixels bytes profile".split()] + [
-        (it, c.c_uint32) for it in "channels decisions".split()
-    ]
+    _fields_ = (
+        [(it, c.c_uint64) for it in "size pixels bytes profile".split()]
+        + [(it, c.c_uint32) for it in "channels decisions".split()]
+        + [("codewords", c.c_uint64)]
+    )
 
 
 class Info(c.Structure):

@@ -31,6 +31,7 @@ fn seen_of_files(alloc: Global, row: &Row<'_>) -> Option<String> {
         "info" => told::seen(alloc, row.asked),
         "decoded" => pictures::seen(alloc, row.asked),
         "decided" => pictures::seen_of_decisions(alloc, row.asked),
+        "counted" => pictures::seen_of_codewords(alloc, row.asked),
         "sections" => pictures::seen_of_sections(alloc, row.asked),
         "later" => pictures::seen_of_later_error(alloc, row.asked),
         "beginnings" => pictures::seen_of_beginnings(alloc, row.asked),

@@ -76,6 +76,15 @@ pub fn seen_of_decisions(alloc: Global, asked: &str) -> Option<String> {
     seen_within(alloc, asked, &limits)
 }
 
+/// A row asks with the maximum number of codewords of sections' own codes and, after a bar, what `decoded` asks with. It
+/// gives what `decoded` gives.
+pub fn seen_of_codewords(alloc: Global, asked: &str) -> Option<String> {
+    let (most, asked) = asked.split_once(" | ")?;
+    let mut limits = Limits::usual();
+    limits.codewords = u64::from(number(most)?);
+    seen_within(alloc, asked, &limits)
+}
+
 /// A row asks with the bytes of a file. It gives how many beginnings it has that are not the whole, and how many of them
 /// have a picture.
 pub fn seen_of_beginnings(alloc: Global, asked: &str) -> Option<String> {

@@ -1,12 +1,13 @@
 //! How large a picture may be, as a caller says it.
 
 ghost use Rattle.std.specs.Prelude.{◌≡◌, ◌<◌, ◌≤◌, ◌^◌};
-ghost use Rattle.jxl_c.specs.Kinds.{is_small_limits, limits_of};
+ghost use Rattle.jxl_c.specs.Kinds.{is_older_limits, is_small_limits, limits_of};
 
 use crate::status::{DONE, WRONG_STRUCT};
 use jxl_lossless::Limits;
 
-/// How large a picture may be.
+/// How large a picture may be. The struct of an older program ends before `codewords`, which then is neither read nor
+/// written: the limit is the default.
 #[repr(C)]
 #[derive(Clone, Copy)]
 pub struct CLimits {
@@ -22,15 +23,24 @@ pub struct CLimits {
     pub channels: u32,
     /// The maximum number of decisions for a sample, in the tree that sections share.
     pub decisions: u32,
+    /// The maximum number of codewords that the codes of sections' own trees may have, in a frame.
+    pub codewords: u64,
 }
 
 /// How many bytes the struct has here.
-const LIMITS_SIZE: u64 = 40;
+const LIMITS_SIZE: u64 = 48;
 
-// Limits on bytes alone.
+/// How many bytes it had at first, without `codewords`.
+const FIRST_SIZE: u64 = 40;
+
+/// The limit on codewords where the struct has none.
+const USUAL_CODEWORDS: u64 = 1 << 26;
+
+// Limits on bytes, and the default one on codewords; of the others nothing is allowed.
 fn with_bytes(bytes: u64) -> Limits
     ensures bytes { result.bytes ≡ bytes }
     ensures small { result.bytes < 2 ^ 64 }
+    ensures codewords { result.codewords ≡ 2 ^ 26 }
 {
     Limits {
         pixels: 0,
@@ -38,6 +48,7 @@ fn with_bytes(bytes: u64) -> Limits
         bytes,
         profile: 0,
         decisions: 0,
+        codewords: USUAL_CODEWORDS,
     }
 }
 
@@ -45,6 +56,13 @@ impl CLimits {
     /// Whether the struct is too small.
     pub fn is_small(&self) -> bool
         ensures { result ≡ is_small_limits self.now }
+    {
+        self.size < FIRST_SIZE
+    }
+
+    /// Whether the struct ends before `codewords`.
+    fn is_older(&self) -> bool
+        ensures { result ≡ is_older_limits self.now }
     {
         self.size < LIMITS_SIZE
     }
@@ -59,22 +77,36 @@ impl CLimits {
         limits.channels = self.channels;
         limits.profile = self.profile;
         limits.decisions = self.decisions;
+        if self.is_older() {
+            return limits;
+        }
+        limits.codewords = self.codewords;
         limits
     }
 }
 
 /// Fills the limits with those that serve most: 2^28 pixels, 256 channels, 2^31 bytes of samples, 2^24 of a colour
-/// profile, and 128 decisions for a sample.
+/// profile, 128 decisions for a sample, and 2^26 codewords, if the struct has this field.
 #[unsafe(no_mangle)]
 pub extern "C" fn jxl_lossless_usual_limits(limits: &mut CLimits) -> u32
     ensures done { 40 ≤ limits.old.size → result ≡ 0 }
-    ensures limits { 40 ≤ limits.old.size → limits.new ≡ record {
+    ensures limits { 48 ≤ limits.old.size → limits.new ≡ record {
       size = limits.old.size;
       pixels = 2 ^ 28;
       bytes = 2 ^ 31;
       profile = 2 ^ 24;
       channels = 256;
       decisions = 128;
+      codewords = 2 ^ 26;
+    } }
+    ensures older { 40 ≤ limits.old.size → limits.old.size < 48 → limits.new ≡ record {
+      size = limits.old.size;
+      pixels = 2 ^ 28;
+      bytes = 2 ^ 31;
+      profile = 2 ^ 24;
+      channels = 256;
+      decisions = 128;
+      codewords = limits.old.codewords;
     } }
     ensures small { limits.old.size < 40 → result ≡ 8 }
     ensures kept { limits.old.size < 40 → limits.new ≡ limits.old }
@@ -88,5 +120,9 @@ pub extern "C" fn jxl_lossless_usual_limits(limits: &mut CLimits) -> u32
     limits.profile = usual.profile;
     limits.channels = usual.channels;
     limits.decisions = usual.decisions;
+    if limits.is_older() {
+        return DONE;
+    }
+    limits.codewords = usual.codewords;
     DONE
 }

@@ -23,7 +23,7 @@ use Rattle.jxl_codestream.specs.declared.front.Front.{Front}
 
 -- what was read of a frame, without its memory
 abbrev pub frame_at : FrameFront → FrameAt
-frame_at f = record { start = f.start; header = frame_of f.header; entries = f.toc.entries.items; deepest = f.deepest }
+frame_at f = record { start = f.start; header = frame_of f.header; entries = f.toc.entries.items; trees = f.trees }
 
 -- the shifts of extra channels are at most 3
 abbrev pub HasLowShifts : Image → Type 0

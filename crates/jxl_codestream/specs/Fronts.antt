@@ -12,8 +12,9 @@ use Rattle.jxl_codestream.specs.Layouts.{Layout, layout_of, max_sections, sectio
 use Rattle.jxl_codestream.specs.Profiles.{profile}
 use Rattle.jxl_codestream.specs.Tocs.{IsFirstTruncated, IsToc, Table, is_within, toc}
 use Rattle.jxl_codestream.specs.declared.toc.TocEntry.{TocEntry}
-use Rattle.jxl_picture.specs.Limits.{Allow, AllowFrame, cells_of, deepest}
+use Rattle.jxl_picture.specs.Limits.{Allow, AllowFrame, cells_of, tree_limits}
 use Rattle.jxl_picture.specs.declared.limits.Limits.{Limits}
+use Rattle.jxl_picture.specs.declared.limits.TreeLimits.{TreeLimits}
 use Rattle.jxl_codestream.specs.declared.error.FrontError.{FrontError}
 use Rattle.jxl_codestream.specs.declared.error.FrontError.TheVariants as errors
 
@@ -34,12 +35,12 @@ abbrev pub between : {D : Type 0} → Meaning D → ℕ → Bool → Grammar (Op
 between d limit there = profile_if d limit there >>= λ icc. zero_pad_to_byte >>= λ padding. give icc
 
 -- a frame, as its header describes it before its sections: the byte where it begins, its header, where its sections lie from
--- there on, and the maximum depth of the tree that they share
+-- there on, and the limits on the tree that they share and on their own ones
 pub record FrameAt : Type 0 where
   pub start : ℕ
   pub header : Frame
   pub entries : List TocEntry
-  pub deepest : ℕ
+  pub trees : TreeLimits
 
 -- how a frame is cut
 abbrev pub layout_in : Image → Frame → Layout
@@ -68,11 +69,11 @@ module _ {D : Type 0} (d : Meaning D) (limits : Limits) (bytes : List ℕ) where
     pub few : section_count_of (layout_in image frame) ≤ max_sections
     pub contents : (table : Table) × (q : ℕ) × StandsAt (toc d (section_count_of (layout_in image frame))) (drop start bytes) end table q × IsToc table entries
 
-  -- And all sections lie in the codestream; its maximum depth of a tree is that of the limits.
+  -- And all sections lie in the codestream; the limits on its trees are by those on the picture.
   abbrev pub FrameStands : Image → ℕ → FrameAt → Type 0
   FrameStands image used frame = ContentsStand image frame.start used frame.header frame.entries
       × (list_all (is_within (length (drop frame.start bytes))) frame.entries ≡ true)
-      × (frame.deepest ≡ deepest limits image used (frame_size image.size frame.header))
+      × (frame.trees ≡ tree_limits limits image used (frame_size image.size frame.header))
 
   -- The profile of the codestream, if there is one: it comes after the image header, with the bits up to the next byte.
   pub record HasProfile (image : Image) (icc : Option (List ℕ)) : Type 0 where

@@ -7,7 +7,7 @@ ghost use Rattle.jxlm_transform.specs.Params.{IsGroupDim};
 ghost use Rattle.jxl_image_header.specs.Images.{image_of};
 ghost use Rattle.jxl_frame_header.specs.Frames.{frame_of, frame_size, has_shifts};
 ghost use Rattle.jxl_frame_header.specs.Passes.{IsPassCount};
-ghost use Rattle.jxl_picture.specs.Limits.{AllowFrame, cells_of as the_cells_of, channel_count, deepest as the_deepest};
+ghost use Rattle.jxl_picture.specs.Limits.{AllowFrame, cells_of as the_cells_of, channel_count, tree_limits as the_tree_limits};
 ghost use Rattle.jxl_codestream.specs.Layouts.{section_count_of};
 ghost use Rattle.jxl_codestream.specs.LayoutParts.{parts_of};
 ghost use Rattle.jxl_codestream.specs.Tocs.{is_within};
@@ -19,7 +19,7 @@ use crate::toc::{Toc, TocEntry};
 use jxl_frame_header::frame::FrameHeader;
 use jxl_image_header::image::ImageHeader;
 use jxl_image_header::size::Size;
-use jxl_picture::limits::Limits;
+use jxl_picture::limits::{Limits, TreeLimits};
 use jxl_picture::picture::colours;
 use jxlm_bits::bits::Bitstream;
 use jxlm_bits::decoder::Decoder;
@@ -36,8 +36,8 @@ pub struct FrameFront {
     pub layout: Layout,
     /// Where each of its sections lies, from its first byte on.
     pub toc: Toc,
-    /// The maximum depth of the tree that its sections share, by the limit on decisions.
-    pub deepest: u64,
+    /// The limits on the tree that its sections share, and on their own ones.
+    pub trees: TreeLimits,
 }
 
 // How many cells a channel of this size has.
@@ -68,16 +68,19 @@ fn allows(limits: &Limits, image: &ImageHeader, used: u64, size: Size) -> bool
     }
 }
 
-// The maximum depth of a tree that sections of a frame share, after others with this number of cells, if the frame is
-// within the limits: more where together they have fewer than 2^22 samples.
-fn deepest(limits: Limits, image: &ImageHeader, used: u64, size: Size) -> u64
+// The limits on the trees of a frame, after others with this number of cells, if the frame is within the limits: trees may
+// be deeper where together they have fewer than 2^22 samples.
+fn tree_limits(limits: Limits, image: &ImageHeader, used: u64, size: Size) -> TreeLimits
     requires many { channel_count (image_of image.now) ≤ 2 ^ 20 }
     requires allowed { AllowFrame limits (image_of image.now) used size }
-    ensures { result ≡ the_deepest limits (image_of image.now) used size }
+    ensures { result ≡ the_tree_limits limits (image_of image.now) used size }
 {
     let channels = (colours(image) + image.ec_info.len()) as u64;
     let samples = (used + cells_of(size)) * channels;
-    u64::from(limits.decisions) * (1 << 22) / samples.clamp(1, 1 << 22)
+    TreeLimits {
+        depth: u64::from(limits.decisions) * (1 << 22) / samples.clamp(1, 1 << 22),
+        codewords: limits.codewords,
+    }
 }
 
 // The last byte that one of these sections reaches; they lie within this number of bytes.
@@ -219,13 +222,13 @@ impl FrameFront {
         if let Some(number) = toc.truncated(rest.len() as u64) {
             return Err(FrontError::TruncatedSection(number));
         }
-        let deepest = deepest(*limits, image, used, header.size(image.size));
+        let trees = tree_limits(*limits, image, used, header.size(image.size));
         Ok(FrameFront {
             start,
             header,
             layout,
             toc,
-            deepest,
+            trees,
         })
     }
 

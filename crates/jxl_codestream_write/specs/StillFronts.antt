@@ -5,7 +5,7 @@ use Rattle.jxlm_bits.specs.Decoding.{Meaning}
 use Rattle.jxl_container.specs.Files.{HasCodestream}
 use Rattle.jxl_image_header.specs.Images.{Image}
 use Rattle.jxl_frame_header_write.specs.Stills.{still_frame}
-use Rattle.jxl_picture.specs.Limits.{Allow, deepest}
+use Rattle.jxl_picture.specs.Limits.{Allow, tree_limits}
 use Rattle.jxl_picture.specs.declared.limits.Limits.{Limits}
 use Rattle.jxl_codestream.specs.Fronts.{FrameAt, FrontStands, HasProfile}
 use Rattle.jxl_codestream.specs.declared.toc.TocEntry.{TocEntry}
@@ -18,7 +18,7 @@ joined sections = flat_map (λ s. s) sections
 -- the only frame of a still picture, which begins at this byte and has its sections at these places from there on
 abbrev pub still_at : Limits → Image → ℕ → ℕ → List TocEntry → FrameAt
 still_at limits image shift start entries =
-    record { start = start; header = still_frame image shift; entries = entries; deepest = deepest limits image 0 image.size }
+    record { start = start; header = still_frame image shift; entries = entries; trees = tree_limits limits image 0 image.size }
 
 -- The bytes are what a still picture has before sections of these sizes. With any such sections after them they are a file that
 -- is its own codestream. Within limits that allow the picture, the reader finds the image and this frame, and no other. At the

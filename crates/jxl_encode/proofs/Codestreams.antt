@@ -66,6 +66,7 @@ file_allowed limits picture shown as_shown allowed = record {
   picture = turned_allowed (is_turned picture.header.orientation) limits (image_of picture.header) (subst (λ (i : Image). Allow limits i) as_shown.upright.header allowed.picture);
   profile = subst (λ (icc : Option (List ℕ)). IfSome icc (AllowProfile limits.profile)) as_shown.profile allowed.profile;
   decisions = allowed.decisions;
+  codewords = allowed.codewords;
 }
 
 -- ---- the codestream
@@ -101,7 +102,7 @@ module _ (picture : Picture) (fit : IsCodable picture) (sizes front : List ℕ) 
 
     picture_of : (before : ℕ) → (after : ℕ) × IsPictureOfFile limits file shown_picture before after
     picture_of before = coding_picture limits file shown_picture the_front picture.channels.items refl plain_frame
-        (coding_of limits picture f.start f.entries bytes sections (f.sections sections same) allowed.decisions are) as_shown.upright profile before
+        (coding_of limits picture f.start f.entries bytes sections (f.sections sections same) allowed.decisions allowed.codewords are) as_shown.upright profile before
 
   pub codestream_of : IsCodestreamOf picture bytes
   codestream_of = record {

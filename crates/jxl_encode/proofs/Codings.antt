@@ -47,10 +47,10 @@ module _ (limits : Limits) (picture : Picture) (start : ℕ) (entries : List Toc
   abbrev frame : FrameAt
   frame = still_at limits image 1 start entries
 
-  pub coding_of : sections_in bytes frame ≡ sections → 128 ≤ limits.decisions → AreSectionsOf picture sections → FrameCoding (entropy decoder_at) image bytes frame picture.channels.items
-  coding_of same least are =
+  pub coding_of : sections_in bytes frame ≡ sections → 128 ≤ limits.decisions → 2 ^ 26 ≤ limits.codewords → AreSectionsOf picture sections → FrameCoding (entropy decoder_at) image bytes frame picture.channels.items
+  coding_of same least few are =
       written_are_coding image bytes frame (channels_given image image.size) (cut_of image) 256 (tree_limit image.size (channel_count image)) 128 sections picture.channels.items
-      (record { passes = refl; channels = refl; layout = refl; dim = refl; nodes = refl; depth = deep_enough limits image least }) same are
+      (record { passes = refl; channels = refl; layout = refl; dim = refl; nodes = refl; depth = deep_enough limits image least; codewords = few }) same are
 
 -- sections of these grids are those of the picture
 pub sections_of : (picture : Picture) (given : List ModularChannelParams) (l : Layout) (limits : MaConfigParams) (grids : List (Grid ℤ)) (sections : List (List ℕ)) →

@@ -17,11 +17,13 @@ use Rattle.jxl_picture.specs.declared.picture.Picture.{Picture}
 use Rattle.jxl_lossless.specs.Pictures.{IsPictureOfFile}
 use Rattle.jxl_profile_write.specs.Profiles.{AllowProfile}
 
--- The limits allow a picture and its profile, if there is one, and for a sample at least as many decisions as by default.
+-- The limits allow a picture and its profile, if there is one, and at least as many decisions for a sample, and as many codewords
+-- of sections' own codes, as by default.
 pub record AllowFile (limits : Limits) (image : Image) (icc : Option (List ℕ)) : Type 0 where
   pub picture : Allow limits image
   pub profile : IfSome icc (AllowProfile limits.profile)
   pub decisions : 128 ≤ limits.decisions
+  pub codewords : 2 ^ 26 ≤ limits.codewords
 
 -- The file is decoded to this picture, within all limits that allow it, from whatever count of steps on.
 abbrev pub IsFileOf : Picture → List ℕ → Type 0

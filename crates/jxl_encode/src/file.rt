@@ -31,9 +31,9 @@ pub fn encode_lossless(
 
 /// A lossless .jxl file of the picture, which is whole and can be coded (`is_codable`), with these Exif and XMP data,
 /// if present: the Exif data from the TIFF header on. `decode_lossless` returns the picture, mirrored or turned as the
-/// orientation in its header says, within all limits that allow it, its profile with 16 bytes more, and 128 decisions
-/// for a sample. The file is a codestream, or boxes with one: if `boxed` says so, if there are such data, or if level 5
-/// does not hold the picture with its profile.
+/// orientation in its header says, within all limits that allow it, its profile with 16 bytes more, 128 decisions for a
+/// sample, and 2^26 codewords. The file is a codestream, or boxes with one: if `boxed` says so, if there are such data,
+/// or if level 5 does not hold the picture with its profile.
 ///
 /// # Errors
 ///

@@ -34,17 +34,17 @@ coding_frame {D} d image slots bytes frame grids fit c before =
     let ok = valid (colour_count image) size.width size.height image.ec_info fit.wide fit.high fit.low in
     let can = can_be_cut frame.header.passes fit.passes (pass_shifts frame.header.passes) refl in
     let s = c.sections in
-    let of_size = subst (λ (z : Size). AreSections d w32 c.config (channels_given image z) frame.header.group_dim frame.deepest (passes_of (pass_shifts frame.header.passes)) c.first c.end
+    let of_size = subst (λ (z : Size). AreSections d w32 c.config (channels_given image z) frame.header.group_dim frame.trees (passes_of (pass_shifts frame.header.passes)) c.first c.end
     (section_of (layout_in image frame.header) (sections_in bytes frame)) grids) c.size_is s in
-    let given = subst (λ (l : ChannelList). AreSections d w32 c.config l frame.header.group_dim frame.deepest (passes_of (pass_shifts frame.header.passes)) c.first c.end
+    let given = subst (λ (l : ChannelList). AreSections d w32 c.config l frame.header.group_dim frame.trees (passes_of (pass_shifts frame.header.passes)) c.first c.end
     (section_of (layout_in image frame.header) (sections_in bytes frame)) grids) (sym are) of_size in
     let (after, still) = sections_still d w32 c.config _ frame.header.group_dim image.bit_depth.bits_per_sample (passes_of (pass_shifts frame.header.passes)) (layout_in image frame.header) c.first c.end
-    (sections_in bytes frame) frame.deepest grids c.within ok one can given before in
+    (sections_in bytes frame) frame.trees grids c.within ok one can given before in
     let own = subst (λ (l : ChannelList). IsStill d w32 (Some c.config) l frame.header.group_dim image.bit_depth.bits_per_sample c.first c.end (passes_of (pass_shifts frame.header.passes))
-    (section_of (layout_in image frame.header) (sections_in bytes frame)) frame.deepest grids before after) are still in
+    (section_of (layout_in image frame.header) (sections_in bytes frame)) frame.trees grids before after) are still in
     let there = subst (λ (b : List ℕ). IsStill d w32 (Some c.config) (channels_given image size) frame.header.group_dim image.bit_depth.bits_per_sample b c.end (passes_of (pass_shifts frame.header.passes))
-    (section_of (layout_in image frame.header) (sections_in bytes frame)) frame.deepest grids before after) c.first_is own in
-    let shared : SharedTree d c.size (channel_count image) frame.deepest c.first 0 (Some c.config) c.end =
+    (section_of (layout_in image frame.header) (sections_in bytes frame)) frame.trees grids before after) c.first_is own in
+    let shared : SharedTree d c.size (channel_count image) frame.trees.depth c.first 0 (Some c.config) c.end =
     record { there = true; begin = c.tree_at; start = c.start; tree = (c.config, refl, c.tree, c.within) } in (
       after,
       record {
@@ -52,8 +52,8 @@ coding_frame {D} d image slots bytes frame grids fit c before =
           after = record { patches = None; begin = 0; stand = no_patches d frame.header.coding.flags.patches _ _ _ _ fit.plain };
           global = Some c.config;
           begin = c.end;
-          shared = subst (λ (b : List ℕ). SharedTree d size (channel_count image) frame.deepest b 0 (Some c.config) c.end) c.first_is
-              (subst (λ (z : Size). SharedTree d z (channel_count image) frame.deepest c.first 0 (Some c.config) c.end) c.size_is shared);
+          shared = subst (λ (b : List ℕ). SharedTree d size (channel_count image) frame.trees.depth b 0 (Some c.config) c.end) c.first_is
+              (subst (λ (z : Size). SharedTree d z (channel_count image) frame.trees.depth c.first 0 (Some c.config) c.end) c.size_is shared);
         };
         own = grids;
         still = there;

@@ -14,7 +14,7 @@ use Rattle.jxl_encode_frame.proofs.Ends.{prepared_sides}
 use Rattle.jxl_encode_frame.proofs.WholePart.{no_cells, nothing_cut, whole_channels, whole_grids}
 
 pub one_section : {D : Type 0} (d : Meaning D) → OneSectionIsAll d
-one_section d w config given group_dim deepest passes bytes p section_of image s =
+one_section d w config given group_dim trees passes bytes p section_of image s =
     let list : ChannelList = s.ready.coded.list in
     let channels = whole_channels group_dim passes list s.one_part in
     let grids = whole_grids group_dim passes list s.one_part s.ready.samples (prepared_sides w (image_list given) image s.ready) in

@@ -38,7 +38,8 @@ use Rattle.jxl_modular.specs.Sections.{CodesNested, CodesPart, CodesWhole, IsCom
 use Rattle.jxl_modular.specs.declared.sections.Section.{Section}
 use Rattle.jxl_codestream.specs.Layouts.{Layout}
 use Rattle.jxl_lossless.specs.Sections.{section_of}
-use Rattle.jxl_lossless.specs.Codewords.{HasCodewords, most_codewords}
+use Rattle.jxl_picture.specs.declared.limits.TreeLimits.{TreeLimits}
+use Rattle.jxl_lossless.specs.Codewords.{HasCodewords}
 use Rattle.jxl_lossless.specs.Parts.{groups_in_order}
 use Rattle.jxl_lossless.specs.Stills.{GroupHas, HaveCodewords, HeaderStands, IsShallowAt, IsStill, IsWeightedAt}
 use Rattle.jxl_lossless.proofs.Codewords.{sum_first}
@@ -56,9 +57,9 @@ use Rattle.jxl_encode_frame.proofs.Streams.{streams_rise}
 use Rattle.jxl_encode_frame.proofs.Within.{header_ends}
 
 module _ {D : Type 0} (d : Meaning D) (w : Width) (config : Config D) (ps : List ModularChannelParams) (group_dim bit_depth : ℕ)
-    (passes : List Pass) (layout : Layout) (first : List ℕ) (p : ℕ) (sections : List (List ℕ)) (deepest : ℕ) (image : List (Grid ℤ)) (low : depth config.tree ≤ deepest)
+    (passes : List Pass) (layout : Layout) (first : List ℕ) (p : ℕ) (sections : List (List ℕ)) (trees : TreeLimits) (image : List (Grid ℤ)) (low : depth config.tree ≤ trees.depth)
     (valid : All IsValidChannel ps) (one : IsTrue (one_picture (image_list ps).channels)) (can : IsTrue (can_group passes []))
-    (c : AreSections d w config (image_list ps) group_dim deepest passes first p (section_of layout sections) image) where
+    (c : AreSections d w config (image_list ps) group_dim trees passes first p (section_of layout sections) image) where
   abbrev given : ChannelList
   given = image_list ps
 
@@ -130,13 +131,13 @@ module _ {D : Type 0} (d : Meaning D) (w : Width) (config : Config D) (ps : List
   abbrev GroupCodes : (part : SectionPart) → IsOne part → Type 0
   GroupCodes part g = IsPlain (of_part part g) × ((nodes : ℕ)
       × ((codes : CodesNested d w (λ v. v) (pos 0) x passes (Some config) (of_part part g) (grids_in (pieces_of x passes part) c.ready.samples) nodes)
-      × (depth codes.start.config.tree ≤ deepest)))
+      × (depth codes.start.config.tree ≤ trees.depth)))
 
   -- with a header that uses the frame's tree, or has one of its own
   group_by : (part : SectionPart) (g : IsOne part) (shared : Bool) (tree_at samples_at end : ℕ) (own : Config D) →
       header.Stands (c.groups part g.0 g.1).0 0 (plain_header shared []) tree_at →
       MatchBool shared ((◌≡◌ {A = Option (Config D)} (Some config) (Some own)) × (samples_at ≡ tree_at)) (IsTreeAt d (c.groups part g.0 g.1).0 (node_limit (channels_in x passes part)) depth_limit tree_at own samples_at) →
-      depth own.tree ≤ deepest →
+      depth own.tree ≤ trees.depth →
       IsCodedWhole d w (part_by_tree own (channels_in x passes part) (c.groups part g.0 g.1).1) (c.groups part g.0 g.1).0 own.decoder samples_at (grids_in (pieces_of x passes part) c.ready.samples) end → GroupCodes part g
   group_by part g shared tree_at samples_at end own stands tree shallow coded =
       let bytes : List ℕ = (c.groups part g.0 g.1).0 in
@@ -205,7 +206,7 @@ module _ {D : Type 0} (d : Meaning D) (w : Width) (config : Config D) (ps : List
   global_codes = global_whole
 
   abbrev IsShallow : Section → Type 0
-  IsShallow s = IsShallowAt d (Some config) (list_in x passes s.part) deepest (bytes_of s.bits) 0
+  IsShallow s = IsShallowAt d (Some config) (list_in x passes s.part) trees.depth (bytes_of s.bits) 0
 
   listed_shallow : (qs : List SectionPart) (all : All IsOne qs) → All IsShallow (listed qs all)
   listed_shallow [] all = All-nil IsShallow
@@ -241,7 +242,7 @@ module _ {D : Type 0} (d : Meaning D) (w : Width) (config : Config D) (ps : List
   in_order : (qs : List SectionPart) (ones : All IsOne qs) → (map (λ (s : Section). s.part) (listed qs ones) ≡ qs → Ordered Before (map (λ (s : Section). s.part) (listed qs ones))) → Ordered Before qs
   in_order qs ones facts = subst (Ordered Before) (listed_parts qs ones) (facts (listed_parts qs ones))
 
-  few : (n : ℕ) × HaveCodewords d w (Some config) given group_dim bit_depth first p passes (section_of layout sections) stands (groups_in_order x passes) n × (n ≤ most_codewords)
+  few : (n : ℕ) × HaveCodewords d w (Some config) given group_dim bit_depth first p passes (section_of layout sections) stands (groups_in_order x passes) n × (n ≤ trees.codewords)
   few =
       let (ns, has, least) = groups_have (groups_in_order x passes) (all_ones x passes) in
       let most = c.few (groups_in_order x passes) (each_once (groups_in_order x passes) (in_order (groups_in_order x passes) (all_ones x passes) (λ are. sections_in_order x passes _ are))) in
@@ -253,7 +254,7 @@ module _ {D : Type 0} (d : Meaning D) (w : Width) (config : Config D) (ps : List
   chain_given = c.ready.chain bit_depth
 
   abbrev Still : ℕ → ℕ → Type 0
-  Still before after = IsStill d w (Some config) given group_dim bit_depth first p passes (section_of layout sections) deepest image before after
+  Still before after = IsStill d w (Some config) given group_dim bit_depth first p passes (section_of layout sections) trees image before after
 
   made : (qs : List SectionPart) (ones : All IsOne qs) → ((part : SectionPart) → IsOne part ↔ Any (λ s. s.part ≡ part) (listed qs ones)) →
       AllPairs (λ s t. s.stream_index < t.stream_index) (listed qs ones) → IsComplete x passes (of_global ∷ listed qs ones) → (before : ℕ) → Still before before
@@ -310,5 +311,5 @@ module _ {D : Type 0} (d : Meaning D) (w : Width) (config : Config D) (ps : List
   )
 
 pub sections_still : {D : Type 0} (d : Meaning D) (w : Width) → SectionsAreStill d w
-sections_still d w config ps group_dim bit_depth passes layout first p sections deepest image low valid one can c before =
-    still d w config ps group_dim bit_depth passes layout first p sections deepest image low valid one can c before
+sections_still d w config ps group_dim bit_depth passes layout first p sections trees image low valid one can c before =
+    still d w config ps group_dim bit_depth passes layout first p sections trees image low valid one can c before

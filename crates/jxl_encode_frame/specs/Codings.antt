@@ -27,9 +27,10 @@ use Rattle.jxl_image_header.specs.declared.size.Size.{Size}
 use Rattle.jxl_frame_header.specs.Frames.{frame_size}
 use Rattle.jxl_frame_header.specs.Passes.{pass_shifts}
 use Rattle.jxl_picture.specs.Limits.{channel_count}
+use Rattle.jxl_picture.specs.declared.limits.TreeLimits.{TreeLimits}
 use Rattle.jxl_codestream.specs.Fronts.{FrameAt, StandsAt, layout_in}
 use Rattle.jxl_codestream.specs.Starts.{section_start, tree_limit}
-use Rattle.jxl_lossless.specs.Codewords.{HasCodewords, most_codewords}
+use Rattle.jxl_lossless.specs.Codewords.{HasCodewords}
 use Rattle.jxl_lossless.specs.Frames.{channels_given}
 use Rattle.jxl_lossless.specs.Sections.{section_of, sections_in}
 
@@ -69,21 +70,21 @@ module _ {D : Type 0} (d : Meaning D) (w : Width) (config : Config D) where
     pub codes : CodesBehindHeader ready.transforms ready.coded.list.channels 0 bytes p ready.samples
 
   -- The first section has the header of an image, from bit p on, and the samples of the global part; and each group with
-  -- samples has a section, with a header without transforms, by the frame's tree or by one of its own, which is at most this deep.
-  -- The codes of all these trees together have at most as many codewords as a decoder allows.
-  pub record AreSections (given : ChannelList) (group_dim deepest : ℕ) (passes : List Pass) (first : List ℕ) (p : ℕ)
+  -- samples has a section, with a header without transforms, by the frame's tree or by one of its own. These trees are at most as
+  -- deep as the limit, and their codes have together at most as many codewords.
+  pub record AreSections (given : ChannelList) (group_dim : ℕ) (trees : TreeLimits) (passes : List Pass) (first : List ℕ) (p : ℕ)
       (section_of : SectionPart → Option (List ℕ × ℕ)) (image : List (Grid ℤ)) : Type 0 where
     pub ready : Preparation w given image
     pub cut : IsTrue (can_cut group_dim ready.coded.list)
     pub global : CodesBehindHeader ready.transforms (part_channels group_dim passes ready.coded.list parts.Global) 0 first p
         (grids_in (pieces group_dim passes ready.coded.list parts.Global) ready.samples)
     pub codewords : SectionPart → ℕ
-    pub few : HaveAtMost codewords most_codewords
+    pub few : HaveAtMost codewords trees.codewords
     pub groups : (part : SectionPart) → part ≢ parts.Global → 0 < cell_count (part_channels group_dim passes ready.coded.list part) →
         (bytes : List ℕ) × (stream : ℕ) × (section_of part ≡ Some (bytes, stream))
         × (CodesBehindHeader [] (part_channels group_dim passes ready.coded.list part) stream bytes 0
         (grids_in (pieces group_dim passes ready.coded.list part) ready.samples)
-        ⊎ (CodesByOwnTree d w deepest (part_channels group_dim passes ready.coded.list part) stream bytes
+        ⊎ (CodesByOwnTree d w trees.depth (part_channels group_dim passes ready.coded.list part) stream bytes
         (grids_in (pieces group_dim passes ready.coded.list part) ready.samples)
         × HasCodewords (record { channels = part_channels group_dim passes ready.coded.list part; nb_meta = 0 }) bytes 0 (codewords part)))
 
@@ -99,6 +100,6 @@ pub record FrameCoding {D : Type 0} (d : Meaning D) (image : Image) (bytes : Lis
   pub config : Config D
   pub end : ℕ
   pub tree : IsTreeAt d first (tree_limit size (channel_count image)) 2048 tree_at config end
-  pub within : depth config.tree ≤ frame.deepest
-  pub sections : AreSections d w32 config (channels_given image size) frame.header.group_dim frame.deepest (passes_of (pass_shifts frame.header.passes)) first end
+  pub within : depth config.tree ≤ frame.trees.depth
+  pub sections : AreSections d w32 config (channels_given image size) frame.header.group_dim frame.trees (passes_of (pass_shifts frame.header.passes)) first end
       (section_of (layout_in image frame.header) (sections_in bytes frame)) grids

@@ -29,6 +29,7 @@ use Rattle.jxl_image_header.specs.Images.{Image, image_of}
 use Rattle.jxl_patches.specs.Slots.{Slots}
 use Rattle.jxl_picture.specs.Orientations.{IsUpright}
 use Rattle.jxl_picture.specs.declared.limits.Limits.{Limits}
+use Rattle.jxl_picture.specs.declared.limits.TreeLimits.{TreeLimits}
 use Rattle.jxl_picture.specs.declared.picture.Picture.{Picture}
 use Rattle.jxl_lossless.specs.Frames.{IsFrame}
 use Rattle.jxl_lossless.specs.Pictures.{HasFront, IsPictureOfFile}
@@ -38,18 +39,18 @@ use Rattle.jxl_encode_frame.specs.Codings.{AreSections, FrameCoding, IsOneSectio
 
 -- Where one section has all samples of an image, no group needs one.
 abbrev pub OneSectionIsAll : {D : Type 0} → Meaning D → Type 0
-OneSectionIsAll {D} d = (w : Width) (config : Config D) (given : List ModularChannelParams) (group_dim deepest : ℕ) (passes : List Pass) (bytes : List ℕ) (p : ℕ)
+OneSectionIsAll {D} d = (w : Width) (config : Config D) (given : List ModularChannelParams) (group_dim : ℕ) (trees : TreeLimits) (passes : List Pass) (bytes : List ℕ) (p : ℕ)
     (section_of : SectionPart → Option (List ℕ × ℕ)) (image : List (Grid ℤ)) →
-    IsOneSection d w config (image_list given) group_dim bytes p image → AreSections d w config (image_list given) group_dim deepest passes bytes p section_of image
+    IsOneSection d w config (image_list given) group_dim bytes p image → AreSections d w config (image_list given) group_dim trees passes bytes p section_of image
 
 -- The sections of an image are a frame of it, as the decoder defines it: its channels are of one picture, the passes can cut it,
--- and the tree that they share is not too deep. Nor is one of a group's own.
+-- and the tree that they share is not too deep. Groups' own trees are within the limits.
 abbrev pub SectionsAreStill : {D : Type 0} → Meaning D → Width → Type 0
 SectionsAreStill {D} d w = (config : Config D) (given : List ModularChannelParams) (group_dim bit_depth : ℕ) (passes : List Pass) (layout : Layout)
-    (first : List ℕ) (p : ℕ) (sections : List (List ℕ)) (deepest : ℕ) (image : List (Grid ℤ)) → depth config.tree ≤ deepest →
+    (first : List ℕ) (p : ℕ) (sections : List (List ℕ)) (trees : TreeLimits) (image : List (Grid ℤ)) → depth config.tree ≤ trees.depth →
     All IsValidChannel given → IsTrue (one_picture (image_list given).channels) → IsTrue (can_group passes []) →
-    AreSections d w config (image_list given) group_dim deepest passes first p (section_of layout sections) image → (before : ℕ) → (after : ℕ) ×
-    IsStill d w (Some config) (image_list given) group_dim bit_depth first p passes (section_of layout sections) deepest image before after
+    AreSections d w config (image_list given) group_dim trees passes first p (section_of layout sections) image → (before : ℕ) → (after : ℕ) ×
+    IsStill d w (Some config) (image_list given) group_dim bit_depth first p passes (section_of layout sections) trees image before after
 
 -- the channel is of a picture of this size
 abbrev pub IsOfSize : Size → ModularChannelParams → Type 0

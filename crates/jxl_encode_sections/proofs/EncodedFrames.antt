@@ -39,11 +39,10 @@ use Rattle.jxl_encode_image.specs.Preparations.{colour_transforms}
 use Rattle.jxl_encode_image.proofs.Images.{colour_list}
 use Rattle.jxl_encode_tree.specs.Trees.{IsClusteredTree}
 use Rattle.jxl_image_header.specs.declared.size.Size.{Size}
-use Rattle.jxl_encode_sections.specs.Sections.{AreFrameSections, IsFirstSection}
+use Rattle.jxl_encode_sections.specs.Sections.{AreFrameSections, IsFirstSection, most_codewords}
 use Rattle.jxl_encode_sections.specs.Inner.Frames.{AreTokensOfFrame, AreWrittenSections}
 use Rattle.jxl_encode_sections.specs.Inner.Groups.{HasSection, HaveTokens, MayHaveOwn}
 use Rattle.jxl_encode_sections.specs.Inner.Parts.{AreTokensIn, CodedSamples, part_grids, part_of}
-use Rattle.jxl_lossless.specs.Codewords.{most_codewords}
 use Rattle.jxl_encode_sections.specs.declared.frame.FrameTokens.{FrameTokens}
 use Rattle.jxl_encode_sections.specs.declared.parts.PartTokens.{PartTokens}
 use Rattle.jxl_encode_sections.proofs.FirstSections.{global_is_first}

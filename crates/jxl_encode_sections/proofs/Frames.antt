@@ -31,11 +31,11 @@ use Rattle.jxl_encode_frame.specs.Codings.{AreSections, CodesBehindHeader, Codes
 use Rattle.jxl_encode_frame.specs.Numbers.{section_among}
 use Rattle.jxl_encode_image.specs.Preparations.{Preparation}
 use Rattle.jxl_encode_tree.specs.Trees.{IsClusteredTree}
-use Rattle.jxl_encode_sections.specs.Sections.{AreBehindHeader, AreFrameSections, IsFirstSection}
+use Rattle.jxl_encode_sections.specs.Sections.{AreBehindHeader, AreFrameSections, IsFirstSection, most_codewords}
 use Rattle.jxl_encode_sections.specs.Inner.Groups.{HasSection, HaveTokens, IsKeptOrOwn, MayHaveOwn}
 use Rattle.jxl_encode_sections.specs.Inner.Parts.{AreTokensIn, CodedSamples, part_grids, part_of}
 use Rattle.jxl_encode_sections.specs.declared.parts.PartTokens.{PartTokens}
-use Rattle.jxl_lossless.specs.Codewords.{HasCodewords, most_codewords}
+use Rattle.jxl_lossless.specs.Codewords.{HasCodewords}
 use Rattle.jxl_lossless.specs.Sections.{section_of}
 use Rattle.jxl_encode_frame.proofs.Codewords.{own_codewords}
 
@@ -99,7 +99,7 @@ module _ (w : Width) (given : ChannelList) (image : List (Grid ℤ)) (ready : Pr
               (o.1.0, stream_index l part, o.1.1.0, inr (own, subst (λ k. HasCodewords (record { channels = part_channels group_dim one_pass coded.list part; nb_meta = 0 }) o.1.0 0 k) many has))
         ]
 
-    written : AreSections (entropy decoder_at) w (config_by t codes) given group_dim limits.depth_limit one_pass first is_first.tree_end (section_of l (map (λ v. v.items) final)) image
+    written : AreSections (entropy decoder_at) w (config_by t codes) given group_dim (record { depth = limits.depth_limit; codewords = most_codewords }) one_pass first is_first.tree_end (section_of l (map (λ v. v.items) final)) image
     written = record {
       ready = ready;
       cut = cut;

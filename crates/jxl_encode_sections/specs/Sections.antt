@@ -1,6 +1,6 @@
 -- The sections of a frame by the tokens of their samples (ISO/IEC 18181-1, frame: sections; Modular: global and group
 -- sub-bitstreams).
-use Rattle.std.specs.Prelude.{◌≡◌, ◌≤◌, ℕ, ℤ, List, length, slice_get, Some, true}
+use Rattle.std.specs.Prelude.{◌≡◌, ◌≤◌, ℕ, ◌^◌, ℤ, List, length, slice_get, Some, true}
 use Rattle.std.specs.Int.{Width}
 use Rattle.jxlm_base.specs.Grid.{Grid}
 use Rattle.jxlm_bit_writer.specs.declared.token.Token.{Token}
@@ -48,8 +48,13 @@ pub record IsOwnSection (nodes : List EncodeNode) (codes : StreamWriter) (tokens
   pub tree : IsWrittenTree nodes codes bytes tree_at tree_end
   pub coded : AreCoded codes tokens bytes tree_end q
 
+-- the maximum of codewords that the codes of groups' own trees may have in a frame: a decoder's default limit
+abbrev pub most_codewords : ℕ
+most_codewords = 2 ^ 26
+
 -- These are the sections of a frame of one pass, which is cut like this: the first begins with the default factors and the tree
--- that they share, which is within these limits, and from there on they have these channels. Some groups have trees of their own.
+-- that they share, which is within these limits, and from there on they have these channels. Some groups have trees of their own,
+-- which are at most as deep, and whose codes have no more codewords than the maximum.
 pub record AreFrameSections (w : Width) (given : ChannelList) (l : Layout) (group_dim node_limit deepest : ℕ) (sections : List (List ℕ)) (image : List (Grid ℤ)) : Type 0 where
   pub count : length sections ≡ section_count_of l
   pub first : List ℕ
@@ -60,4 +65,4 @@ pub record AreFrameSections (w : Width) (given : ChannelList) (l : Layout) (grou
   pub end : ℕ
   pub tree : IsTreeAt (entropy decoder_at) first node_limit 2048 tree_at config end
   pub within : depth config.tree ≤ deepest
-  pub sections_are : AreSections (entropy decoder_at) w config given group_dim deepest one_pass first end (section_of l sections) image
+  pub sections_are : AreSections (entropy decoder_at) w config given group_dim (record { depth = deepest; codewords = most_codewords }) one_pass first end (section_of l sections) image

@@ -7,8 +7,8 @@ ghost use Rattle.jxl_codestream.specs.Layouts.{has_part, section_count_of};
 ghost use Rattle.jxl_encode_frame.specs.Numbers.{HasNumber};
 ghost use Rattle.jxl_encode_image.specs.Images.{LieCoded, samples_in};
 ghost use Rattle.jxl_encode_sections.specs.Inner.Groups.{HasOwnTree, IsPutOrNot, MayHaveOwn};
+ghost use Rattle.jxl_encode_sections.specs.Sections.{most_codewords};
 ghost use Rattle.jxl_encode_tree.specs.Trees.{IsClusteredTree};
-ghost use Rattle.jxl_lossless.specs.Codewords.{most_codewords};
 ghost use Rattle.jxlm_encode_tokens.specs.Tokens.{MultipliesByOne};
 ghost use Rattle.jxlm_groups.specs.declared.part.SectionPart.TheVariants as parts;
 ghost use Rattle.jxlm_section_split.specs.CutPicture.{one_pass as the_pass};
@@ -27,7 +27,6 @@ use jxl_coding::clusters::count_of;
 use jxl_coding::decoder::EntropyDecoder;
 use jxl_encode_frame::sections::put_section;
 use jxl_encode_tree::tree::tree_config;
-use jxl_lossless::still::codewords::MOST_CODEWORDS;
 use jxlm_base::grid::OutOfMemory;
 use jxlm_base::sample::Sample;
 use jxlm_encode::error::EncodeError;
@@ -35,6 +34,9 @@ use jxlm_encode_write::tree::EncodeNode;
 use jxlm_groups::part::SectionPart;
 use jxlm_tree::ma::{MaConfig, MaConfigParams};
 use std::alloc::Global;
+
+/// The maximum of codewords that the codes of groups' own trees may have in a frame: the default limit of a decoder.
+const MOST_CODEWORDS: u64 = 1 << 26;
 
 /// A tree that a group may have of its own: its nodes, and the cluster of each leaf, in the order of the leaves.
 #[derive(Drop)]
@@ -197,7 +199,7 @@ fn put_own<S: Sample>(
 
 /// Puts the sections of groups by these trees of their own in the places of those by the frame's tree, if they are
 /// shorter. A tree is left out if it is deeper than `deepest`, or not that of a group, or if with it the codes of such
-/// trees could have more codewords than a decoder allows.
+/// trees could have more than [`MOST_CODEWORDS`].
 pub(crate) fn put_own_sections<S: Sample>(
     alloc: Global,
     sections: &mut Vec<Vec<u8>>,

@@ -10,12 +10,13 @@ use Rattle.jxlm_tree.specs.Tree.{Config}
 use Rattle.jxlm_transform.specs.Channels.{ChannelList}
 use Rattle.jxlm_groups.specs.declared.part.SectionPart.{SectionPart}
 use Rattle.jxlm_groups.specs.declared.pass.Pass.{Pass}
+use Rattle.jxl_picture.specs.declared.limits.TreeLimits.{TreeLimits}
 use Rattle.jxl_lossless.specs.Stills.{AreShallow, CanDecode, GroupHas, HasSections, HaveCodewords, HaveFewCodewords, HeaderStands, IsStill, StillFails}
 use Rattle.jxl_lossless.specs.declared.still.error.FrameError.{FrameError}
 use Rattle.jxl_lossless.specs.declared.still.error.FrameError.TheVariants as errors
 
 module _ {D : Type 0} (d : Meaning D) (w : Width) (global : Option (Config D)) (given : ChannelList) (group_dim bit_depth : ℕ) (bytes : List ℕ) (p : ℕ)
-    (passes : List Pass) (deepest : ℕ) (one other : SectionPart → Option (List ℕ × ℕ)) (alike : (part : SectionPart) → one part ≡ other part) where
+    (passes : List Pass) (trees : TreeLimits) (one other : SectionPart → Option (List ℕ × ℕ)) (alike : (part : SectionPart) → one part ≡ other part) where
   abbrev Stands : (SectionPart → Option (List ℕ × ℕ)) → Type 0
   Stands f = HeaderStands d w global given group_dim bit_depth bytes p passes f
 
@@ -26,7 +27,7 @@ module _ {D : Type 0} (d : Meaning D) (w : Width) (global : Option (Config D)) (
   Can f = CanDecode d w global given group_dim bit_depth bytes p passes f
 
   abbrev Fails : (SectionPart → Option (List ℕ × ℕ)) → FrameError → Type 0
-  Fails f = StillFails d w global given group_dim bit_depth bytes p passes f deepest
+  Fails f = StillFails d w global given group_dim bit_depth bytes p passes f trees
 
   abbrev stands_too : Stands one → Stands other
   stands_too s = record { plain = s.plain; start = s.start }
@@ -58,15 +59,17 @@ module _ {D : Type 0} (d : Meaning D) (w : Width) (global : Option (Config D)) (
       HaveCodewords d w global given group_dim bit_depth bytes p passes other (stands_too s) groups n
   have_too s groups n h = let (own, header, ns, has, is) = h in (own, header, ns, groups_too s groups ns has, is)
 
-  few_too : (s : Can one) → HaveFewCodewords d w global given group_dim bit_depth bytes p passes one s → HaveFewCodewords d w global given group_dim bit_depth bytes p passes other (can_too s)
+  few_too : (s : Can one) → HaveFewCodewords d w global given group_dim bit_depth bytes p passes one trees.codewords s →
+      HaveFewCodewords d w global given group_dim bit_depth bytes p passes other trees.codewords (can_too s)
   few_too s h = let (n, have, low) = h in (n, have_too s.has.stands _ n have, low)
 
-  shallow_too : (s : Can one) → AreShallow d w global given group_dim bit_depth bytes p passes one deepest s → AreShallow d w global given group_dim bit_depth bytes p passes other deepest (can_too s)
+  shallow_too : (s : Can one) → AreShallow d w global given group_dim bit_depth bytes p passes one trees.depth s →
+      AreShallow d w global given group_dim bit_depth bytes p passes other trees.depth (can_too s)
   shallow_too s h = record { image = h.image; groups = h.groups }
 
   -- the channels of a frame
-  pub still_too : (grids : List (Grid ℤ)) (before after : ℕ) → IsStill d w global given group_dim bit_depth bytes p passes one deepest grids before after →
-      IsStill d w global given group_dim bit_depth bytes p passes other deepest grids before after
+  pub still_too : (grids : List (Grid ℤ)) (before after : ℕ) → IsStill d w global given group_dim bit_depth bytes p passes one trees grids before after →
+      IsStill d w global given group_dim bit_depth bytes p passes other trees grids before after
   still_too grids before after s = record { can = can_too s.can; few = few_too s.can s.few; shallow = shallow_too s.can s.shallow; decoded = s.decoded }
 
   -- why it has none

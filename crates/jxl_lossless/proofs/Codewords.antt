@@ -19,6 +19,7 @@ use Rattle.jxlm_tree_depth.proofs.Depths.{never}
 use Rattle.jxl_coding.specs.Parse.{decoder_at}
 use Rattle.jxl_coding.specs.Tokens.{Entropy, entropy}
 use Rattle.jxl_modular.specs.declared.sections.Section.{Section}
+use Rattle.jxl_picture.specs.declared.limits.TreeLimits.{TreeLimits}
 use Rattle.jxl_lossless.specs.Codewords.{HasCodewords, codewords_of}
 use Rattle.jxl_lossless.specs.Inner.Codewords.{AreBeyond, AreWithin, CodewordsSay, SectionHas, SumSays}
 use Rattle.jxl_lossless.specs.Inner.Depths.{UsesGlobal}
@@ -72,36 +73,36 @@ module _ (list : SectionPart → ChannelList) where
       let sum_is = sum_first n ns in
       (k, ns, has.1, omega (arith, first_is, sum_is))
 
-module _ (has_global : Bool) (given : ChannelList) (group_dim : ℕ) (bytes : List ℕ) (p : ℕ) (passes : List Pass) (ss : List Section) where
+module _ (has_global : Bool) (given : ChannelList) (group_dim : ℕ) (bytes : List ℕ) (p : ℕ) (passes : List Pass) (most : ℕ) (ss : List Section) where
   -- the same by the coded channels of the image's header
   pub coded_have : {E : Type 0} (own : ℕ) (coded : CodedChannels) (result : Result Bool E) → OpensCoded has_global given group_dim passes bytes p (Some coded) → HasCodewords given bytes p own →
-      IfOk result (SumSays (list_of_part coded.group_dim coded.passes.items (list_of coded.channels)) own ss) → IfOk result (CodewordsSay has_global given group_dim bytes p passes ss)
+      IfOk result (SumSays (list_of_part coded.group_dim coded.passes.items (list_of coded.channels)) most own ss) → IfOk result (CodewordsSay has_global given group_dim bytes p passes most ss)
   coded_have own coded (Err e) opens has says = tt
   coded_have own coded (Ok b) opens has says = λ head q e.
       let (seen, at, reads, list, dim, by) = opens in
       let same : seen ≡ head = one_head ((opening has_global given).read bytes p) seen head at q reads e in
-      let here : SumSays (list_of_part group_dim passes head.coded.list) own ss b =
-      subst (λ (h : Opening). SumSays (list_of_part group_dim passes h.coded.list) own ss b) same
-      (subst (λ (l : ChannelList). SumSays (list_of_part group_dim passes l) own ss b) list
-      (subst (λ (ps : List Pass). SumSays (list_of_part group_dim ps (list_of coded.channels)) own ss b) by
-      (subst (λ n. SumSays (list_of_part n coded.passes.items (list_of coded.channels)) own ss b) dim says))) in
+      let here : SumSays (list_of_part group_dim passes head.coded.list) most own ss b =
+      subst (λ (h : Opening). SumSays (list_of_part group_dim passes h.coded.list) most own ss b) same
+      (subst (λ (l : ChannelList). SumSays (list_of_part group_dim passes l) most own ss b) list
+      (subst (λ (ps : List Pass). SumSays (list_of_part group_dim ps (list_of coded.channels)) most own ss b) by
+      (subst (λ n. SumSays (list_of_part n coded.passes.items (list_of coded.channels)) most own ss b) dim says))) in
       (own, has, here)
 
   -- where the image's header has an error nothing is compared
-  pub none_has : (b : Bool) → OpensCoded has_global given group_dim passes bytes p None → CodewordsSay has_global given group_dim bytes p passes ss b
+  pub none_has : (b : Bool) → OpensCoded has_global given group_dim passes bytes p None → CodewordsSay has_global given group_dim bytes p passes most ss b
   none_has b (error, is) = λ head q e. absurd (no_head ((opening has_global given).read bytes p) error (record { value = head; position = q }) is e)
 
 -- what comparing says of equal channels, sides and sections
-module _ {D : Type 0} (d : Meaning D) (global : Option (Config D)) (l m : ChannelList) (dim side : ℕ) (bytes : List ℕ) (p : ℕ) (passes : List Pass) (deepest : ℕ) (ss ts : List Section)
+module _ {D : Type 0} (d : Meaning D) (global : Option (Config D)) (l m : ChannelList) (dim side : ℕ) (bytes : List ℕ) (p : ℕ) (passes : List Pass) (limits : TreeLimits) (ss ts : List Section)
     (lists : l ≡ m) (dims : dim ≡ side) (sections : ss ≡ ts) where
-  pub same_within : AreWithin d global l dim bytes p passes deepest ss → AreWithin d global m side bytes p passes deepest ts
+  pub same_within : AreWithin d global l dim bytes p passes limits ss → AreWithin d global m side bytes p passes limits ts
   same_within h =
-      subst (λ (xs : List Section). AreWithin d global m side bytes p passes deepest xs) sections
-      (subst (λ n. AreWithin d global m n bytes p passes deepest ss) dims
-      (subst (λ (x : ChannelList). AreWithin d global x dim bytes p passes deepest ss) lists h))
+      subst (λ (xs : List Section). AreWithin d global m side bytes p passes limits xs) sections
+      (subst (λ n. AreWithin d global m n bytes p passes limits ss) dims
+      (subst (λ (x : ChannelList). AreWithin d global x dim bytes p passes limits ss) lists h))
 
-  pub same_beyond : (e : FrameError) → AreBeyond d global l dim bytes p passes deepest ss e → AreBeyond d global m side bytes p passes deepest ts e
+  pub same_beyond : (e : FrameError) → AreBeyond d global l dim bytes p passes limits ss e → AreBeyond d global m side bytes p passes limits ts e
   same_beyond e h =
-      subst (λ (xs : List Section). AreBeyond d global m side bytes p passes deepest xs e) sections
-      (subst (λ n. AreBeyond d global m n bytes p passes deepest ss e) dims
-      (subst (λ (x : ChannelList). AreBeyond d global x dim bytes p passes deepest ss e) lists h))
+      subst (λ (xs : List Section). AreBeyond d global m side bytes p passes limits xs e) sections
+      (subst (λ n. AreBeyond d global m n bytes p passes limits ss e) dims
+      (subst (λ (x : ChannelList). AreBeyond d global x dim bytes p passes limits ss e) lists h))

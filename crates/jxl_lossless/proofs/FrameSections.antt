@@ -55,19 +55,19 @@ module _ {D X : Type 0} (d : Meaning D) (bytes : List ℕ) (image : Image) (slot
     (cut : parts_of frame.layout ≡ layout_in image (frame_at frame).header) (count : length frame.toc.entries.items ≡ section_count_of (layout_in image (frame_at frame).header)) where
   -- the channels that its sections code are those of the frame
   pub frame_made : (places : Places) (grids : X → List (Grid ℤ)) (before after : ℕ) (result : Result X FileError) →
-      IfOk result (λ v. IsMade d image slots (frame_of frame.header) frame.deepest x.now places (grids v) before after) →
+      IfOk result (λ v. IsMade d image slots (frame_of frame.header) frame.trees x.now places (grids v) before after) →
       places.layout.now ≡ frame.layout → places.sections.now ≡ list → places.passes.now.entries ≡ pass_shifts (frame_at frame).header.passes →
       IfOk result (λ v. IsFrame d image slots bytes (frame_at frame) (grids v) before after)
   frame_made places grids before after result made same_cut same passes =
       let are = sections_are bytes image frame list entries x places lies told index cut count same_cut same in
       framed d image slots bytes (frame_at frame) places passes are.1 grids before after result
-      (subst (λ (first : List ℕ). IfOk result (λ v. IsMade d image slots (frame_of frame.header) frame.deepest first places (grids v) before after)) are.0 made)
+      (subst (λ (first : List ℕ). IfOk result (λ v. IsMade d image slots (frame_of frame.header) frame.trees first places (grids v) before after)) are.0 made)
 
   -- and what fails in them fails in the frame
-  pub not_made : (places : Places) (result : Result X FileError) → IfErr result (MadeFails d image slots (frame_of frame.header) frame.deepest x.now places) →
+  pub not_made : (places : Places) (result : Result X FileError) → IfErr result (MadeFails d image slots (frame_of frame.header) frame.trees x.now places) →
       places.layout.now ≡ frame.layout → places.sections.now ≡ list → places.passes.now.entries ≡ pass_shifts (frame_at frame).header.passes →
       IfErr result (FrameFails d image slots bytes (frame_at frame))
   not_made places result fails same_cut same passes =
       let are = sections_are bytes image frame list entries x places lies told index cut count same_cut same in
       frame_fails d image slots bytes (frame_at frame) places passes are.1 result
-      (subst (λ (first : List ℕ). IfErr result (MadeFails d image slots (frame_of frame.header) frame.deepest first places)) are.0 fails)
+      (subst (λ (first : List ℕ). IfErr result (MadeFails d image slots (frame_of frame.header) frame.trees first places)) are.0 fails)

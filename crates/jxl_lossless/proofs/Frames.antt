@@ -25,6 +25,7 @@ use Rattle.jxl_patches.specs.Patches.{Patches}
 use Rattle.jxl_patches.specs.Errors.{patch_kind}
 use Rattle.jxl_patches.specs.declared.error.PatchError.{PatchError}
 use Rattle.jxl_picture.specs.Limits.{channel_count}
+use Rattle.jxl_picture.specs.declared.limits.TreeLimits.{TreeLimits}
 use Rattle.jxl_lossless.specs.Sections.{section_of, sections_in}
 use Rattle.jxl_patches.specs.Slots.{Slots, optional_patches, sizes_of}
 use Rattle.jxl_lossless.specs.Frames.{FrameFails, HasPatches, HasTree, IsFrame, SharedTree, channels_given}
@@ -32,10 +33,10 @@ use Rattle.jxl_lossless.specs.Inner.Coded.{BeginsWith, CodedFails, IsMade, MadeF
 use Rattle.jxl_lossless.specs.declared.error.FileError.{FileError}
 use Rattle.jxl_lossless.specs.declared.error.FileError.TheVariants as errors
 
-module _ {D : Type 0} (d : Meaning D) (image : Image) (slots : Slots) (frame : Frame) (deepest : ℕ) (first : List ℕ) (places : Places) where
+module _ {D : Type 0} (d : Meaning D) (image : Image) (slots : Slots) (frame : Frame) (trees : TreeLimits) (first : List ℕ) (places : Places) where
   -- patches were read, and what comes after them has this error
   pub made_fails : (patches : Option Patches) (begin : ℕ) → BeginsWith d image slots frame first patches begin → (e : FileError) →
-      CodedFails d w32 image deepest (frame_size image.size frame) frame.group_dim first begin places e → MadeFails d image slots frame deepest first places e
+      CodedFails d w32 image trees (frame_size image.size frame) frame.group_dim first begin places e → MadeFails d image slots frame trees first places e
   made_fails patches begin stands errors.OutOfMemory h = tt
   made_fails patches begin stands (errors.Start e) h = record { patches = patches; begin = begin; dictionary = stands; fails = h }
   made_fails patches begin stands (errors.Tree e) h = record { patches = patches; begin = begin; dictionary = stands; fails = h }
@@ -62,7 +63,7 @@ module _ {D : Type 0} (d : Meaning D) (image : Image) (slots : Slots) (frame : F
     begins patches e = sym read_there ∙ e
 
     pub patches_fail : (e : PatchError) → UnlessMemory (patch_kind e) (IsErrorAt ((optional_patches d frame.coding.flags.patches size extra sizes).read bytes p) (patch_kind e) q) →
-        MadeFails d image slots frame deepest first places (errors.Patches e)
+        MadeFails d image slots frame trees first places (errors.Patches e)
     patches_fail e h =
         unless_so (patch_kind e) (λ f. (q, f)) (subst (λ (r : Result (Found (Option Patches)) ErrorAt). UnlessMemory (patch_kind e) (IsErrorAt r (patch_kind e) q)) read_there h)
 
@@ -82,32 +83,32 @@ module _ {D : Type 0} (d : Meaning D) (image : Image) (slots : Slots) (bytes : L
   its = section_of (layout_in image frame.header) (sections_in bytes frame)
 
   abbrev Still : Option (Config D) → ℕ → List Pass → (SectionPart → Option (List ℕ × ℕ)) → List (Grid ℤ) → ℕ → ℕ → Type 0
-  Still global begin ps f = IsStill d w32 global (channels_given image size) frame.header.group_dim image.bit_depth.bits_per_sample first begin ps f frame.deepest
+  Still global begin ps f = IsStill d w32 global (channels_given image size) frame.header.group_dim image.bit_depth.bits_per_sample first begin ps f frame.trees
 
   abbrev Fails : Option (Config D) → ℕ → List Pass → (SectionPart → Option (List ℕ × ℕ)) → FrameError → Type 0
-  Fails global begin ps f = StillFails d w32 global (channels_given image size) frame.header.group_dim image.bit_depth.bits_per_sample first begin ps f frame.deepest
+  Fails global begin ps f = StillFails d w32 global (channels_given image size) frame.header.group_dim image.bit_depth.bits_per_sample first begin ps f frame.trees
 
   -- the places are those of the frame
   still_of : (global : Option (Config D)) (begin : ℕ) (grids : List (Grid ℤ)) (before after : ℕ) → Still global begin (own_passes places) (section_at places) grids before after → Still global begin told its grids before after
   still_of global begin grids before after s =
-      still_too d w32 global (channels_given image size) frame.header.group_dim image.bit_depth.bits_per_sample first begin told frame.deepest (section_at places) its alike grids before after
+      still_too d w32 global (channels_given image size) frame.header.group_dim image.bit_depth.bits_per_sample first begin told frame.trees (section_at places) its alike grids before after
       (subst (λ (ps : List Pass). Still global begin ps (section_at places) grids before after) (ap passes_of passes) s)
 
   fails_of : (global : Option (Config D)) (begin : ℕ) (e : FrameError) → Fails global begin (own_passes places) (section_at places) e → Fails global begin told its e
   fails_of global begin e s =
-      fails_too d w32 global (channels_given image size) frame.header.group_dim image.bit_depth.bits_per_sample first begin told frame.deepest (section_at places) its alike e
+      fails_too d w32 global (channels_given image size) frame.header.group_dim image.bit_depth.bits_per_sample first begin told frame.trees (section_at places) its alike e
       (subst (λ (ps : List Pass). Fails global begin ps (section_at places) e) (ap passes_of passes) s)
 
   abbrev has_patches : (patches : Option Patches) (begin : ℕ) → BeginsWith d image slots frame.header first patches begin → HasPatches d image slots bytes frame
   has_patches patches begin stand = record { patches = patches; begin = begin; stand = stand }
 
   abbrev has_tree : (patches : Option Patches) (begin : ℕ) → BeginsWith d image slots frame.header first patches begin → (global : Option (Config D)) (q : ℕ) →
-      SharedTree d size (channel_count image) frame.deepest first begin global q → HasTree d image slots bytes frame
+      SharedTree d size (channel_count image) frame.trees.depth first begin global q → HasTree d image slots bytes frame
   has_tree patches begin stand global q shared = record { after = has_patches patches begin stand; global = global; begin = q; shared = shared }
 
   -- the channels that were made are those of the frame
   pub framed : {X : Type 0} (grids : X → List (Grid ℤ)) (before after : ℕ) (result : Result X FileError) →
-      IfOk result (λ x. IsMade d image slots frame.header frame.deepest first places (grids x) before after) → IfOk result (λ x. IsFrame d image slots bytes frame (grids x) before after)
+      IfOk result (λ x. IsMade d image slots frame.header frame.trees first places (grids x) before after) → IfOk result (λ x. IsFrame d image slots bytes frame (grids x) before after)
   framed grids before after (Ok x) h = record {
     tree = has_tree h.patches h.begin h.dictionary h.coded.global h.coded.begin h.coded.shared;
     own = h.own;
@@ -116,7 +117,7 @@ module _ {D : Type 0} (d : Meaning D) (image : Image) (slots : Slots) (bytes : L
   }
   framed grids before after (Err e) h = tt
 
-  bad : (e : FileError) → MadeFails d image slots frame.header frame.deepest first places e → FrameFails d image slots bytes frame e
+  bad : (e : FileError) → MadeFails d image slots frame.header frame.trees first places e → FrameFails d image slots bytes frame e
   bad errors.OutOfMemory h = tt
   bad (errors.Patches e) h = h
   bad (errors.Start e) h = (has_patches h.patches h.begin h.dictionary, h.fails)
@@ -126,6 +127,6 @@ module _ {D : Type 0} (d : Meaning D) (image : Image) (slots : Slots) (bytes : L
   bad (errors.File e) h = absurd h.fails
   bad (errors.Front e) h = absurd h.fails
 
-  pub frame_fails : {X : Type 0} (result : Result X FileError) → IfErr result (MadeFails d image slots frame.header frame.deepest first places) → IfErr result (FrameFails d image slots bytes frame)
+  pub frame_fails : {X : Type 0} (result : Result X FileError) → IfErr result (MadeFails d image slots frame.header frame.trees first places) → IfErr result (FrameFails d image slots bytes frame)
   frame_fails (Ok x) h = tt
   frame_fails (Err e) h = bad e h

@@ -43,7 +43,8 @@ use Rattle.jxl_lossless.specs.Places.{own_passes, section_at}
 use Rattle.jxl_lossless.proofs.Complete.{all_ones, complete, each_one, exist, sections_in_order, unlike}
 use Rattle.jxl_lossless.proofs.Order.{streams_rise}
 use Rattle.jxl_lossless.proofs.Weighted.{all_plain, none_there, some_weighted, stands_there}
-use Rattle.jxl_lossless.specs.Codewords.{HasCodewords, most_codewords}
+use Rattle.jxl_picture.specs.declared.limits.TreeLimits.{TreeLimits}
+use Rattle.jxl_lossless.specs.Codewords.{HasCodewords}
 use Rattle.jxl_lossless.specs.Stills.{AreShallow, CanDecode, GroupHas, HasSections, HaveFewCodewords, HaveManyCodewords, HeaderStands, IsDeepAt, IsShallowAt, IsStill, StillFails, image_at}
 use Rattle.jxl_lossless.specs.Inner.Codewords.{AreBeyond, AreWithin, CodewordsSay, SectionHas, SumSays}
 use Rattle.jxl_lossless.specs.Inner.Depths.{DepthsSay, IsDeep, IsShallow, SectionsSay, TreesSay}
@@ -70,7 +71,7 @@ whole_decoded d w to_int zero x passes global sections whole grids before after 
 can_be_grouped : (passes : List Pass) (cs : List Channel) → IsTrue (can_group passes []) → IsTrue (one_picture cs) → IsTrue (can_group passes cs)
 can_be_grouped passes cs can one = rw one can
 
-module _ {S D : Type 0} (d : Meaning D) (w : Width) (to_int : S → ℤ) (zero : S) (global : Option (Config D)) (ps : List ModularChannelParams) (group_dim bit_depth : ℕ) (bytes : List ℕ) (p : ℕ) (places : Places) (deepest : ℕ) where
+module _ {S D : Type 0} (d : Meaning D) (w : Width) (to_int : S → ℤ) (zero : S) (global : Option (Config D)) (ps : List ModularChannelParams) (group_dim bit_depth : ℕ) (bytes : List ℕ) (p : ℕ) (places : Places) (trees : TreeLimits) where
   abbrev given : ChannelList
   given = image_list ps
 
@@ -78,7 +79,7 @@ module _ {S D : Type 0} (d : Meaning D) (w : Width) (to_int : S → ℤ) (zero :
   passes = own_passes places
 
   abbrev Fails : FrameError → Type 0
-  Fails = StillFails d w global given group_dim bit_depth bytes p (own_passes places) (section_at places) deepest
+  Fails = StillFails d w global given group_dim bit_depth bytes p (own_passes places) (section_at places) trees
 
   abbrev Stands : Type 0
   Stands = HeaderStands d w global given group_dim bit_depth bytes p (own_passes places) (section_at places)
@@ -90,7 +91,7 @@ module _ {S D : Type 0} (d : Meaning D) (w : Width) (to_int : S → ℤ) (zero :
   Can = CanDecode d w global given group_dim bit_depth bytes p (own_passes places) (section_at places)
 
   abbrev Made : List (Grid ℤ) → ℕ → ℕ → Type 0
-  Made = IsStill d w global given group_dim bit_depth bytes p (own_passes places) (section_at places) deepest
+  Made = IsStill d w global given group_dim bit_depth bytes p (own_passes places) (section_at places) trees
 
   -- what holds of each of these parts holds of the one that has no section
   of_lacking : (P : SectionPart → Type 0) (ps : List SectionPart) → All P ps → (lacks : Lacks places ps) → P lacks.part
@@ -227,17 +228,17 @@ module _ {S D : Type 0} (d : Meaning D) (w : Width) (to_int : S → ℤ) (zero :
 
         -- what comparing the trees says of the image's header
         abbrev Depths : Bool → Type 0
-        Depths b = DepthsSay d global (list_of_part group_dim passes o.head.coded.list) deepest given bytes p sections b
+        Depths b = DepthsSay d global (list_of_part group_dim passes o.head.coded.list) trees.depth given bytes p sections b
 
-        of_trees : (b : Bool) → TreesSay d global given group_dim bytes p (own_passes places) deepest sections b → Depths b
-        of_trees b trees = trees o.head o.start.tree_at o.start.header
+        of_trees : (b : Bool) → TreesSay d global given group_dim bytes p (own_passes places) trees.depth sections b → Depths b
+        of_trees b says = says o.head o.start.tree_at o.start.header
 
         module _ (plain : list_any section_is_weighted sections ≡ false) where
           abbrev list : SectionPart → ChannelList
           list = list_of_part group_dim passes o.head.coded.list
 
           abbrev HaveFew : Can → Type 0
-          HaveFew c = HaveFewCodewords d w global given group_dim bit_depth bytes p (own_passes places) (section_at places) c
+          HaveFew c = HaveFewCodewords d w global given group_dim bit_depth bytes p (own_passes places) (section_at places) trees.codewords c
 
           abbrev Group : SectionPart → ℕ → Type 0
           Group part n = GroupHas d w global given group_dim bit_depth bytes p (own_passes places) (section_at places) stands part n
@@ -269,14 +270,14 @@ module _ {S D : Type 0} (d : Meaning D) (w : Width) (to_int : S → ℤ) (zero :
             by true e h = never e
             by false e h = h
 
-          few_by : (own : ℕ) → HasCodewords given bytes p own → (ns : List ℕ) → AllZip (SectionHas list) (first ∷ more) ns → own + sum ns ≤ most_codewords → HaveFew (can plain)
+          few_by : (own : ℕ) → HasCodewords given bytes p own → (ns : List ℕ) → AllZip (SectionHas list) (first ∷ more) ns → own + sum ns ≤ trees.codewords → HaveFew (can plain)
           few_by own header [] has low = absurd has
           few_by own header (n ∷ ns) has low =
               let none = first_has n has.0 in
               let sum_is = sum_first n ns in
               (own + sum ns, (own, header, ns, subst (λ (ps : List SectionPart). AllZip Group ps ns) parts_are (groups_have more ns listed.added.groups has.1), refl), omega (arith, none, sum_is, low))
 
-          many_by : (own : ℕ) → HasCodewords given bytes p own → (k : ℕ) (ns : List ℕ) → AllZip (SectionHas list) (take k (first ∷ more)) ns → most_codewords < own + sum ns → Fails errors.TooManyCodewords
+          many_by : (own : ℕ) → HasCodewords given bytes p own → (k : ℕ) (ns : List ℕ) → AllZip (SectionHas list) (take k (first ∷ more)) ns → trees.codewords < own + sum ns → Fails errors.TooManyCodewords
           many_by own header k ns has much =
               let (j, ms, others, same) = others_have list first more first_has k ns has in
               let these : map (λ (s : Section). s.part) (take j more) ≡ take j groups = sym (take-map (λ (s : Section). s.part) j more) ∙ ap (λ (ps : List SectionPart). take j ps) parts_are in (
@@ -290,37 +291,37 @@ module _ {S D : Type 0} (d : Meaning D) (w : Width) (to_int : S → ℤ) (zero :
               )
 
           abbrev Sums : Bool → Type 0
-          Sums b = (own : ℕ) × HasCodewords given bytes p own × SumSays list own sections b
+          Sums b = (own : ℕ) × HasCodewords given bytes p own × SumSays list trees.codewords own sections b
 
-          sums_of : (b : Bool) → CodewordsSay (is_some global) given group_dim bytes p (own_passes places) sections b → Sums b
+          sums_of : (b : Bool) → CodewordsSay (is_some global) given group_dim bytes p (own_passes places) trees.codewords sections b → Sums b
           sums_of b says = says o.head o.start.tree_at o.start.header
 
           -- the codes of the own trees have few codewords
-          has_few : CodewordsSay (is_some global) given group_dim bytes p (own_passes places) sections false → HaveFew (can plain)
+          has_few : CodewordsSay (is_some global) given group_dim bytes p (own_passes places) trees.codewords sections false → HaveFew (can plain)
           has_few says =
               let (own, header, sums) = sums_of false says in
               let (ns, has, low) = sums in
               few_by own header ns (subst (λ (ss : List Section). AllZip (SectionHas list) ss ns) sections_are has) low
 
-          has_many : CodewordsSay (is_some global) given group_dim bytes p (own_passes places) sections true → Fails errors.TooManyCodewords
+          has_many : CodewordsSay (is_some global) given group_dim bytes p (own_passes places) trees.codewords sections true → Fails errors.TooManyCodewords
           has_many says =
               let (own, header, sums) = sums_of true says in
               let (k, ns, has, much) = sums in
               many_by own header k ns (subst (λ (ss : List Section). AllZip (SectionHas list) (take k ss) ns) sections_are has) much
 
           abbrev Says : List Section → Bool → Type 0
-          Says ss b = SectionsSay d global list deepest ss b
+          Says ss b = SectionsSay d global list trees.depth ss b
 
           deep_by : HaveFew (can plain) → Depths true → Fails errors.TooManyDecisions
           deep_by few (inl deep) = (can plain, few, inl deep)
           deep_by few (inr says) =
-              let (k, s, lt, at, is) = among_more (IsDeep d global list deepest) first more (ap (λ (t : Section). t.nested) listed.of_global) (subst (λ (ss : List Section). Says ss true) sections_are says) in
+              let (k, s, lt, at, is) = among_more (IsDeep d global list trees.depth) first more (ap (λ (t : Section). t.nested) listed.of_global) (subst (λ (ss : List Section). Says ss true) sections_are says) in
               let begins : position_of s.bits ≡ 0 = subst (λ (t : Section). position_of t.bits ≡ 0) at (begin_groups k s lt).0 in
-              let here : IsDeepAt d global (list s.part) deepest (bytes_of s.bits) 0 = subst (λ n. IsDeepAt d global (list s.part) deepest (bytes_of s.bits) n) begins is.1 in
+              let here : IsDeepAt d global (list s.part) trees.depth (bytes_of s.bits) 0 = subst (λ n. IsDeepAt d global (list s.part) trees.depth (bytes_of s.bits) n) begins is.1 in
               (can plain, few, inr (k, s, lt, at, here))
 
           -- the trees are not within a limit
-          pub beyond_fail : (e : FrameError) → AreBeyond d global given group_dim bytes p (own_passes places) deepest sections e → Fails e
+          pub beyond_fail : (e : FrameError) → AreBeyond d global given group_dim bytes p (own_passes places) trees sections e → Fails e
           beyond_fail errors.TooManyCodewords h = has_many h
           beyond_fail errors.TooManyDecisions h = deep_by (has_few h.0) (of_trees true h.1)
           beyond_fail errors.OutOfMemory h = tt
@@ -332,21 +333,22 @@ module _ {S D : Type 0} (d : Meaning D) (w : Width) (to_int : S → ℤ) (zero :
           beyond_fail (errors.Samples e) h = absurd h
 
           -- none is too deep
-          all_shallow : TreesSay d global given group_dim bytes p (own_passes places) deepest sections false → AreShallow d w global given group_dim bit_depth bytes p (own_passes places) (section_at places) deepest (can plain)
-          all_shallow trees =
-              let says = of_trees false trees in
+          all_shallow : TreesSay d global given group_dim bytes p (own_passes places) trees.depth sections false →
+              AreShallow d w global given group_dim bit_depth bytes p (own_passes places) (section_at places) trees.depth (can plain)
+          all_shallow compared =
+              let says = of_trees false compared in
               record {
                 image = says.0;
                 groups = λ k s lt.
                     let t : Section = get_or more k s in
-                    let each : All (λ s. s.nested ≡ true → IsShallow d global list deepest s) more = All-tail (λ s. s.nested ≡ true → IsShallow d global list deepest s) first more (subst (λ (ss : List Section). Says ss false) sections_are says.1) in
+                    let each : All (λ s. s.nested ≡ true → IsShallow d global list trees.depth s) more = All-tail (λ s. s.nested ≡ true → IsShallow d global list trees.depth s) first more (subst (λ (ss : List Section). Says ss false) sections_are says.1) in
                     let begins = begin_groups k s lt in
-                    let here : IsShallowAt d global (list t.part) deepest (bytes_of t.bits) 0 = subst (λ n. IsShallowAt d global (list t.part) deepest (bytes_of t.bits) n) begins.0 (each k s lt begins.1) in
+                    let here : IsShallowAt d global (list t.part) trees.depth (bytes_of t.bits) 0 = subst (λ n. IsShallowAt d global (list t.part) trees.depth (bytes_of t.bits) n) begins.0 (each k s lt begins.1) in
                     here;
               }
 
         -- decoding them fails
-        pub samples_fail : (e : FrameError) → list_any section_is_weighted sections ≡ false → AreWithin d global given group_dim bytes p (own_passes places) deepest sections → SamplesStop d w to_int zero image passes global sections e → Fails e
+        pub samples_fail : (e : FrameError) → list_any section_is_weighted sections ≡ false → AreWithin d global given group_dim bytes p (own_passes places) trees sections → SamplesStop d w to_int zero image passes global sections e → Fails e
         samples_fail (errors.Samples e) plain within h =
             let (left, before, after, stop) = h in
             let here = subst (λ ss. SectionsStop d w to_int zero image passes global false ss e image.store left before after) sections_are stop in
@@ -362,7 +364,7 @@ module _ {S D : Type 0} (d : Meaning D) (w : Width) (to_int : S → ℤ) (zero :
         samples_fail errors.OutOfMemory plain within h = absurd h
 
         -- or there is the frame
-        pub made : list_any section_is_weighted sections ≡ false → AreWithin d global given group_dim bytes p (own_passes places) deepest sections → (grids : List (Grid ℤ)) (before after : ℕ) → AreDecoded d w to_int zero image passes global sections grids before after → Made grids before after
+        pub made : list_any section_is_weighted sections ≡ false → AreWithin d global given group_dim bytes p (own_passes places) trees sections → (grids : List (Grid ℤ)) (before after : ℕ) → AreDecoded d w to_int zero image passes global sections grids before after → Made grids before after
         made plain within grids before after done =
             let here = subst (λ ss. AreDecoded d w to_int zero image passes global ss grids before after) sections_are done in
             record {

@@ -13,6 +13,7 @@ use Rattle.jxl_image_header.specs.declared.size.Size.{Size}
 use Rattle.jxl_codestream.specs.Starts.{section_start, tree_limit}
 use Rattle.jxl_codestream.specs.Fronts.{StandsAt}
 use Rattle.jxl_picture.specs.Limits.{channel_count}
+use Rattle.jxl_picture.specs.declared.limits.TreeLimits.{TreeLimits}
 use Rattle.jxl_lossless.specs.Places.{own_passes, section_at}
 use Rattle.jxl_lossless.specs.Stills.{IsStill, StillFails}
 use Rattle.jxl_lossless.specs.declared.still.error.FrameError.{FrameError}
@@ -45,20 +46,20 @@ a_deep_tree d size n deepest first p q there bytes same limit most tree r gives 
 )
 
 -- an error before the image is one of the frame
-pub start_fails : {D : Type 0} (d : Meaning D) (w : Width) (image : Image) (size : Size) (group_dim n deepest : ℕ) (first : List ℕ) (p : ℕ) (places : Places) (count : n ≡ channel_count image) (e : FileError) →
-    StartFails d size n deepest first p e → CodedFails d w image deepest size group_dim first p places e
-start_fails d w image size group_dim n deepest first p places count (errors.Start e) h = h
-start_fails d w image size group_dim n deepest first p places count (errors.Tree e) h = subst (λ m. StartFails d size m deepest first p (errors.Tree e)) count h
-start_fails d w image size group_dim n deepest first p places count errors.TooManyDecisions h = subst (λ m. StartFails d size m deepest first p errors.TooManyDecisions) count h
-start_fails d w image size group_dim n deepest first p places count errors.OutOfMemory h = absurd h
-start_fails d w image size group_dim n deepest first p places count (errors.Samples e) h = absurd h
-start_fails d w image size group_dim n deepest first p places count (errors.Patches e) h = absurd h
-start_fails d w image size group_dim n deepest first p places count (errors.File e) h = absurd h
-start_fails d w image size group_dim n deepest first p places count (errors.Front e) h = absurd h
+pub start_fails : {D : Type 0} (d : Meaning D) (w : Width) (image : Image) (size : Size) (group_dim n : ℕ) (trees : TreeLimits) (first : List ℕ) (p : ℕ) (places : Places) (count : n ≡ channel_count image) (e : FileError) →
+    StartFails d size n trees.depth first p e → CodedFails d w image trees size group_dim first p places e
+start_fails d w image size group_dim n trees first p places count (errors.Start e) h = h
+start_fails d w image size group_dim n trees first p places count (errors.Tree e) h = subst (λ m. StartFails d size m trees.depth first p (errors.Tree e)) count h
+start_fails d w image size group_dim n trees first p places count errors.TooManyDecisions h = subst (λ m. StartFails d size m trees.depth first p errors.TooManyDecisions) count h
+start_fails d w image size group_dim n trees first p places count errors.OutOfMemory h = absurd h
+start_fails d w image size group_dim n trees first p places count (errors.Samples e) h = absurd h
+start_fails d w image size group_dim n trees first p places count (errors.Patches e) h = absurd h
+start_fails d w image size group_dim n trees first p places count (errors.File e) h = absurd h
+start_fails d w image size group_dim n trees first p places count (errors.Front e) h = absurd h
 
 -- the image after it is read as the parameters say
-module _ {D : Type 0} (d : Meaning D) (w : Width) (image : Image) (size : Size) (group_dim n deepest : ℕ) (first here : List ℕ) (p q : ℕ) (places : Places) (global : Option (Config D)) (params : ModularParams D)
-    (count : n ≡ channel_count image) (shared : SharedTree d size n deepest first p global q) (same : here ≡ first) (tree : option_copied params.ma_config ≡ global) (list : image_list params.channels.items ≡ channels_given image size)
+module _ {D : Type 0} (d : Meaning D) (w : Width) (image : Image) (size : Size) (group_dim n : ℕ) (trees : TreeLimits) (first here : List ℕ) (p q : ℕ) (places : Places) (global : Option (Config D)) (params : ModularParams D)
+    (count : n ≡ channel_count image) (shared : SharedTree d size n trees.depth first p global q) (same : here ≡ first) (tree : option_copied params.ma_config ≡ global) (list : image_list params.channels.items ≡ channels_given image size)
     (dim : params.group_dim ≡ group_dim) (depth : params.bit_depth ≡ image.bit_depth.bits_per_sample) where
   -- what holds of it by the parameters holds of it by the image
   by_image : (P : Option (Config D) → ChannelList → ℕ → ℕ → List ℕ → Type 0) → P (option_copied params.ma_config) (image_list params.channels.items) params.group_dim params.bit_depth here →
@@ -71,21 +72,21 @@ module _ {D : Type 0} (d : Meaning D) (w : Width) (image : Image) (size : Size) 
       (subst (λ (b : List ℕ). P (option_copied params.ma_config) (image_list params.channels.items) params.group_dim params.bit_depth b) same h))))
 
   -- these are its channels
-  pub coded : (grids : List (Grid ℤ)) (before after : ℕ) → IsStill d w (option_copied params.ma_config) (image_list params.channels.items) params.group_dim params.bit_depth here q (own_passes places) (section_at places) deepest grids before after →
-      IsCoded d w image deepest size group_dim first p places grids before after
+  pub coded : (grids : List (Grid ℤ)) (before after : ℕ) → IsStill d w (option_copied params.ma_config) (image_list params.channels.items) params.group_dim params.bit_depth here q (own_passes places) (section_at places) trees grids before after →
+      IsCoded d w image trees size group_dim first p places grids before after
   coded grids before after is = record {
     global = global;
     begin = q;
-    shared = subst (λ m. SharedTree d size m deepest first p global q) count shared;
-    still = by_image (λ g l m k b. IsStill d w g l m k b q (own_passes places) (section_at places) deepest grids before after) is;
+    shared = subst (λ m. SharedTree d size m trees.depth first p global q) count shared;
+    still = by_image (λ g l m k b. IsStill d w g l m k b q (own_passes places) (section_at places) trees grids before after) is;
   }
 
   -- it, or its samples, have an error
-  pub samples_fail : (e : FrameError) → StillFails d w (option_copied params.ma_config) (image_list params.channels.items) params.group_dim params.bit_depth here q (own_passes places) (section_at places) deepest e →
-      SamplesFail d w image deepest size group_dim first p places e
+  pub samples_fail : (e : FrameError) → StillFails d w (option_copied params.ma_config) (image_list params.channels.items) params.group_dim params.bit_depth here q (own_passes places) (section_at places) trees e →
+      SamplesFail d w image trees size group_dim first p places e
   samples_fail e fails = record {
     global = global;
     begin = q;
-    shared = subst (λ m. SharedTree d size m deepest first p global q) count shared;
-    fails = by_image (λ g l m k b. StillFails d w g l m k b q (own_passes places) (section_at places) deepest e) fails;
+    shared = subst (λ m. SharedTree d size m trees.depth first p global q) count shared;
+    fails = by_image (λ g l m k b. StillFails d w g l m k b q (own_passes places) (section_at places) trees e) fails;
   }

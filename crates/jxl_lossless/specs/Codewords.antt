@@ -1,15 +1,11 @@
 -- How many codewords the codes of sections' own trees may have (ISO/IEC 18181-1, Modular: decoding of meta-adaptive trees;
 -- entropy decoding: decoder initialisation), by JPEG XL's entropy decoder.
-use Rattle.std.specs.Prelude.{◌≡◌, ℕ, ◌^◌, List, Option, None, Some}
+use Rattle.std.specs.Prelude.{◌≡◌, ℕ, List, Option, None, Some}
 use Rattle.jxlm_transform.specs.Channels.{ChannelList}
 use Rattle.jxlm_tree.specs.Tree.{Config}
 pub use Rattle.jxlm_tree_depth.specs.Depths.{OwnTreeIs, UsesGlobalAt}
 use Rattle.jxl_coding.specs.Parse.{decoder_at}
 use Rattle.jxl_coding.specs.Tokens.{Entropy, entropy}
-
--- the maximum of them in a frame
-abbrev pub most_codewords : ℕ
-most_codewords = 2 ^ 26
 
 -- how many codewords the codes of a tree may have: as many as their alphabets have symbols; none where there is no tree
 abbrev pub codewords_of : Option (Config Entropy) → ℕ

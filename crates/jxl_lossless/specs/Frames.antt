@@ -91,14 +91,14 @@ module _ {D : Type 0} (d : Meaning D) (image : Image) (slots : Slots) (bytes : L
     pub after : HasPatches
     pub global : Option (Config D)
     pub begin : ℕ
-    pub shared : SharedTree d sides (channel_count image) frame.deepest first after.begin global begin
+    pub shared : SharedTree d sides (channel_count image) frame.trees.depth first after.begin global begin
 
   -- These are the frame's channels: samples of 32 bits, which the sections code by the header's passes, with its patches put in.
   pub record IsFrame (grids : List (Grid ℤ)) (before after : ℕ) : Type 0 where
     pub tree : HasTree
     pub own : List (Grid ℤ)
     pub still : IsStill d w32 tree.global (channels_given image sides) frame.header.group_dim image.bit_depth.bits_per_sample
-        first tree.begin (passes_of (pass_shifts frame.header.passes)) (section_of (layout_in image frame.header) (sections_in bytes frame)) frame.deepest own before after
+        first tree.begin (passes_of (pass_shifts frame.header.passes)) (section_of (layout_in image frame.header) (sections_in bytes frame)) frame.trees own before after
     pub put : ArePut slots (colour_count image) tree.after.patches own grids
 
   -- what each error says: up to which stage all stands, and what fails there
@@ -106,8 +106,8 @@ module _ {D : Type 0} (d : Meaning D) (image : Image) (slots : Slots) (bytes : L
   FrameFails (errors.Patches e) = UnlessMemory (patch_kind e) (FailsAt dictionary first 0 (patch_kind e))
   FrameFails (errors.Start e) = (s : HasPatches) × FailsAt section_start first s.begin (kind_of e)
   FrameFails (errors.Tree e) = (s : HasPatches) × UnlessMemory (kind_of e) (TreeFails d sides (channel_count image) first s.begin (kind_of e))
-  FrameFails errors.TooManyDecisions = (s : HasPatches) × TreeIsDeep d sides (channel_count image) frame.deepest first s.begin
+  FrameFails errors.TooManyDecisions = (s : HasPatches) × TreeIsDeep d sides (channel_count image) frame.trees.depth first s.begin
   FrameFails (errors.Samples e) = (s : HasTree) × StillFails d w32 s.global (channels_given image sides) frame.header.group_dim
-      image.bit_depth.bits_per_sample first s.begin (passes_of (pass_shifts frame.header.passes)) (section_of (layout_in image frame.header) (sections_in bytes frame)) frame.deepest e
+      image.bit_depth.bits_per_sample first s.begin (passes_of (pass_shifts frame.header.passes)) (section_of (layout_in image frame.header) (sections_in bytes frame)) frame.trees e
   FrameFails errors.OutOfMemory = Unit {0}
   FrameFails e = ⊥

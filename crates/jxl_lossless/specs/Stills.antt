@@ -28,7 +28,8 @@ pub use Rattle.jxlm_tree_depth.specs.Depths.{HeaderFails, IsDeepAt, IsShallowAt}
 use Rattle.jxl_modular.specs.Sections.{AreDecoded, CodesPart, list_in}
 use Rattle.jxl_modular.specs.declared.sections.Section.{Section}
 use Rattle.jxlm_section_split.specs.CutPicture.{image_by}
-use Rattle.jxl_lossless.specs.Codewords.{HasCodewords, most_codewords}
+use Rattle.jxl_picture.specs.declared.limits.TreeLimits.{TreeLimits}
+use Rattle.jxl_lossless.specs.Codewords.{HasCodewords}
 use Rattle.jxl_lossless.specs.Parts.{groups_in_order}
 use Rattle.jxl_lossless.specs.declared.still.error.FrameError.{FrameError}
 use Rattle.jxl_lossless.specs.declared.still.error.FrameError.TheVariants as errors
@@ -89,14 +90,14 @@ module _ {D : Type 0} (d : Meaning D) (w : Width) (global : Option (Config D)) (
   HaveCodewords s groups n = (own : ℕ) × HasCodewords given bytes p own
       × (ns : List ℕ) × AllZip (GroupHas s) groups ns × (n ≡ own + sum ns)
 
-  -- those of all groups may have no more codewords than the maximum
-  abbrev pub HaveFewCodewords : CanDecode → Type 0
-  HaveFewCodewords can = (n : ℕ) × HaveCodewords can.has.stands (groups_in_order (image_at can.has.stands) passes) n × (n ≤ most_codewords)
+  -- those of all groups may have no more codewords than this
+  abbrev pub HaveFewCodewords : ℕ → CanDecode → Type 0
+  HaveFewCodewords most can = (n : ℕ) × HaveCodewords can.has.stands (groups_in_order (image_at can.has.stands) passes) n × (n ≤ most)
 
   -- those of the first k groups, by their numbers, may have more
-  abbrev pub HaveManyCodewords : CanDecode → Type 0
-  HaveManyCodewords can = (k : ℕ) × (n : ℕ) × HaveCodewords can.has.stands (take k (groups_in_order (image_at can.has.stands) passes)) n
-      × (most_codewords < n)
+  abbrev pub HaveManyCodewords : ℕ → CanDecode → Type 0
+  HaveManyCodewords most can = (k : ℕ) × (n : ℕ) × HaveCodewords can.has.stands (take k (groups_in_order (image_at can.has.stands) passes)) n
+      × (most < n)
 
   -- No header's own tree is deeper than this: neither that of the image's header, nor one of a group's.
   pub record AreShallow (deepest : ℕ) (can : CanDecode) : Type 0 where
@@ -108,12 +109,12 @@ module _ {D : Type 0} (d : Meaning D) (w : Width) (global : Option (Config D)) (
   OneIsDeep deepest can = IsDeepAt d global given deepest bytes p
       ⊎ Any (λ s. IsDeepAt d global (list_in (image_at can.has.stands) passes s.part) deepest (bytes_of s.bits) 0) can.has.groups
 
-  -- These are the channels of a frame whose sections' own trees are at most this deep, with codes of few codewords: each section codes its part whole, with this number of
-  -- nodes of trees looked at before and after, and together they code the image.
-  pub record IsStill (deepest : ℕ) (grids : List (Grid ℤ)) (before after : ℕ) : Type 0 where
+  -- These are the channels of a frame whose sections' own trees are within these limits: each section codes its part whole, with this
+  -- number of nodes of trees looked at before and after, and together they code the image.
+  pub record IsStill (trees : TreeLimits) (grids : List (Grid ℤ)) (before after : ℕ) : Type 0 where
     pub can : CanDecode
-    pub few : HaveFewCodewords can
-    pub shallow : AreShallow deepest can
+    pub few : HaveFewCodewords trees.codewords can
+    pub shallow : AreShallow trees.depth can
     pub decoded : AreDecoded d w (λ v. v) (pos 0) (image_at can.has.stands) passes global (can.first ∷ can.has.groups) grids before after
 
   -- a section codes its part whole
@@ -129,14 +130,14 @@ module _ {D : Type 0} (d : Meaning D) (w : Width) (global : Option (Config D)) (
       (PartFails d w (part_in (image_at h) passes s.part s.stream_index) (bytes_of s.bits) h.start.config.decoder (position_of s.bits) error)
 
   -- what each error says: up to which stage all stands, and what fails there; no two hold of one input, memory aside
-  abbrev pub StillFails : ℕ → FrameError → Type 0
-  StillFails deepest (errors.Header e) = UnlessMemory (kind_of e) ((¬ (IsWeightedAt bytes p)) × HeaderFails d global given bytes p (kind_of e))
-  StillFails deepest errors.WeightedPalette = IsWeightedAt bytes p
-  StillFails deepest errors.NoGroups = (s : HeaderStands) × IsFalse (can_cut group_dim s.start.head.coded.list)
-  StillFails deepest errors.NoSection = (s : HeaderStands) × IsTrue (can_cut group_dim s.start.head.coded.list) × (part : SectionPart) × IsGroup s part × (section_of part ≡ None)
-  StillFails deepest errors.GroupWeightedPalette = (s : HasSections) × Any (λ t. IsWeightedAt (bytes_of t.bits) 0) s.groups
-  StillFails deepest errors.TooManyCodewords = (s : CanDecode) × HaveManyCodewords s
-  StillFails deepest errors.TooManyDecisions = (s : CanDecode) × HaveFewCodewords s × OneIsDeep deepest s
-  StillFails deepest (errors.Samples e) = UnlessMemory (kind_of e) ((s : CanDecode) × HaveFewCodewords s × AreShallow deepest s × (coded : List Section) × (failing : Section) × (others : List Section)
+  abbrev pub StillFails : TreeLimits → FrameError → Type 0
+  StillFails trees (errors.Header e) = UnlessMemory (kind_of e) ((¬ (IsWeightedAt bytes p)) × HeaderFails d global given bytes p (kind_of e))
+  StillFails trees errors.WeightedPalette = IsWeightedAt bytes p
+  StillFails trees errors.NoGroups = (s : HeaderStands) × IsFalse (can_cut group_dim s.start.head.coded.list)
+  StillFails trees errors.NoSection = (s : HeaderStands) × IsTrue (can_cut group_dim s.start.head.coded.list) × (part : SectionPart) × IsGroup s part × (section_of part ≡ None)
+  StillFails trees errors.GroupWeightedPalette = (s : HasSections) × Any (λ t. IsWeightedAt (bytes_of t.bits) 0) s.groups
+  StillFails trees errors.TooManyCodewords = (s : CanDecode) × HaveManyCodewords trees.codewords s
+  StillFails trees errors.TooManyDecisions = (s : CanDecode) × HaveFewCodewords trees.codewords s × OneIsDeep trees.depth s
+  StillFails trees (errors.Samples e) = UnlessMemory (kind_of e) ((s : CanDecode) × HaveFewCodewords trees.codewords s × AreShallow trees.depth s × (coded : List Section) × (failing : Section) × (others : List Section)
       × (s.first ∷ s.has.groups ≡ coded ++ failing ∷ others) × All (CodesItsPart s.has.stands) coded × SectionFails s.has.stands failing (kind_of e))
-  StillFails deepest errors.OutOfMemory = Unit {0}
+  StillFails trees errors.OutOfMemory = Unit {0}

@@ -150,12 +150,12 @@ impl<'a> SectionsInput<'a, '_> {
     ) -> Result<Vec<AlignedGrid<i32>>, FileError>
         requires ready { IsReadyCut self }
         ensures ok { IfOk result (λ v. IsMade D.meaning (image_in self.entry.input) (slots_in self.entry.input)
-            (frame_of self.entry.input.frame.now.header) self.entry.input.frame.now.deepest self.entry.first.now
+            (frame_of self.entry.input.frame.now.header) self.entry.input.frame.now.trees self.entry.first.now
             self.entry.places v.items steps.old steps.new) }
         ensures sides { IfOk result (λ v. AreChannels (image_in self.entry.input) (size_of self.entry.input)
             v.items) }
         ensures err { IfErr result (MadeFails D.meaning (image_in self.entry.input) (slots_in self.entry.input)
-            (frame_of self.entry.input.frame.now.header) self.entry.input.frame.now.deepest self.entry.first.now
+            (frame_of self.entry.input.frame.now.header) self.entry.input.frame.now.trees self.entry.first.now
             self.entry.places) }
     {
         let image = self.input.image;
@@ -214,14 +214,14 @@ impl<'a> SectionsInput<'a, '_> {
         let image = self.input.image;
         let size = self.input.size();
         let channels = colours(image) + image.ec_info.len();
-        let deepest = self.input.frame.deepest;
-        let tree = shared_tree::<D>(alloc, &mut bits, size, channels, deepest)?;
+        let trees = self.input.frame.trees;
+        let tree = shared_tree::<D>(alloc, &mut bits, size, channels, trees.depth)?;
         let list = channels_of(alloc, image, size)?;
         let depth = image.bit_depth.bits_per_sample;
         let dim = self.input.frame.header.group_dim;
         let params = ModularParams::with_channels(dim, depth, list, tree.as_ref());
         let places = self.places;
-        match decode_frame::<S, D, P>(alloc, bits, params, places, deepest, steps, progress) {
+        match decode_frame::<S, D, P>(alloc, bits, params, places, trees, steps, progress) {
             Ok(Some(image)) => Ok(image),
             Ok(None) => unreachable!(),
             Err(error) => Err(FileError::Samples(error)),

@@ -82,22 +82,22 @@ module _ {D : Type 0} (d : Meaning D) (limits : Limits) (bytes : List ℕ) (imag
 
   global_well : (s : HasPatches d image others bytes frame) (error : ErrorKind) → TreeFails d size (channel_count image) start s.begin error → ⊥
   global_well s error fails =
-      tree_well d size (channel_count image) frame.deepest start f.tree.after.begin f.tree.global f.tree.begin f.tree.shared error (subst (λ n. TreeFails d size (channel_count image) start n error) (sym (begins s)) fails)
+      tree_well d size (channel_count image) frame.trees.depth start f.tree.after.begin f.tree.global f.tree.begin f.tree.shared error (subst (λ n. TreeFails d size (channel_count image) start n error) (sym (begins s)) fails)
 
-  global_low : (s : HasPatches d image others bytes frame) → TreeIsDeep d size (channel_count image) frame.deepest start s.begin → ⊥
+  global_low : (s : HasPatches d image others bytes frame) → TreeIsDeep d size (channel_count image) frame.trees.depth start s.begin → ⊥
   global_low s deep =
-      not_deep d size (channel_count image) frame.deepest start f.tree.after.begin f.tree.global f.tree.begin f.tree.shared (subst (λ n. TreeIsDeep d size (channel_count image) frame.deepest start n) (sym (begins s)) deep)
+      not_deep d size (channel_count image) frame.trees.depth start f.tree.after.begin f.tree.global f.tree.begin f.tree.shared (subst (λ n. TreeIsDeep d size (channel_count image) frame.trees.depth start n) (sym (begins s)) deep)
 
   abbrev SamplesFail : FrameError → Option (Config D) → ℕ → Type 0
   SamplesFail e global begin = StillFails d w32 global (channels_given image size) frame.header.group_dim image.bit_depth.bits_per_sample
-      start begin (passes_of (pass_shifts frame.header.passes)) (section_of (layout_in image frame.header) (sections_in bytes frame)) frame.deepest e
+      start begin (passes_of (pass_shifts frame.header.passes)) (section_of (layout_in image frame.header) (sections_in bytes frame)) frame.trees e
 
   samples_well : (s : HasTree d image others bytes frame) (e : FrameError) → SamplesFail e s.global s.begin → IsFrameMemory e
   samples_well s e fails =
       let at = one_after d limits bytes image supported used frame stands some others (same_sizes some others same) f.tree s in
       let placed = subst (λ n. SamplesFail e s.global n) (sym at.1) fails in
       still_without_error d w32 f.tree.global (channels_given image size) frame.header.group_dim image.bit_depth.bits_per_sample start f.tree.begin (passes_of (pass_shifts frame.header.passes))
-      (section_of (layout_in image frame.header) (sections_in bytes frame)) frame.deepest f.own before after f.still e (subst (λ (c : Option (Config D)). SamplesFail e c f.tree.begin) (sym at.0) placed)
+      (section_of (layout_in image frame.header) (sections_in bytes frame)) frame.trees f.own before after f.still e (subst (λ (c : Option (Config D)). SamplesFail e c f.tree.begin) (sym at.0) placed)
 
   -- an error is out of memory
   pub frame_without_error : (e : FileError) → FrameFails d image others bytes frame e → IsFileMemory e

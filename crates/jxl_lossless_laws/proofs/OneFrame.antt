@@ -103,19 +103,19 @@ module _ {D : Type 0} (d : Meaning D) (limits : Limits) (bytes : List ℕ) (imag
   pub one_after : (some others : Slots) → sizes_of some ≡ sizes_of others → (a : HasTree d image some bytes frame) (b : HasTree d image others bytes frame) → (a.global ≡ b.global) × (a.begin ≡ b.begin)
   one_after some others same a b =
       let patches = one_patches some others same a.after b.after in
-      one_shared d size (channel_count image) frame.deepest start a.after.begin a.global b.global a.begin b.begin a.shared
-      (subst (λ m. SharedTree d size (channel_count image) frame.deepest start m b.global b.begin) (sym patches.1) b.shared)
+      one_shared d size (channel_count image) frame.trees.depth start a.after.begin a.global b.global a.begin b.begin a.shared
+      (subst (λ m. SharedTree d size (channel_count image) frame.trees.depth start m b.global b.begin) (sym patches.1) b.shared)
 
   abbrev pub StillOf : Option (Config D) → ℕ → List (Grid ℤ) → ℕ → ℕ → Type 0
   StillOf global begin gs before after = IsStill d w32 global (channels_given image size) frame.header.group_dim image.bit_depth.bits_per_sample
-      start begin (passes_of (pass_shifts frame.header.passes)) (section_of (layout_in image frame.header) (sections_in bytes frame)) frame.deepest gs before after
+      start begin (passes_of (pass_shifts frame.header.passes)) (section_of (layout_in image frame.header) (sections_in bytes frame)) frame.trees gs before after
 
   -- and the samples
   one_own : (global : Option (Config D)) (begin : ℕ) (gs hs : List (Grid ℤ)) (before after from to : ℕ) → StillOf global begin gs before after → StillOf global begin hs from to → gs ≡ hs
   one_own global begin gs hs before after from to a b =
       one_still d w32 global (channels_given image size) frame.header.group_dim image.bit_depth.bits_per_sample start begin (passes_of (pass_shifts frame.header.passes))
       (section_of (layout_in image frame.header) (sections_in bytes frame))
-      (holds_each d limits bytes image supported frame.start used frame.header stands.0.end stands.0.goes global start begin) frame.deepest gs hs before after from to a b
+      (holds_each d limits bytes image supported frame.start used frame.header stands.0.end stands.0.goes global start begin) frame.trees gs hs before after from to a b
 
   own_channels : (global : Option (Config D)) (begin : ℕ) (gs : List (Grid ℤ)) (before after : ℕ) → StillOf global begin gs before after → AreChannels image size gs
   own_channels global begin gs before after s =

@@ -4,8 +4,9 @@ use Rattle.std.specs.Prelude.{map}
 use Rattle.jxlm_bits.specs.Decoding.{Meaning}
 use Rattle.jxl_image_header.specs.Images.{Image, image_header}
 use Rattle.jxl_frame_header.specs.Frames.{Frame, frame_header, frame_size, is_saved}
-use Rattle.jxl_picture.specs.Limits.{cells_of, deepest}
+use Rattle.jxl_picture.specs.Limits.{cells_of, tree_limits}
 use Rattle.jxl_picture.specs.declared.limits.Limits.{Limits}
+use Rattle.jxl_picture.specs.declared.limits.TreeLimits.{TreeLimits}
 use Rattle.jxl_codestream.specs.Fronts.{AreBefore, ContentsStand, FrameAt, FrameStands, FrontStands, HasProfile, ImageStands, NoFrame, OneMore, StandsAt, between, end_of, layout_in}
 use Rattle.jxl_codestream.specs.Layouts.{section_count_of}
 use Rattle.jxl_codestream.specs.Tocs.{IsToc, Table, toc}
@@ -22,12 +23,12 @@ one_toc table es fs a b =
 not_saved : {b : Bool} → b ≡ true → b ≡ false → ⊥
 not_saved h k = cc
 
-frame_of_parts : (start : ℕ) (h k : Frame) (es fs : List TocEntry) (m n : ℕ) → h ≡ k → es ≡ fs → m ≡ n →
-    ◌≡◌ {A = FrameAt} (record { start = start; header = h; entries = es; deepest = m }) (record { start = start; header = k; entries = fs; deepest = n })
+frame_of_parts : (start : ℕ) (h k : Frame) (es fs : List TocEntry) (m n : TreeLimits) → h ≡ k → es ≡ fs → m ≡ n →
+    ◌≡◌ {A = FrameAt} (record { start = start; header = h; entries = es; trees = m }) (record { start = start; header = k; entries = fs; trees = n })
 frame_of_parts start h k es fs m n a b c =
-    ap {B = FrameAt} (λ (x : Frame). record { start = start; header = x; entries = es; deepest = m }) a
-    ∙ ap {B = FrameAt} (λ (x : List TocEntry). record { start = start; header = k; entries = x; deepest = m }) b
-    ∙ ap {B = FrameAt} (λ (x : ℕ). record { start = start; header = k; entries = fs; deepest = x }) c
+    ap {B = FrameAt} (λ (x : Frame). record { start = start; header = x; entries = es; trees = m }) a
+    ∙ ap {B = FrameAt} (λ (x : List TocEntry). record { start = start; header = k; entries = x; trees = m }) b
+    ∙ ap {B = FrameAt} (λ (x : TreeLimits). record { start = start; header = k; entries = fs; trees = x }) c
 
 module _ {D : Type 0} (d : Meaning D) (limits : Limits) (bytes : List ℕ) where
   pub one_image : (image other : Image) (p q : ℕ) → ImageStands d limits bytes image p → ImageStands d limits bytes other q → (image ≡ other) × (p ≡ q)
@@ -57,9 +58,9 @@ module _ {D : Type 0} (d : Meaning D) (limits : Limits) (bytes : List ℕ) where
     one_frame used f g start a b =
         let there : ContentsStand d limits bytes image f.start used g.header g.entries = subst (λ s. ContentsStand d limits bytes image s used g.header g.entries) (sym start) b.0 in
         let same = one_contents f.start used f.header g.header f.entries g.entries a.0 there in
-        let deep : f.deepest ≡ g.deepest = a.2 ∙ ap (λ (h : Frame). deepest limits image used (frame_size image.size h)) same.0 ∙ sym b.2 in
-        frame_of_parts f.start f.header g.header f.entries g.entries f.deepest g.deepest same.0 same.1 deep
-        ∙ ap {B = FrameAt} (λ s. record { start = s; header = g.header; entries = g.entries; deepest = g.deepest }) start
+        let bounds : f.trees ≡ g.trees = a.2 ∙ ap (λ (h : Frame). tree_limits limits image used (frame_size image.size h)) same.0 ∙ sym b.2 in
+        frame_of_parts f.start f.header g.header f.entries g.entries f.trees g.trees same.0 same.1 bounds
+        ∙ ap {B = FrameAt} (λ s. record { start = s; header = g.header; entries = g.entries; trees = g.trees }) start
 
     -- saved frames one after another, from a byte and a number of cells on
     abbrev pub Follow : List FrameAt → ℕ → ℕ → ℕ → ℕ → Type 0

@@ -24,6 +24,7 @@ use Rattle.jxl_modular.specs.Sections.{CodesNested, CodesPart, CodesWhole, list_
 use Rattle.jxl_modular.specs.declared.sections.Section.{Section}
 use Rattle.jxlm_section_split.specs.CutPicture.{image_by}
 use Rattle.jxlm_encode_roundtrip.proofs.TwoPictures.{one_coded, one_start}
+use Rattle.jxl_picture.specs.declared.limits.TreeLimits.{TreeLimits}
 use Rattle.jxl_lossless.specs.Stills.{CanDecode, HasSections, HeaderStands, IsStill}
 use Rattle.jxl_lossless_laws.proofs.OnePart.{same_coded}
 
@@ -130,8 +131,8 @@ module _ {D : Type 0} (d : Meaning D) (w : Width) (global : Option (Config D)) (
   abbrev Can : Type 0
   Can = CanDecode d w global given group_dim bit_depth bytes p passes section_of
 
-  abbrev Still : ℕ → List (Grid ℤ) → ℕ → ℕ → Type 0
-  Still deepest gs before after = IsStill d w global given group_dim bit_depth bytes p passes section_of deepest gs before after
+  abbrev Still : TreeLimits → List (Grid ℤ) → ℕ → ℕ → Type 0
+  Still trees gs before after = IsStill d w global given group_dim bit_depth bytes p passes section_of trees gs before after
 
   abbrev head_in : Stands → Opening
   head_in s = s.start.head
@@ -139,7 +140,7 @@ module _ {D : Type 0} (d : Meaning D) (w : Width) (global : Option (Config D)) (
   abbrev config_in : Stands → Config D
   config_in s = s.start.config
 
-  module _ (deepest : ℕ) (gs : List (Grid ℤ)) (before after : ℕ) (s : Still deepest gs before after) where
+  module _ (trees : TreeLimits) (gs : List (Grid ℤ)) (before after : ℕ) (s : Still trees gs before after) where
     abbrev stands : Stands
     stands = s.can.has.stands
 
@@ -227,8 +228,8 @@ module _ {D : Type 0} (d : Meaning D) (w : Width) (global : Option (Config D)) (
 
   -- so sections have one image, where parts hold each coded cell
   pub one_still : ((head : Opening) (config : Config D) (at : ℕ) → IsStartAt d global bytes given p head config at → IsTrue (can_cut group_dim head.coded.list) → HoldEachCellOnce group_dim passes head.coded.list) →
-      (deepest : ℕ) (gs hs : List (Grid ℤ)) (before after from to : ℕ) → Still deepest gs before after → Still deepest hs from to → gs ≡ hs
-  one_still hold deepest gs hs before after from to s t =
+      (trees : TreeLimits) (gs hs : List (Grid ℤ)) (before after from to : ℕ) → Still trees gs before after → Still trees hs from to → gs ≡ hs
+  one_still hold trees gs hs before after from to s t =
       let a = s.can.has.stands in
-      one_image a.start.head a.start.config a.start.samples_at (hold a.start.head a.start.config a.start.samples_at a.start.start s.can.has.cut) gs hs (codes_image deepest gs before after s)
-      (same_head (λ o c n. CodesImage o c n hs) a t.can.has.stands (codes_image deepest hs from to t))
+      one_image a.start.head a.start.config a.start.samples_at (hold a.start.head a.start.config a.start.samples_at a.start.start s.can.has.cut) gs hs (codes_image trees gs before after s)
+      (same_head (λ o c n. CodesImage o c n hs) a t.can.has.stands (codes_image trees hs from to t))

@@ -25,6 +25,7 @@ use Rattle.jxl_modular.specs.Sections.{CodesWhole, list_in}
 use Rattle.jxl_modular.specs.declared.sections.Section.{Section}
 use Rattle.jxlm_encode_roundtrip.proofs.TwoPictures.{one_start}
 use Rattle.jxlm_encode_roundtrip.proofs.WithoutErrors.{samples_without_error, start_without_error}
+use Rattle.jxl_picture.specs.declared.limits.TreeLimits.{TreeLimits}
 use Rattle.jxl_lossless.specs.Codewords.{HasCodewords, OwnTreeIs, codewords_of}
 use Rattle.jxl_lossless.specs.Parts.{groups_in_order}
 use Rattle.jxl_lossless.specs.Stills.{CanDecode, HasSections, HaveManyCodewords, HeaderFails, HeaderStands, IsDeepAt, IsShallowAt, IsStill, IsWeightedAt, OneIsDeep, PartFails, SectionFails, StillFails}
@@ -113,7 +114,7 @@ module _ {D : Type 0} (d : Meaning D) (w : Width) where
         part_well (coded_part stream s.head s.config) bytes s.config.decoder s.samples_at c.samples c.nodes c.coded error headed
 
 module _ {D : Type 0} (d : Meaning D) (w : Width) (global : Option (Config D)) (given : ChannelList) (group_dim bit_depth : ℕ) (bytes : List ℕ) (p : ℕ)
-    (passes : List Pass) (section_of : SectionPart → Option (List ℕ × ℕ)) (deepest : ℕ) (gs : List (Grid ℤ)) (before after : ℕ) (s : IsStill d w global given group_dim bit_depth bytes p passes section_of deepest gs before after) where
+    (passes : List Pass) (section_of : SectionPart → Option (List ℕ × ℕ)) (trees : TreeLimits) (gs : List (Grid ℤ)) (before after : ℕ) (s : IsStill d w global given group_dim bit_depth bytes p passes section_of trees gs before after) where
   abbrev Stands : Type 0
   Stands = HeaderStands d w global given group_dim bit_depth bytes p passes section_of
 
@@ -124,7 +125,7 @@ module _ {D : Type 0} (d : Meaning D) (w : Width) (global : Option (Config D)) (
   Can = CanDecode d w global given group_dim bit_depth bytes p passes section_of
 
   abbrev Fails : FrameError → Type 0
-  Fails e = StillFails d w global given group_dim bit_depth bytes p passes section_of deepest e
+  Fails e = StillFails d w global given group_dim bit_depth bytes p passes section_of trees e
 
   abbrev own : Stands
   own = s.can.has.stands
@@ -136,7 +137,7 @@ module _ {D : Type 0} (d : Meaning D) (w : Width) (global : Option (Config D)) (
   config = own.start.config
 
   abbrev image : CodesImage d w global given group_dim bit_depth bytes p passes section_of head config own.start.samples_at gs
-  image = codes_image d w global given group_dim bit_depth bytes p passes section_of deepest gs before after s
+  image = codes_image d w global given group_dim bit_depth bytes p passes section_of trees gs before after s
 
   -- what holds of a header at the bit holds of the own one
   to_own : (P : Opening → Config D → ℕ → Type 0) (t : Stands) → P t.start.head t.start.config t.start.samples_at → P head config own.start.samples_at
@@ -179,10 +180,10 @@ module _ {D : Type 0} (d : Meaning D) (w : Width) (global : Option (Config D)) (
       subst (λ (v : Section). ¬ (IsWeightedAt (bytes_of v.bits) 0)) there (s.can.plain j u within) (subst (λ (b : List ℕ). IsWeightedAt b 0) bytes_same weighted)
 
   abbrev DeepGroup : SectionPart → List ℕ → Opening → Config D → ℕ → Type 0
-  DeepGroup part b o c n = IsDeepAt d global (list_in (x_of o c) passes part) deepest b 0
+  DeepGroup part b o c n = IsDeepAt d global (list_in (x_of o c) passes part) trees.depth b 0
 
   abbrev ShallowGroup : Section → Type 0
-  ShallowGroup t = IsShallowAt d global (list_in (x_of head config) passes t.part) deepest (bytes_of t.bits) 0
+  ShallowGroup t = IsShallowAt d global (list_in (x_of head config) passes t.part) trees.depth (bytes_of t.bits) 0
 
   -- no tree is too deep
   shallow_group : (h : Has) (k : ℕ) (t : Section) → k < length h.groups → get_or h.groups k t ≡ t → DeepGroup t.part (bytes_of t.bits) h.stands.start.head h.stands.start.config h.stands.start.samples_at → ⊥
@@ -194,12 +195,12 @@ module _ {D : Type 0} (d : Meaning D) (w : Width) (global : Option (Config D)) (
       let found = subst (λ (q : SectionPart). section_of q ≡ Some (bytes_of u.bits, u.stream_index)) same has.0 in
       let bytes_same = (same_some (section_of t.part) (bytes_of t.bits) (bytes_of u.bits) t.stream_index u.stream_index is.0 found).0 in
       let low : ShallowGroup u = subst ShallowGroup there (s.shallow.groups j u within) in
-      let placed = subst (λ (q : SectionPart). IsShallowAt d global (list_in (x_of head config) passes q) deepest (bytes_of u.bits) 0) same low in
-      let here = subst (λ (b : List ℕ). IsShallowAt d global (list_in (x_of head config) passes t.part) deepest b 0) (sym bytes_same) placed in
-      not_deep d w global (list_in (x_of head config) passes t.part) deepest (bytes_of t.bits) 0 here (to_own (DeepGroup t.part (bytes_of t.bits)) h.stands deep)
+      let placed = subst (λ (q : SectionPart). IsShallowAt d global (list_in (x_of head config) passes q) trees.depth (bytes_of u.bits) 0) same low in
+      let here = subst (λ (b : List ℕ). IsShallowAt d global (list_in (x_of head config) passes t.part) trees.depth b 0) (sym bytes_same) placed in
+      not_deep d w global (list_in (x_of head config) passes t.part) trees.depth (bytes_of t.bits) 0 here (to_own (DeepGroup t.part (bytes_of t.bits)) h.stands deep)
 
-  all_shallow : (c : Can) → OneIsDeep d w global given group_dim bit_depth bytes p passes section_of deepest c → ⊥
-  all_shallow c (inl deep) = not_deep d w global given deepest bytes p s.shallow.image deep
+  all_shallow : (c : Can) → OneIsDeep d w global given group_dim bit_depth bytes p passes section_of trees.depth c → ⊥
+  all_shallow c (inl deep) = not_deep d w global given trees.depth bytes p s.shallow.image deep
   all_shallow c (inr (k, t, lt, at, deep)) = shallow_group c.has k t lt at deep
 
   abbrev GroupHas : Opening → Config D → SectionPart → ℕ → Type 0
@@ -214,7 +215,7 @@ module _ {D : Type 0} (d : Meaning D) (w : Width) (global : Option (Config D)) (
       one_codewords (list_in (x_of head config) passes part) section 0 m n has (subst (λ (b : List ℕ). HasCodewords (list_in (x_of head config) passes part) b 0 n) (sym same) own)
 
   -- no group's codes have too many codewords
-  never_many : (c : Can) → HaveManyCodewords d w global given group_dim bit_depth bytes p passes section_of c → ⊥
+  never_many : (c : Can) → HaveManyCodewords d w global given group_dim bit_depth bytes p passes section_of trees.codewords c → ⊥
   never_many c (k, m, (other, header, ms, have, is), much) =
       let (n, (m_own, here, ns, has, sum_is), low) = s.few in
       let mine : FirstHave k ms head config own.start.samples_at = to_own (FirstHave k ms) c.has.stands have in

@@ -4,6 +4,7 @@ use Rattle.jxl_image_header.specs.Images.{Image}
 use Rattle.jxl_image_header.specs.declared.size.Size.{Size}
 use Rattle.jxl_picture.specs.Pictures.{colour_count}
 use Rattle.jxl_picture.specs.declared.limits.Limits.{Limits}
+use Rattle.jxl_picture.specs.declared.limits.TreeLimits.{TreeLimits}
 
 -- how many channels a picture has
 abbrev pub channel_count : Image → ℕ
@@ -23,6 +24,10 @@ AllowFrame limits image used size = (size.width ≤ 2 ^ 30) × (size.height ≤ 
 -- together they have fewer than 2^22 samples, which then may take as many decisions as 2^22 would.
 abbrev pub deepest : Limits → Image → ℕ → Size → ℕ
 deepest limits image used size = limits.decisions * 2 ^ 22 / max 1 (min (2 ^ 22) ((used + cells_of size) * channel_count image))
+
+-- the limits on the trees of such a frame
+abbrev pub tree_limits : Limits → Image → ℕ → Size → TreeLimits
+tree_limits limits image used size = record { depth = deepest limits image used size; codewords = limits.codewords }
 
 -- the picture is within the limits: so is a first frame of its size, and its samples and channels are
 pub record Allow (limits : Limits) (image : Image) : Type 0 where

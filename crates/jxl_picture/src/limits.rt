@@ -24,13 +24,32 @@ pub struct Limits {
     /// Where the frame and those before it have fewer than 2^22 samples, a tree may be deeper: as many decisions for
     /// all of them as 2^22 samples may have.
     pub decisions: u32,
+    /// The maximum number of codewords that the codes of sections' own trees may have, in a frame: a decoder compares it
+    /// before it decodes the samples of the frame.
+    pub codewords: u64,
+}
+
+/// The limits on the trees of a frame.
+#[derive(Clone, Copy)]
+pub struct TreeLimits {
+    /// The maximum number of decisions for a sample: the depth of the tree that sections share, and of their own ones.
+    pub depth: u64,
+    /// The maximum number of codewords that the codes of sections' own trees may have.
+    pub codewords: u64,
 }
 
 impl Limits {
-    /// 2^28 pixels, 256 channels, 2^31 bytes of samples, 2^24 of a colour profile, and 128 decisions for a sample.
+    /// 2^28 pixels, 256 channels, 2^31 bytes of samples, 2^24 of a colour profile, 128 decisions for a sample, and 2^26
+    /// codewords.
     pub fn usual() -> Limits
-        ensures { result
-            ≡ record { pixels = 2 ^ 28; channels = 256; bytes = 2 ^ 31; profile = 2 ^ 24; decisions = 128 } }
+        ensures { result ≡ record {
+          pixels = 2 ^ 28;
+          channels = 256;
+          bytes = 2 ^ 31;
+          profile = 2 ^ 24;
+          decisions = 128;
+          codewords = 2 ^ 26;
+        } }
     {
         Limits {
             pixels: 1 << 28,
@@ -38,6 +57,7 @@ impl Limits {
             bytes: 1 << 31,
             profile: 1 << 24,
             decisions: 128,
+            codewords: 1 << 26,
         }
     }
 

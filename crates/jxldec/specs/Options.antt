@@ -29,13 +29,14 @@ IsNoFormat text = (format : OutputFormat) → ¬ (IsWordOf text format)
 abbrev pub IsNoNetpbm : List ℕ → Type 0
 IsNoNetpbm text = (format : Format) → ¬ (IsWordOf text (Netpbm format))
 
--- how large a picture may be, where these numbers of pixels, of bytes of samples and of decisions for a sample are asked for: of
--- what is not asked for, as much as by default
-abbrev pub limits_of : Option ℕ → Option ℕ → Option ℕ → Limits
-limits_of pixels bytes decisions = record {
+-- how large a picture may be, where these numbers of pixels, of bytes of samples, of decisions for a sample and of codewords are
+-- asked for: of what is not asked for, as much as by default
+abbrev pub limits_of : Option ℕ → Option ℕ → Option ℕ → Option ℕ → Limits
+limits_of pixels bytes decisions codewords = record {
   pixels = unwrap_or pixels (2 ^ 28);
   channels = 256;
   bytes = unwrap_or bytes (2 ^ 31);
   profile = 2 ^ 24;
   decisions = unwrap_or decisions 128;
+  codewords = unwrap_or codewords (2 ^ 26);
 }

@@ -121,6 +121,14 @@ fn decisions(alloc: Global) -> Arg<'static> {
         .help("The maximum number of decisions for a sample in shared trees [default: 128]")
 }
 
+fn codewords(alloc: Global) -> Arg<'static> {
+    Arg::new(alloc, "codewords")
+        .long("max-codewords")
+        .value_name("N")
+        .value_parser(clap::value_parser!(u64))
+        .help("The maximum number of codewords of sections' own codes [default: 67108864]")
+}
+
 fn quiet(alloc: Global) -> Arg<'static> {
     Arg::new(alloc, "quiet")
         .short('q')
@@ -142,6 +150,7 @@ pub fn command<'a>(alloc: Global) -> Result<Command<'a>, AllocError> {
         pixels(alloc),
         bytes(alloc),
         decisions(alloc),
+        codewords(alloc),
         quiet(alloc),
     ]?;
     Command::new(alloc, "jxldec")
@@ -189,16 +198,22 @@ fn ending(path: &str) -> Option<&str>
     Path::new(path).extension()
 }
 
-// How large a picture may be: as by default, but for these numbers of pixels, of bytes of samples and of decisions for
-// a sample, if they are asked for.
-fn limits_of(pixels: Option<u64>, bytes: Option<u64>, decisions: Option<u32>) -> Limits
-    ensures { result ≡ the_limits pixels bytes decisions }
+// How large a picture may be: as by default, but for these numbers of pixels, of bytes of samples, of decisions for a
+// sample and of codewords, if they are asked for.
+fn limits_of(
+    pixels: Option<u64>,
+    bytes: Option<u64>,
+    decisions: Option<u32>,
+    codewords: Option<u64>,
+) -> Limits
+    ensures { result ≡ the_limits pixels bytes decisions codewords }
 {
     let usual = Limits::usual();
     Limits {
         pixels: pixels.unwrap_or(usual.pixels),
         bytes: bytes.unwrap_or(usual.bytes),
         decisions: decisions.unwrap_or(usual.decisions),
+        codewords: codewords.unwrap_or(usual.codewords),
         ..usual
     }
 }
@@ -240,6 +255,7 @@ impl<'a> Options<'a> {
                 matches.get_one("pixels"),
                 matches.get_one("bytes"),
                 matches.get_one("decisions"),
+                matches.get_one("codewords"),
             ),
             quiet: matches.get_flag("quiet"),
         }

@@ -100,7 +100,7 @@ pub record IsBegun (boxed : Bool) (left rest : Option (List ℕ)) (Given : Metad
 
 -- the limits of PNG files that are read: those that the decoder of .jxl files has by default
 abbrev pub usual_limits : Limits
-usual_limits = record { pixels = 2 ^ 28; channels = 256; bytes = 2 ^ 31; profile = 2 ^ 24; decisions = 128 }
+usual_limits = record { pixels = 2 ^ 28; channels = 256; bytes = 2 ^ 31; profile = 2 ^ 24; decisions = 128; codewords = 2 ^ 26 }
 
 -- what each failure says of an input whose picture is not encoded: one without the signature of PNG files has an error of netpbm files
 abbrev pub PictureFails : List ℕ → Failure → Type 0

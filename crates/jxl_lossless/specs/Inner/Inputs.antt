@@ -53,8 +53,8 @@ pub record IsReadyCut (x : SectionsInput) : Type 0 where
 module _ {D : Type 0} (d : Meaning D) (w : Width) (x : SectionsInput) (first : List ℕ) (p : ℕ) where
   -- these are the channels of the frame without its patches, by its first section from bit p on
   abbrev pub CodedOf : List (Grid ℤ) → ℕ → ℕ → Type 0
-  CodedOf grids before after = IsCoded d w (image_in x.input) x.input.frame.now.deepest (size_of x.input) x.input.frame.now.header.group_dim first p x.places grids before after
+  CodedOf grids before after = IsCoded d w (image_in x.input) x.input.frame.now.trees (size_of x.input) x.input.frame.now.header.group_dim first p x.places grids before after
 
   -- what each error says of them
   abbrev pub CodedOfFails : FileError → Type 0
-  CodedOfFails error = CodedFails d w (image_in x.input) x.input.frame.now.deepest (size_of x.input) x.input.frame.now.header.group_dim first p x.places error
+  CodedOfFails error = CodedFails d w (image_in x.input) x.input.frame.now.trees (size_of x.input) x.input.frame.now.header.group_dim first p x.places error

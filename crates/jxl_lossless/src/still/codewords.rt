@@ -6,7 +6,7 @@ ghost use Rattle.jxlm_groups.specs.Passes.{passes_of};
 ghost use Rattle.jxlm_nested.specs.NestedParts.{nested_list};
 ghost use Rattle.jxlm_transform.specs.Lists.{list_of};
 ghost use Rattle.jxlm_tree_depth.specs.Openings.{AreCoded, AreGiven, list_of_part};
-ghost use Rattle.jxl_lossless.specs.Codewords.{codewords_of, most_codewords};
+ghost use Rattle.jxl_lossless.specs.Codewords.{codewords_of};
 ghost use Rattle.jxl_lossless.specs.Inner.Codewords.{CodewordsSay, SectionHas, SumSays};
 
 use crate::still::depths::all_use_global;
@@ -19,10 +19,6 @@ use jxlm_tree::ma::MaConfig;
 use jxlm_tree_depth::channels::{CodedChannels, GivenChannels};
 use std::alloc::Global;
 use std::collections::BTreeMap;
-
-/// The maximum of codewords that the codes of the own trees of a frame's sections may have. A few bytes of a code can
-/// stand for 2^15 codewords, and each takes time to read.
-pub const MOST_CODEWORDS: u64 = 1 << 26;
 
 // How many codewords the codes of a tree may have, if there is one.
 fn own_codewords(tree: Option<MaConfig<EntropyDecoder>>) -> u64
@@ -51,20 +47,21 @@ fn section_codewords(
     Ok(own_codewords(tree))
 }
 
-// Whether the codes of the own trees of these sections may have too many codewords, with those of the image's header.
-// Sections after those that have too many are not looked at.
+// Whether the codes of the own trees of these sections may have more than this number of codewords, with those of the
+// image's header. Sections after those that have too many are not looked at.
 fn sections_exceed(
     alloc: Global,
     coded: &CodedChannels,
     sections: &[Section<'_>],
     own: u64,
+    most: u64,
 ) -> Result<bool, OutOfMemory>
     requires coded { AreCoded coded.now }
-    requires own { own ≤ most_codewords }
+    requires own { own ≤ most }
     ensures { IfOk result (SumSays (list_of_part coded.now.group_dim coded.now.passes.items
-        (list_of coded.now.channels)) own sections.now) }
+        (list_of coded.now.channels)) most own sections.now) }
 {
-    let mut left = MOST_CODEWORDS - own;
+    let mut left = most - own;
     for section in sections {
         let codewords = section_codewords(alloc, coded, section)?;
         if codewords > left {
@@ -76,8 +73,9 @@ fn sections_exceed(
 }
 
 /// Whether the codes of the own trees of the header at the first section's position, for these channels, and of the
-/// headers of groups may have more than [`MOST_CODEWORDS`]. Headers with trees of their own are parsed here; one with
-/// an error is left to the decoding of its section.
+/// headers of groups may have more than this number of codewords. A few bytes of a code can stand for 2^15 codewords,
+/// and each takes time to read. Headers with trees of their own are parsed here; one with an error is left to the
+/// decoding of its section.
 pub(crate) fn exceed_codewords(
     alloc: Global,
     first: Bitstream<'_>,
@@ -85,14 +83,15 @@ pub(crate) fn exceed_codewords(
     pass_shifts: &BTreeMap<u32, (i32, i32)>,
     sections: &[Section<'_>],
     has_global: bool,
+    most: u64,
 ) -> Result<bool, OutOfMemory>
     requires given { AreGiven given.now }
     ensures { IfOk result (CodewordsSay has_global (nested_list given.now.channels.items) given.now.group_dim
-        (bytes_of first.entry) (position_of first.entry) (passes_of pass_shifts.now.entries) sections.now) }
+        (bytes_of first.entry) (position_of first.entry) (passes_of pass_shifts.now.entries) most sections.now) }
 {
     let tree = given.own_tree::<EntropyDecoder>(alloc, first, None)?;
     let own = own_codewords(tree);
-    if own > MOST_CODEWORDS {
+    if own > most {
         return Ok(true);
     }
     if all_use_global(sections) {
@@ -101,7 +100,7 @@ pub(crate) fn exceed_codewords(
     let passes = passes(alloc, pass_shifts)?;
     let opened = given.open(alloc, first, passes, has_global)?;
     match opened {
-        Some(coded) => sections_exceed(alloc, &coded, sections, own),
+        Some(coded) => sections_exceed(alloc, &coded, sections, own, most),
         None => Ok(false),
     }
 }

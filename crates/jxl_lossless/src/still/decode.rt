@@ -19,6 +19,7 @@ use crate::still::places::Places;
 use crate::still::trees::compare_trees;
 use jxl_modular::image::ModularImageDestination;
 use jxl_modular::sections::{Progress, Section, decode_sections_with};
+use jxl_picture::limits::TreeLimits;
 use jxlm_base::sample::Sample;
 use jxlm_bits::bits::Bitstream;
 use jxlm_bits::decoder::Decoder;
@@ -63,8 +64,8 @@ fn decode_all<S: Sample, D: Decoder, P: Progress>(
 /// stands, and those of its groups (ISO/IEC 18181-1, frame: sections, LF global, groups).
 ///
 /// A header that uses a global tree has the one of the parameters. Each group with samples has a section, which begins
-/// with a header of its own; the others are not looked at. The own tree of the image's header, or of such a header, is at
-/// most `deepest` decisions deep, and the codes of all of them may have at most 2^26 codewords. Which section and which stream a part has is said by the
+/// with a header of its own; the others are not looked at. The own trees of the image's header and of such headers are
+/// within these limits. Which section and which stream a part has is said by the
 /// [`Layout`](jxl_codestream::layout::Layout). `progress` is called after each section. It returns the image, whose
 /// transforms are undone; with no channels there is none.
 ///
@@ -77,15 +78,15 @@ fn decode_all<S: Sample, D: Decoder, P: Progress>(
 /// `Header` for the header, its conditions and the tree, as by [`Modular::parse`](jxl_modular::Modular::parse);
 /// `NoGroups`; `NoSection`; `GroupWeightedPalette` where the header of a group has such a palette, which is looked for
 /// before samples are decoded; `TooManyCodewords` where the codes of the own trees of the image's header and of headers
-/// of groups may have more than 2^26 codewords, and `TooManyDecisions` where such a tree is deeper than `deepest`, which
-/// are compared before samples are decoded; `Samples` for the first section that cannot be decoded, as by
+/// of groups may have more codewords than the limit, and `TooManyDecisions` where such a tree is deeper than its limit,
+/// which are compared before samples are decoded; `Samples` for the first section that cannot be decoded, as by
 /// [`decode_sections`](jxl_modular::sections::decode_sections). Or it is out of memory, at any time.
 pub fn decode_frame<'a, S: Sample, D: Decoder, P: Progress>(
     alloc: Global,
     first: Bitstream<'a>,
     params: ModularParams<'_, D>,
     places: Places<'a, '_>,
-    deepest: u64,
+    trees: TreeLimits,
     steps: &mut Steps,
     progress: &mut P,
 ) -> Result<Option<ModularImageDestination<S, D>>, FrameError>
@@ -96,13 +97,13 @@ pub fn decode_frame<'a, S: Sample, D: Decoder, P: Progress>(
     ensures still { IfOk result (λ made. IfSome made (λ image. IsStill D.meaning S.width
         (option_copied params.entry.ma_config) (image_list params.entry.channels.items) params.entry.group_dim
         params.entry.bit_depth (bytes_of first.entry) (position_of first.entry) (own_passes places.entry)
-        (section_at places.entry) deepest (image_grids S.to_int image) steps.old steps.new)) }
+        (section_at places.entry) trees (image_grids S.to_int image) steps.old steps.new)) }
     ensures sides { IfOk result (λ made. IfSome made (λ image.
         AreGridsOf (image_list params.entry.channels.items).channels (image_grids S.to_int image))) }
     ensures err { IfErr result (StillFails D.meaning S.width
         (option_copied params.entry.ma_config) (image_list params.entry.channels.items) params.entry.group_dim
         params.entry.bit_depth (bytes_of first.entry) (position_of first.entry) (own_passes places.entry)
-        (section_at places.entry) deepest) }
+        (section_at places.entry) trees) }
 {
     if params.channels.is_empty() {
         return Ok(None);
@@ -126,7 +127,7 @@ pub fn decode_frame<'a, S: Sample, D: Decoder, P: Progress>(
         places.passes,
         &sections,
         global,
-        deepest,
+        trees,
     )?;
     decode_all(
         alloc,

@@ -26,7 +26,7 @@ pub enum FrameError {
     /// The header of a group has such a palette.
     #[error("not supported: a palette with weighted deltas in a group")]
     GroupWeightedPalette,
-    /// The codes of the own trees of sections may have more than 2^26 codewords.
+    /// The codes of the own trees of sections may have more codewords than the limit.
     #[error("codes of sections: more codewords than the limit")]
     TooManyCodewords,
     /// The own tree of a section is deeper than the limit on decisions allows.

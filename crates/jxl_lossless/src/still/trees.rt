@@ -12,6 +12,7 @@ use crate::still::codewords::exceed_codewords;
 use crate::still::depths::some_deep;
 use crate::still::error::FrameError;
 use jxl_modular::sections::Section;
+use jxl_picture::limits::TreeLimits;
 use jxlm_bits::bits::Bitstream;
 use jxlm_bits::decoder::Decoder;
 use jxlm_tree::ma::MaConfig;
@@ -32,21 +33,23 @@ pub(crate) fn compare_trees<D: Decoder>(
     pass_shifts: &BTreeMap<u32, (i32, i32)>,
     sections: &[Section<'_>],
     global: Option<&MaConfig<D>>,
-    deepest: u64,
+    limits: TreeLimits,
 ) -> Result<(), FrameError>
     requires given { AreGiven given.now }
     ensures ok { OnOk result (AreWithin D.meaning (option_copied global.entry) (nested_list given.now.channels.items)
         given.now.group_dim (bytes_of first.entry) (position_of first.entry) (passes_of pass_shifts.now.entries)
-        deepest sections.now) }
+        limits sections.now) }
     ensures err { IfErr result (AreBeyond D.meaning (option_copied global.entry)
         (nested_list given.now.channels.items) given.now.group_dim (bytes_of first.entry) (position_of first.entry)
-        (passes_of pass_shifts.now.entries) deepest sections.now) }
+        (passes_of pass_shifts.now.entries) limits sections.now) }
 {
     let has_global = global.is_some();
-    let many = exceed_codewords(alloc, first, given, pass_shifts, sections, has_global)?;
+    let most = limits.codewords;
+    let many = exceed_codewords(alloc, first, given, pass_shifts, sections, has_global, most)?;
     if many {
         return Err(FrameError::TooManyCodewords);
     }
+    let deepest = limits.depth;
     let deep = some_deep(alloc, first, given, pass_shifts, sections, global, deepest)?;
     if deep {
         return Err(FrameError::TooManyDecisions);

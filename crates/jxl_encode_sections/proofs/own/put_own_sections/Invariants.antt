@@ -4,7 +4,7 @@ use Rattle.jxlm_transform.specs.Lists.{list_of}
 use Rattle.jxl_codestream.specs.LayoutParts.{parts_of}
 use Rattle.jxl_codestream.specs.Layouts.{section_count_of}
 use Rattle.jxl_encode_image.specs.Images.{samples_in}
-use Rattle.jxl_lossless.specs.Codewords.{most_codewords}
+use Rattle.jxl_encode_sections.specs.Sections.{most_codewords}
 use Rattle.jxl_encode_sections.specs.Inner.Groups.{MayHaveOwn}
 use Rattle.jxl_encode_sections.proofs.own.put_own_sections.Given as goal
 

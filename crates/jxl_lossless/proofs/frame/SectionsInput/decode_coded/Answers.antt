@@ -45,9 +45,9 @@ returns-in-Ok-Some-clause-ok g c =
     let tree : option_copied params.ma_config ≡ c.in_ok-tree.tree = search rules in
     let extra : c.len.result ≡ length c.args.self.input.image.now.ec_info.items = c.len.ensures ∙ c.args.self.input.image.now.ec_info.ok.0 in
     let count : c.colours.result + c.len.result ≡ channel_count image = rw (c.colours.ensures, extra) refl in
-    subst (λ (z : Size). IsCoded g.D.Decoder.meaning g.S.Sealed.width image c.args.self.input.frame.now.deepest z c.args.self.input.frame.now.header.group_dim (bytes_of c.args.bits) (position_of c.args.bits) c.args.self.places
+    subst (λ (z : Size). IsCoded g.D.Decoder.meaning g.S.Sealed.width image c.args.self.input.frame.now.trees z c.args.self.input.frame.now.header.group_dim (bytes_of c.args.bits) (position_of c.args.bits) c.args.self.places
     (image_grids g.S.Sealed.to_int c.in-Ok-Some.image) c.args.steps.now c.decode_frame.new.steps) c.size-size.ensures
-    (coded g.D.Decoder.meaning g.S.Sealed.width image size c.args.self.input.frame.now.header.group_dim (c.colours.result + c.len.result) c.args.self.input.frame.now.deepest (bytes_of c.args.bits) (bytes_of c.shared_tree.new.bits)
+    (coded g.D.Decoder.meaning g.S.Sealed.width image size c.args.self.input.frame.now.header.group_dim (c.colours.result + c.len.result) c.args.self.input.frame.now.trees (bytes_of c.args.bits) (bytes_of c.shared_tree.new.bits)
     (position_of c.args.bits) (position_of c.shared_tree.new.bits) c.args.self.places c.in_ok-tree.tree params count c.in_ok-tree.ensures.ok c.in_ok-tree.ensures.bytes tree list dim depth
     (image_grids g.S.Sealed.to_int c.in-Ok-Some.image) c.args.steps.now c.decode_frame.new.steps (rw c.in-Ok-Some.field-0-is at c.in-Ok-Some.ensures.still))
 
@@ -71,8 +71,8 @@ returns-clause-err g c =
     let tree : option_copied params.ma_config ≡ c.in_ok-tree.tree = search rules in
     let extra : c.len.result ≡ length c.args.self.input.image.now.ec_info.items = c.len.ensures ∙ c.args.self.input.image.now.ec_info.ok.0 in
     let count : c.colours.result + c.len.result ≡ channel_count image = rw (c.colours.ensures, extra) refl in
-    subst (λ (z : Size). SamplesFail g.D.Decoder.meaning g.S.Sealed.width image c.args.self.input.frame.now.deepest z c.args.self.input.frame.now.header.group_dim (bytes_of c.args.bits) (position_of c.args.bits) c.args.self.places c.in-Err.error) c.size-size.ensures
-    (samples_fail g.D.Decoder.meaning g.S.Sealed.width image size c.args.self.input.frame.now.header.group_dim (c.colours.result + c.len.result) c.args.self.input.frame.now.deepest (bytes_of c.args.bits) (bytes_of c.shared_tree.new.bits)
+    subst (λ (z : Size). SamplesFail g.D.Decoder.meaning g.S.Sealed.width image c.args.self.input.frame.now.trees z c.args.self.input.frame.now.header.group_dim (bytes_of c.args.bits) (position_of c.args.bits) c.args.self.places c.in-Err.error) c.size-size.ensures
+    (samples_fail g.D.Decoder.meaning g.S.Sealed.width image size c.args.self.input.frame.now.header.group_dim (c.colours.result + c.len.result) c.args.self.input.frame.now.trees (bytes_of c.args.bits) (bytes_of c.shared_tree.new.bits)
     (position_of c.args.bits) (position_of c.shared_tree.new.bits) c.args.self.places c.in_ok-tree.tree params count c.in_ok-tree.ensures.ok c.in_ok-tree.ensures.bytes tree list dim depth c.in-Err.error c.in-Err.ensures.err)
 
 pub returns-in_err-tree-clause-err : goal.returns-in_err-tree-clause-err
@@ -82,6 +82,6 @@ returns-in_err-tree-clause-err g c =
     let p = err_from_is_err_and c.from_residual.result c.from_residual.ensures.1 in
     let extra : c.len.result ≡ length c.args.self.input.image.now.ec_info.items = c.len.ensures ∙ c.args.self.input.image.now.ec_info.ok.0 in
     let count : c.colours.result + c.len.result ≡ channel_count image = rw (c.colours.ensures, extra) refl in
-    rw (p.1, p.2) (subst (λ (z : Size). CodedFails g.D.Decoder.meaning g.S.Sealed.width image c.args.self.input.frame.now.deepest z c.args.self.input.frame.now.header.group_dim (bytes_of c.args.bits) (position_of c.args.bits) c.args.self.places e) c.size-size.ensures
-    (start_fails g.D.Decoder.meaning g.S.Sealed.width image c.size-size.result c.args.self.input.frame.now.header.group_dim (c.colours.result + c.len.result) c.args.self.input.frame.now.deepest (bytes_of c.args.bits)
+    rw (p.1, p.2) (subst (λ (z : Size). CodedFails g.D.Decoder.meaning g.S.Sealed.width image c.args.self.input.frame.now.trees z c.args.self.input.frame.now.header.group_dim (bytes_of c.args.bits) (position_of c.args.bits) c.args.self.places e) c.size-size.ensures
+    (start_fails g.D.Decoder.meaning g.S.Sealed.width image c.size-size.result c.args.self.input.frame.now.header.group_dim (c.colours.result + c.len.result) c.args.self.input.frame.now.trees (bytes_of c.args.bits)
     (position_of c.args.bits) c.args.self.places count e c.in_err-tree.ensures.err))

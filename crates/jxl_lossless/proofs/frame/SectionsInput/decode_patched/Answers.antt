@@ -27,7 +27,7 @@ returns-in-Err-clause-err g c =
     let slots = slots_of c.args.self.input.slots.now in
     let frame = frame_of c.args.self.input.frame.now.header in
     let count : c.len-extra.result ≡ length c.args.self.input.image.now.ec_info.items = c.len-extra.ensures ∙ c.args.self.input.image.now.ec_info.ok.0 in
-    patches_fail g.D.Decoder.meaning image slots frame c.args.self.input.frame.now.deepest c.args.self.first.now c.args.self.places c.size-size.result c.len-extra.result (sizes_of slots) (bytes_of c.new-bits.result) (position_of c.new-bits.result)
+    patches_fail g.D.Decoder.meaning image slots frame c.args.self.input.frame.now.trees c.args.self.first.now c.args.self.places c.size-size.result c.len-extra.result (sizes_of slots) (bytes_of c.new-bits.result) (position_of c.new-bits.result)
     (position_of c.read_patches.new.bits) c.size-size.ensures count refl c.new-bits.ensures.bytes c.new-bits.ensures.position c.in-Err.error c.in-Err.ensures.gives
 
 pub returns-in_err-channels-clause-err : goal.returns-in_err-channels-clause-err
@@ -40,13 +40,13 @@ returns-in_err-channels-clause-err g c =
     let patches = option_map patches_of c.in-Ok.patches in
     let q = position_of c.read_patches.new.bits in
     let count : c.len-extra.result ≡ length c.args.self.input.image.now.ec_info.items = c.len-extra.ensures ∙ c.args.self.input.image.now.ec_info.ok.0 in
-    let stands = begins d image slots frame c.args.self.input.frame.now.deepest first c.args.self.places c.size-size.result c.len-extra.result (sizes_of slots) (bytes_of c.new-bits.result) (position_of c.new-bits.result) q c.size-size.ensures count
+    let stands = begins d image slots frame c.args.self.input.frame.now.trees first c.args.self.places c.size-size.result c.len-extra.result (sizes_of slots) (bytes_of c.new-bits.result) (position_of c.new-bits.result) q c.size-size.ensures count
     refl c.new-bits.ensures.bytes c.new-bits.ensures.position patches c.in-Ok.ensures.gives in
     let p = err_from_is_err_and c.from_residual.result c.from_residual.ensures.1 in
     let e = c.in_err-channels.field-0.0 in
     let bytes : bytes_of c.read_patches.new.bits ≡ first = c.in-Ok.ensures.bytes ∙ c.new-bits.ensures.bytes in
     let fails = subst (λ (b : List ℕ). CodedOfFails d w32 c.args.self b q e) bytes c.in_err-channels.ensures.err in
-    rw (p.1, p.2) (made_fails d image slots frame c.args.self.input.frame.now.deepest first c.args.self.places patches q stands e fails)
+    rw (p.1, p.2) (made_fails d image slots frame c.args.self.input.frame.now.trees first c.args.self.places patches q stands e fails)
 
 pub put_patches-requires-clause-held : goal.put_patches-requires-clause-held
 put_patches-requires-clause-held g c =
@@ -87,7 +87,7 @@ returns-clause-ok g c =
     let patches = option_map patches_of c.in-Ok.patches in
     let q = position_of c.read_patches.new.bits in
     let count : c.len-extra.result ≡ length c.args.self.input.image.now.ec_info.items = c.len-extra.ensures ∙ c.args.self.input.image.now.ec_info.ok.0 in
-    let stands = begins d image slots frame c.args.self.input.frame.now.deepest first c.args.self.places size c.len-extra.result (sizes_of slots) (bytes_of c.new-bits.result) (position_of c.new-bits.result) q c.size-size.ensures count
+    let stands = begins d image slots frame c.args.self.input.frame.now.trees first c.args.self.places size c.len-extra.result (sizes_of slots) (bytes_of c.new-bits.result) (position_of c.new-bits.result) q c.size-size.ensures count
     refl c.new-bits.ensures.bytes c.new-bits.ensures.position patches c.in-Ok.ensures.gives in
     let bytes : bytes_of c.read_patches.new.bits ≡ first = c.in-Ok.ensures.bytes ∙ c.new-bits.ensures.bytes in
     let coded = subst (λ (b : List ℕ). CodedOf d w32 c.args.self b q items c.args.steps.now c.decode_grids.new.steps) bytes c.in_ok-channels.ensures.ok in

@@ -9,8 +9,8 @@ use Rattle.jxl_lossless.proofs.Codewords.{coded_have, none_has, none_own}
 use Rattle.jxl_lossless.proofs.Headers.{at_some}
 use Rattle.jxl_lossless.proofs.still.codewords.exceed_codewords.Goals as goal
 
-pub returns-then-own-gt-MOST_CODEWORDS : goal.returns-then-own-gt-MOST_CODEWORDS
-returns-then-own-gt-MOST_CODEWORDS c = λ head q e. (
+pub returns-then-own-most : goal.returns-then-own-most
+returns-then-own-most c = λ head q e. (
   c.own_codewords-own.result,
   (c.in_ok-tree.tree, c.in_ok-tree.ensures, c.own_codewords-own.ensures),
   (0, [], tt, omega arith),
@@ -38,7 +38,7 @@ returns-in-Some c =
     let opens : OpensCoded c.args.has_global given dim passes bytes p (Some c.in-Some.coded) =
     subst (λ (o : Option CodedChannels). OpensCoded c.args.has_global given dim passes bytes p o) c.in-Some.is
     (subst (λ ps. OpensCoded c.args.has_global given dim ps bytes p c.in_ok-opened.opened) c.in_ok-passes.ensures c.in_ok-opened.ensures.opens) in
-    coded_have c.args.has_global given dim bytes p passes c.args.sections.now c.own_codewords-own.result c.in-Some.coded c.sections_exceed.result opens has c.sections_exceed.ensures
+    coded_have c.args.has_global given dim bytes p passes c.args.most c.args.sections.now c.own_codewords-own.result c.in-Some.coded c.sections_exceed.result opens has c.sections_exceed.ensures
 
 pub returns-in-None : goal.returns-in-None
 returns-in-None c =
@@ -50,4 +50,4 @@ returns-in-None c =
     let opens : OpensCoded c.args.has_global given dim passes bytes p None =
     subst (λ (o : Option CodedChannels). OpensCoded c.args.has_global given dim passes bytes p o) c.in-None.is
     (subst (λ ps. OpensCoded c.args.has_global given dim ps bytes p c.in_ok-opened.opened) c.in_ok-passes.ensures c.in_ok-opened.ensures.opens) in
-    none_has c.args.has_global given dim bytes p passes c.args.sections.now false opens
+    none_has c.args.has_global given dim bytes p passes c.args.most c.args.sections.now false opens

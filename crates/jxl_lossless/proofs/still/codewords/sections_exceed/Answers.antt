@@ -6,7 +6,6 @@ use Rattle.std.proofs.lemmas.Slice.Zip.{all_zipped_more}
 use Rattle.jxlm_transform.specs.Lists.{list_of}
 use Rattle.jxlm_tree_depth.specs.Openings.{list_of_part}
 use Rattle.jxl_modular.specs.declared.sections.Section.{Section}
-use Rattle.jxl_lossless.specs.Codewords.{most_codewords}
 use Rattle.jxl_lossless.specs.Inner.Codewords.{SectionHas}
 use Rattle.jxl_lossless.proofs.Codewords.{sum_push}
 use Rattle.jxl_lossless.proofs.still.codewords.sections_exceed.Goals as goal

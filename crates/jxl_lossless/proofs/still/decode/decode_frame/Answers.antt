@@ -26,8 +26,8 @@ returns-in_err-opened-clause-err g c =
     let bytes = bytes_of c.args.first in
     let place = position_of c.args.first in
     let e = c.in_err-opened.field-0.0 in
-    let fails : StillFails g.D.Decoder.meaning g.S.Sealed.width global (image_list c.args.params.channels.items) c.args.params.group_dim c.args.params.bit_depth bytes place (own_passes c.args.places) (section_at c.args.places) c.args.deepest e =
-    open_fails g.D.Decoder.meaning g.S.Sealed.width g.S.Sealed.to_int zero global c.args.params.channels.items c.args.params.group_dim c.args.params.bit_depth bytes place c.args.places c.args.deepest e c.in_err-opened.ensures.err in
+    let fails : StillFails g.D.Decoder.meaning g.S.Sealed.width global (image_list c.args.params.channels.items) c.args.params.group_dim c.args.params.bit_depth bytes place (own_passes c.args.places) (section_at c.args.places) c.args.trees e =
+    open_fails g.D.Decoder.meaning g.S.Sealed.width g.S.Sealed.to_int zero global c.args.params.channels.items c.args.params.group_dim c.args.params.bit_depth bytes place c.args.places c.args.trees e c.in_err-opened.ensures.err in
     let p = err_from_is_err_and c.from_residual-in_err-opened.result c.from_residual-in_err-opened.ensures.1 in
     rw (p.1, p.2) fails
 
@@ -41,7 +41,7 @@ list-requires-clause-possible g c κs within =
     let q = position_of c.open_image.new.bits in
     let o = at_some (λ (i : Image g.row.S.Denot g.row.D.Denot). Opens g.D.Decoder.meaning global (image_list c.args.params.channels.items) bytes place zero c.args.params.group_dim c.args.params.bit_depth i q)
     c.in_ok-opened.opened image c.in-Some.is c.in_ok-opened.ensures.ok in
-    groups_possible g.D.Decoder.meaning g.S.Sealed.width g.S.Sealed.to_int zero global c.args.params.channels.items c.args.params.group_dim c.args.params.bit_depth bytes place c.args.places c.args.deepest image q o c.requires.usable c.requires.alike
+    groups_possible g.D.Decoder.meaning g.S.Sealed.width g.S.Sealed.to_int zero global c.args.params.channels.items c.args.params.group_dim c.args.params.bit_depth bytes place c.args.places c.args.trees image q o c.requires.usable c.requires.alike
 
 pub returns-in_err-sections-clause-err : goal.returns-in_err-sections-clause-err
 returns-in_err-sections-clause-err g c =
@@ -54,8 +54,8 @@ returns-in_err-sections-clause-err g c =
     let o = at_some (λ (i : Image g.row.S.Denot g.row.D.Denot). Opens g.D.Decoder.meaning global (image_list c.args.params.channels.items) bytes place zero c.args.params.group_dim c.args.params.bit_depth i q)
     c.in_ok-opened.opened image c.in-Some.is c.in_ok-opened.ensures.ok in
     let e = c.in_err-sections.field-0.0 in
-    let fails : StillFails g.D.Decoder.meaning g.S.Sealed.width global (image_list c.args.params.channels.items) c.args.params.group_dim c.args.params.bit_depth bytes place (own_passes c.args.places) (section_at c.args.places) c.args.deepest e =
-    list_fails g.D.Decoder.meaning g.S.Sealed.width g.S.Sealed.to_int zero global c.args.params.channels.items c.args.params.group_dim c.args.params.bit_depth bytes place c.args.places c.args.deepest image q o e c.in_err-sections.ensures.err in
+    let fails : StillFails g.D.Decoder.meaning g.S.Sealed.width global (image_list c.args.params.channels.items) c.args.params.group_dim c.args.params.bit_depth bytes place (own_passes c.args.places) (section_at c.args.places) c.args.trees e =
+    list_fails g.D.Decoder.meaning g.S.Sealed.width g.S.Sealed.to_int zero global c.args.params.channels.items c.args.params.group_dim c.args.params.bit_depth bytes place c.args.places c.args.trees image q o e c.in_err-sections.ensures.err in
     let p = err_from_is_err_and c.from_residual-in_err-sections.result c.from_residual-in_err-sections.ensures.1 in
     rw (p.1, p.2) fails
 
@@ -70,7 +70,7 @@ returns-then-weighted-clause-err g c =
     let o = at_some (λ (i : Image g.row.S.Denot g.row.D.Denot). Opens g.D.Decoder.meaning global (image_list c.args.params.channels.items) bytes place zero c.args.params.group_dim c.args.params.bit_depth i q)
     c.in_ok-opened.opened image c.in-Some.is c.in_ok-opened.ensures.ok in
     let sections = c.in_ok-sections.sections.items in
-    weighted_fail g.D.Decoder.meaning g.S.Sealed.width g.S.Sealed.to_int zero global c.args.params.channels.items c.args.params.group_dim c.args.params.bit_depth bytes place c.args.places c.args.deepest image q o
+    weighted_fail g.D.Decoder.meaning g.S.Sealed.width g.S.Sealed.to_int zero global c.args.params.channels.items c.args.params.group_dim c.args.params.bit_depth bytes place c.args.places c.args.trees image q o
     c.open_image.new.bits c.in_ok-opened.ensures.bytes refl sections c.in_ok-sections.ensures.listed c.in_ok-sections.ensures.cut.cells c.requires.usable c.requires.valid.channels c.requires.alike
     (ap (list_any section_is_weighted) (sym c.deref-2.ensures.value) ∙ sym c.in_ok-weighted.ensures ∙ c.if-weighted.true)
 
@@ -86,11 +86,11 @@ returns-in_err-compare_trees-clause-err g c =
     c.in_ok-opened.opened image c.in-Some.is c.in_ok-opened.ensures.ok in
     let sections = c.in_ok-sections.sections.items in
     let e = c.in_err-compare_trees.field-0.0 in
-    let beyond : AreBeyond g.D.Decoder.meaning global (image_list c.args.params.channels.items) c.args.params.group_dim bytes place (own_passes c.args.places) c.args.deepest sections e =
-    same_beyond g.D.Decoder.meaning global (nested_list c.in_ok-given.given.channels.items) (image_list c.args.params.channels.items) c.in_ok-given.given.group_dim c.args.params.group_dim bytes place (own_passes c.args.places) c.args.deepest
+    let beyond : AreBeyond g.D.Decoder.meaning global (image_list c.args.params.channels.items) c.args.params.group_dim bytes place (own_passes c.args.places) c.args.trees sections e =
+    same_beyond g.D.Decoder.meaning global (nested_list c.in_ok-given.given.channels.items) (image_list c.args.params.channels.items) c.in_ok-given.given.group_dim c.args.params.group_dim bytes place (own_passes c.args.places) c.args.trees
     c.deref-3.result.now sections (c.in_ok-given.ensures.channels ∙ ap image_list c.deref.ensures.value) c.in_ok-given.ensures.group_dim c.deref-3.ensures.value e c.in_err-compare_trees.ensures.err in
-    let fails : StillFails g.D.Decoder.meaning g.S.Sealed.width global (image_list c.args.params.channels.items) c.args.params.group_dim c.args.params.bit_depth bytes place (own_passes c.args.places) (section_at c.args.places) c.args.deepest e =
-    beyond_fail g.D.Decoder.meaning g.S.Sealed.width g.S.Sealed.to_int zero global c.args.params.channels.items c.args.params.group_dim c.args.params.bit_depth bytes place c.args.places c.args.deepest image q o
+    let fails : StillFails g.D.Decoder.meaning g.S.Sealed.width global (image_list c.args.params.channels.items) c.args.params.group_dim c.args.params.bit_depth bytes place (own_passes c.args.places) (section_at c.args.places) c.args.trees e =
+    beyond_fail g.D.Decoder.meaning g.S.Sealed.width g.S.Sealed.to_int zero global c.args.params.channels.items c.args.params.group_dim c.args.params.bit_depth bytes place c.args.places c.args.trees image q o
     c.open_image.new.bits c.in_ok-opened.ensures.bytes refl sections c.in_ok-sections.ensures.listed c.in_ok-sections.ensures.cut.cells c.requires.usable c.requires.valid.channels c.requires.alike
     (ap (list_any section_is_weighted) (sym c.deref-2.ensures.value) ∙ sym c.in_ok-weighted.ensures ∙ c.if-weighted.false) e beyond in
     let p = err_from_is_err_and c.from_residual-in_err-compare_trees.result c.from_residual-in_err-compare_trees.ensures.1 in
@@ -108,7 +108,7 @@ decode_all-requires-clause-fit g c κs within =
     c.in_ok-opened.opened image c.in-Some.is c.in_ok-opened.ensures.ok in
     let sections = c.in_ok-sections.sections.items in
     let fits : SectionsFit image (own_passes c.args.places) sections =
-    fit g.D.Decoder.meaning g.S.Sealed.width g.S.Sealed.to_int zero global c.args.params.channels.items c.args.params.group_dim c.args.params.bit_depth bytes place c.args.places c.args.deepest image q o
+    fit g.D.Decoder.meaning g.S.Sealed.width g.S.Sealed.to_int zero global c.args.params.channels.items c.args.params.group_dim c.args.params.bit_depth bytes place c.args.places c.args.trees image q o
     c.open_image.new.bits c.in_ok-opened.ensures.bytes refl sections c.in_ok-sections.ensures.listed c.in_ok-sections.ensures.cut.cells c.requires.usable c.requires.alike in
     subst (λ (i : Image g.row.S.Denot g.row.D.Denot). SectionsFit i (own_passes c.args.places) c.deref-4.result.now) (sym c.in_ok-sections.ensures.unchanged)
     (subst (λ (ss : List Section). SectionsFit image (own_passes c.args.places) ss) (sym c.deref-4.ensures.value) fits)
@@ -125,7 +125,7 @@ decode_all-requires-clause-complete g c κs within =
     c.in_ok-opened.opened image c.in-Some.is c.in_ok-opened.ensures.ok in
     let sections = c.in_ok-sections.sections.items in
     let there : IsComplete image (own_passes c.args.places) sections =
-    all_there g.D.Decoder.meaning g.S.Sealed.width g.S.Sealed.to_int zero global c.args.params.channels.items c.args.params.group_dim c.args.params.bit_depth bytes place c.args.places c.args.deepest image q o
+    all_there g.D.Decoder.meaning g.S.Sealed.width g.S.Sealed.to_int zero global c.args.params.channels.items c.args.params.group_dim c.args.params.bit_depth bytes place c.args.places c.args.trees image q o
     c.open_image.new.bits c.in_ok-opened.ensures.bytes refl sections c.in_ok-sections.ensures.listed c.in_ok-sections.ensures.cut.cells c.requires.usable c.requires.valid.channels c.requires.alike in
     subst (λ (i : Image g.row.S.Denot g.row.D.Denot). IsComplete i (own_passes c.args.places) c.deref-4.result.now) (sym c.in_ok-sections.ensures.unchanged)
     (subst (λ (ss : List Section). IsComplete image (own_passes c.args.places) ss) (sym c.deref-4.ensures.value) there)
@@ -142,14 +142,14 @@ returns-in_err-decode_all-clause-err g c =
     c.in_ok-opened.opened image c.in-Some.is c.in_ok-opened.ensures.ok in
     let sections = c.in_ok-sections.sections.items in
     let e = c.in_err-decode_all.field-0.0 in
-    let within : AreWithin g.D.Decoder.meaning global (image_list c.args.params.channels.items) c.args.params.group_dim bytes place (own_passes c.args.places) c.args.deepest sections =
-    same_within g.D.Decoder.meaning global (nested_list c.in_ok-given.given.channels.items) (image_list c.args.params.channels.items) c.in_ok-given.given.group_dim c.args.params.group_dim bytes place (own_passes c.args.places) c.args.deepest
+    let within : AreWithin g.D.Decoder.meaning global (image_list c.args.params.channels.items) c.args.params.group_dim bytes place (own_passes c.args.places) c.args.trees sections =
+    same_within g.D.Decoder.meaning global (nested_list c.in_ok-given.given.channels.items) (image_list c.args.params.channels.items) c.in_ok-given.given.group_dim c.args.params.group_dim bytes place (own_passes c.args.places) c.args.trees
     c.deref-3.result.now sections (c.in_ok-given.ensures.channels ∙ ap image_list c.deref.ensures.value) c.in_ok-given.ensures.group_dim c.deref-3.ensures.value c.in_ok-compare_trees.ensures.ok in
     let stops : SamplesStop g.D.Decoder.meaning g.S.Sealed.width g.S.Sealed.to_int zero image (own_passes c.args.places) global sections e =
     subst (λ (ss : List Section). SamplesStop g.D.Decoder.meaning g.S.Sealed.width g.S.Sealed.to_int zero image (own_passes c.args.places) global ss e) c.deref-4.ensures.value
     (subst (λ (i : Image g.row.S.Denot g.row.D.Denot). SamplesStop g.D.Decoder.meaning g.S.Sealed.width g.S.Sealed.to_int zero i (own_passes c.args.places) global c.deref-4.result.now e) c.in_ok-sections.ensures.unchanged c.in_err-decode_all.ensures.err) in
-    let fails : StillFails g.D.Decoder.meaning g.S.Sealed.width global (image_list c.args.params.channels.items) c.args.params.group_dim c.args.params.bit_depth bytes place (own_passes c.args.places) (section_at c.args.places) c.args.deepest e =
-    samples_fail g.D.Decoder.meaning g.S.Sealed.width g.S.Sealed.to_int zero global c.args.params.channels.items c.args.params.group_dim c.args.params.bit_depth bytes place c.args.places c.args.deepest image q o
+    let fails : StillFails g.D.Decoder.meaning g.S.Sealed.width global (image_list c.args.params.channels.items) c.args.params.group_dim c.args.params.bit_depth bytes place (own_passes c.args.places) (section_at c.args.places) c.args.trees e =
+    samples_fail g.D.Decoder.meaning g.S.Sealed.width g.S.Sealed.to_int zero global c.args.params.channels.items c.args.params.group_dim c.args.params.bit_depth bytes place c.args.places c.args.trees image q o
     c.open_image.new.bits c.in_ok-opened.ensures.bytes refl sections c.in_ok-sections.ensures.listed c.in_ok-sections.ensures.cut.cells c.requires.usable c.requires.valid.channels c.requires.alike e (ap (list_any section_is_weighted) (sym c.deref-2.ensures.value) ∙ sym c.in_ok-weighted.ensures ∙ c.if-weighted.false) within stops in
     let p = err_from_is_err_and c.from_residual-in_err-decode_all.result c.from_residual-in_err-decode_all.ensures.1 in
     rw (p.1, p.2) fails
@@ -168,16 +168,16 @@ returns-clause-still g c =
     let grids = image_grids g.S.Sealed.to_int c.decode_all.new.image in
     let before = c.args.steps.now in
     let after = c.decode_all.new.steps in
-    let within : AreWithin g.D.Decoder.meaning global (image_list c.args.params.channels.items) c.args.params.group_dim bytes place (own_passes c.args.places) c.args.deepest sections =
-    same_within g.D.Decoder.meaning global (nested_list c.in_ok-given.given.channels.items) (image_list c.args.params.channels.items) c.in_ok-given.given.group_dim c.args.params.group_dim bytes place (own_passes c.args.places) c.args.deepest
+    let within : AreWithin g.D.Decoder.meaning global (image_list c.args.params.channels.items) c.args.params.group_dim bytes place (own_passes c.args.places) c.args.trees sections =
+    same_within g.D.Decoder.meaning global (nested_list c.in_ok-given.given.channels.items) (image_list c.args.params.channels.items) c.in_ok-given.given.group_dim c.args.params.group_dim bytes place (own_passes c.args.places) c.args.trees
     c.deref-3.result.now sections (c.in_ok-given.ensures.channels ∙ ap image_list c.deref.ensures.value) c.in_ok-given.ensures.group_dim c.deref-3.ensures.value c.in_ok-compare_trees.ensures.ok in
     let done : AreDecoded g.D.Decoder.meaning g.S.Sealed.width g.S.Sealed.to_int zero image (own_passes c.args.places) global sections grids before after =
     subst (λ (ss : List Section). AreDecoded g.D.Decoder.meaning g.S.Sealed.width g.S.Sealed.to_int zero image (own_passes c.args.places) global ss grids before after) c.deref-4.ensures.value
     (subst (λ (i : Image g.row.S.Denot g.row.D.Denot). AreDecoded g.D.Decoder.meaning g.S.Sealed.width g.S.Sealed.to_int zero i (own_passes c.args.places) global c.deref-4.result.now grids before after) c.in_ok-sections.ensures.unchanged c.in_ok-decode_all.ensures.ok) in
-    made g.D.Decoder.meaning g.S.Sealed.width g.S.Sealed.to_int zero global c.args.params.channels.items c.args.params.group_dim c.args.params.bit_depth bytes place c.args.places c.args.deepest image q o
+    made g.D.Decoder.meaning g.S.Sealed.width g.S.Sealed.to_int zero global c.args.params.channels.items c.args.params.group_dim c.args.params.bit_depth bytes place c.args.places c.args.trees image q o
     c.open_image.new.bits c.in_ok-opened.ensures.bytes refl sections c.in_ok-sections.ensures.listed c.in_ok-sections.ensures.cut.cells c.requires.usable c.requires.valid.channels c.requires.alike (ap (list_any section_is_weighted) (sym c.deref-2.ensures.value) ∙ sym c.in_ok-weighted.ensures ∙ c.if-weighted.false) within grids before after done
 
 pub returns-clause-sides : goal.returns-clause-sides
 returns-clause-sides g c =
     still_sides g.D.Decoder.meaning g.S.Sealed.width g.S.Sealed.to_int (g.S.Sealed.from_int (pos 0)) (option_copied c.args.params.ma_config) c.args.params.channels.items c.args.params.group_dim c.args.params.bit_depth
-    (bytes_of c.args.first) (position_of c.args.first) c.args.places c.args.deepest (image_grids g.S.Sealed.to_int c.decode_all.new.image) c.args.steps.now c.decode_all.new.steps (returns-clause-still g c)
+    (bytes_of c.args.first) (position_of c.args.first) c.args.places c.args.trees (image_grids g.S.Sealed.to_int c.decode_all.new.image) c.args.steps.now c.decode_all.new.steps (returns-clause-still g c)

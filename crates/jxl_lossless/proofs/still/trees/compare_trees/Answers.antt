@@ -17,8 +17,8 @@ returns-then-many-clause-err g c =
     let p = position_of c.args.first in
     let passes = passes_of c.args.pass_shifts.now.entries in
     let has : c.is_some-has_global.result ≡ is_some global = c.is_some-has_global.ensures ∙ sym (lent_some c.args.global) in
-    subst (λ (b : Bool). CodewordsSay (is_some global) given dim bytes p passes c.args.sections.now b) c.if-many.true
-    (subst (λ (h : Bool). CodewordsSay h given dim bytes p passes c.args.sections.now c.in_ok-many.many) has c.in_ok-many.ensures)
+    subst (λ (b : Bool). CodewordsSay (is_some global) given dim bytes p passes c.args.limits.codewords c.args.sections.now b) c.if-many.true
+    (subst (λ (h : Bool). CodewordsSay h given dim bytes p passes c.args.limits.codewords c.args.sections.now c.in_ok-many.many) has c.in_ok-many.ensures)
 
 pub returns-then-deep-clause-err : goal.returns-then-deep-clause-err
 returns-then-deep-clause-err g c =
@@ -29,9 +29,9 @@ returns-then-deep-clause-err g c =
     let p = position_of c.args.first in
     let passes = passes_of c.args.pass_shifts.now.entries in
     let has : c.is_some-has_global.result ≡ is_some global = c.is_some-has_global.ensures ∙ sym (lent_some c.args.global) in (
-      subst (λ (b : Bool). CodewordsSay (is_some global) given dim bytes p passes c.args.sections.now b) c.if-many.false
-          (subst (λ (h : Bool). CodewordsSay h given dim bytes p passes c.args.sections.now c.in_ok-many.many) has c.in_ok-many.ensures),
-      subst (λ (b : Bool). TreesSay g.D.Decoder.meaning global given dim bytes p passes c.args.deepest c.args.sections.now b) c.if-deep.true c.in_ok-deep.ensures,
+      subst (λ (b : Bool). CodewordsSay (is_some global) given dim bytes p passes c.args.limits.codewords c.args.sections.now b) c.if-many.false
+          (subst (λ (h : Bool). CodewordsSay h given dim bytes p passes c.args.limits.codewords c.args.sections.now c.in_ok-many.many) has c.in_ok-many.ensures),
+      subst (λ (b : Bool). TreesSay g.D.Decoder.meaning global given dim bytes p passes c.args.limits.depth c.args.sections.now b) c.if-deep.true c.in_ok-deep.ensures,
     )
 
 pub returns-clause-ok : goal.returns-clause-ok
@@ -44,7 +44,7 @@ returns-clause-ok g c =
     let passes = passes_of c.args.pass_shifts.now.entries in
     let has : c.is_some-has_global.result ≡ is_some global = c.is_some-has_global.ensures ∙ sym (lent_some c.args.global) in
     record {
-      few = subst (λ (b : Bool). CodewordsSay (is_some global) given dim bytes p passes c.args.sections.now b) c.if-many.false
-          (subst (λ (h : Bool). CodewordsSay h given dim bytes p passes c.args.sections.now c.in_ok-many.many) has c.in_ok-many.ensures);
-      shallow = subst (λ (b : Bool). TreesSay g.D.Decoder.meaning global given dim bytes p passes c.args.deepest c.args.sections.now b) c.if-deep.false c.in_ok-deep.ensures;
+      few = subst (λ (b : Bool). CodewordsSay (is_some global) given dim bytes p passes c.args.limits.codewords c.args.sections.now b) c.if-many.false
+          (subst (λ (h : Bool). CodewordsSay h given dim bytes p passes c.args.limits.codewords c.args.sections.now c.in_ok-many.many) has c.in_ok-many.ensures);
+      shallow = subst (λ (b : Bool). TreesSay g.D.Decoder.meaning global given dim bytes p passes c.args.limits.depth c.args.sections.now b) c.if-deep.false c.in_ok-deep.ensures;
     }

@@ -2,7 +2,7 @@ use Rattle.std.proofs.Common.{◌≡◌, ◌∙◌, ◌+◌, ◌*◌, ◌≤◌,
 use Rattle.std.proofs.Math.Nat.{mul-le-mul_left}
 use Rattle.jxl_image_header.specs.Images.{image_of}
 use Rattle.jxl_picture.specs.Limits.{cells_of, channel_count}
-use Rattle.jxl_codestream.proofs.frame.deepest.Goals as goal
+use Rattle.jxl_codestream.proofs.frame.tree_limits.Goals as goal
 
 pub overflow_add-samples : goal.overflow_add-samples
 overflow_add-samples c =
