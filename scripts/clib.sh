@@ -72,17 +72,21 @@ test_links() {
     echo "links: the same picture by each compiler"
 }
 
-# Drawn pictures, if there is an encoder; and what the library says of each of them.
+# Draws pictures of this longer side, and encodes them by cjxl, if it is there, into a folder.
+draw() {
+    has cjxl || return 0
+    mkdir -p "$folder/drawn" "$2"
+    python3 scripts/draw_pictures.py "$folder/drawn" "$1"
+    for picture in "$folder"/drawn/*.p[gpa]m; do
+        name=$2/$(basename "$picture" | tr . _).jxl
+        cjxl "$picture" "$name" -d 0 -e 3 --quiet 2> /dev/null || rm -f "$name"
+    done
+}
+
+# What the library says of each picture, and the pixels of djxl.
 test_pictures() {
     cp examples/ball.jxl "$folder/"
-    if has cjxl; then
-        mkdir "$folder/in"
-        python3 scripts/draw_pictures.py "$folder/in" 40
-        for picture in "$folder"/in/*.p[gpa]m; do
-            name=$(basename "$picture" | tr . _)
-            cjxl "$picture" "$folder/$name.jxl" -d 0 -e 3 --quiet 2> /dev/null || rm -f "$folder/$name.jxl"
-        done
-    fi
+    draw 40 "$folder"
     $CC -std=c99 $flags -Iinclude c/tests/samples.c "$clib/libjxl_lossless.a" -o "$folder/samples"
     same=0
     for file in "$folder"/*.jxl; do
@@ -98,7 +102,7 @@ test_pictures() {
     echo "pictures: $(ls "$folder"/*.jxl | wc -l) decoded, $same with the pixels of djxl"
 }
 
-# Damaged files, between fences and under sanitizers.
+# Damaged files, and pictures with descriptions that are wrong, between fences and under sanitizers.
 test_damage() {
     words=
     for file in "$folder"/*.jxl; do
@@ -106,8 +110,11 @@ test_damage() {
         [ -z "$samples" ] || words="$words $file:$samples"
     done
     python3 c/tests/damage.py "${SEED:-1}" "${CASES:-2000}" "$folder/cases" $words
-    $CC -std=c99 $flags -g -fsanitize=address,undefined -Iinclude c/tests/fuzz.c "$clib/libjxl_lossless.a" -o "$folder/fuzz"
+    for test in fuzz fuzz_encode; do
+        $CC -std=c99 $flags -g -fsanitize=address,undefined -Iinclude c/tests/$test.c "$clib/libjxl_lossless.a" -o "$folder/$test"
+    done
     "$folder/fuzz" "$folder/cases" || fail "fuzz ended with status $?"
+    "$folder/fuzz_encode" "${SEED:-1}" $((${CASES:-2000} / 4)) || fail "fuzz_encode ended with status $?"
 }
 
 test_memory() {
@@ -115,11 +122,15 @@ test_memory() {
     "$folder/refuse" $(ls "$folder"/*.jxl | head -5) || fail "refuse ended with status $?"
 }
 
-# Each picture is encoded, and decoded to the same; djxl decodes it to the pixels of the file that it is of.
+# Each picture is encoded, and decoded to the same; djxl decodes it to the pixels of the file that it is of. Of small
+# pictures each request for memory is refused, of others some.
 test_encode() {
-    mkdir "$folder/encoded"
+    mkdir -p "$folder/encoded" "$folder/small/encoded"
+    draw 6 "$folder/small"
     $CC -std=c99 $flags -Iinclude c/tests/encode.c "$out/libjxl_c.a" -o "$folder/encode"
     "$folder/encode" "$folder/encoded" "${TRIES:-20}" "$folder"/*.jxl > "$folder/encode.said" || fail "$(tail -1 "$folder/encode.said")"
+    [ ! -f "$folder/small/narrow_ppm.jxl" ] || "$folder/encode" "$folder/small/encoded" 1000000 "$folder"/small/*.jxl > "$folder/small.said" ||
+        fail "$(tail -1 "$folder/small.said")"
     k=0 same=0
     for file in "$folder"/*.jxl; do
         k=$((k + 1))

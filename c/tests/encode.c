@@ -1,34 +1,13 @@
 /* encode OUT TRIES FILE..: decodes each file, encodes what came out, and compares with what the header promises: the size
  * that is needed, each status, and that the file is decoded to the same. It writes what it encoded of file k to OUT/k.jxl,
- * prints a line for each, and refuses up to TRIES requests for memory of each call, one at a time. It takes the place of
- * heap.c. The buffer for the file ends where a page begins that cannot be touched. */
+ * prints a line for each, and refuses up to TRIES requests for memory of the call with each effort, one at a time. The
+ * buffer for the file ends where a page begins that cannot be touched. */
 #define _DEFAULT_SOURCE
-#include <stdbool.h>
 #include <stdio.h>
-#include <stdlib.h>
 #include <string.h>
-#include <sys/mman.h>
-#include <unistd.h>
+#include "counted.h"
+#include "fence.h"
 #include "jxl_lossless.h"
-
-struct tried { bool ok; unsigned char *at; };
-static unsigned char nothing;
-static long asked, refused, held;
-
-static struct tried tried(void *at) {
-    struct tried it = {at != NULL, at != NULL ? (unsigned char *)at : &nothing};
-    return it;
-}
-struct tried rattle_alloc(size_t size, size_t align) {
-    void *at = ++asked == refused ? NULL : malloc(size != 0 ? size : align);
-    held += at != NULL;
-    return tried(at);
-}
-struct tried rattle_realloc(unsigned char *at, size_t kept, size_t size, size_t align) {
-    (void)kept;
-    return tried(++asked == refused ? NULL : realloc(at, size != 0 ? size : align));
-}
-void rattle_dealloc(unsigned char *at) { held--; free(at); }
 
 /* What a file is decoded to. */
 struct picture {
@@ -62,7 +41,7 @@ static struct picture decoded(const uint8_t *file, size_t size) {
     return it;
 }
 
-static void drop(struct picture *it) { free(it->channels), free(it->samples), free(it->profile); }
+static void drop_picture(struct picture *it) { free(it->channels), free(it->samples), free(it->profile); }
 
 /* Encodes with these counts, instead of those of the picture. */
 static jxl_lossless_status encoded(const struct picture *it, size_t extra, size_t samples, size_t profile, uint32_t effort,
@@ -72,11 +51,10 @@ static jxl_lossless_status encoded(const struct picture *it, size_t extra, size_
 }
 
 /* A call that fails with this status, and changes nothing. */
-static void expect(jxl_lossless_status status, jxl_lossless_status wanted, size_t needed, const uint8_t *file, size_t size) {
-    size_t k;
+static void expect(jxl_lossless_status status, jxl_lossless_status wanted, size_t needed, struct fenced file) {
     if (status != wanted || needed != 7 || memchr(why, 0, sizeof why) == NULL || why[0] == 0) give_up("another status");
-    for (k = 0; k < size; k++)
-        if (file[k] != 0x5a) give_up("a changed buffer");
+    if (!is_clear(file)) give_up("a changed buffer");
+    if (held != 0) give_up("memory held");
 }
 
 static void compare(const struct picture *it, const uint8_t *file, size_t size) {
@@ -86,86 +64,80 @@ static void compare(const struct picture *it, const uint8_t *file, size_t size) 
     if (memcmp(it->channels, other.channels, n * sizeof *it->channels) != 0) give_up("other channels");
     if (memcmp(it->samples, other.samples, (size_t)it->info.samples * 4) != 0) give_up("other samples");
     if (memcmp(it->profile, other.profile, (size_t)it->info.profile) != 0) give_up("another profile");
-    drop(&other);
+    drop_picture(&other);
+}
+
+/* Each cause has its status. */
+static void expect_causes(struct picture *it, size_t extra, size_t samples, size_t profile, struct fenced file) {
+    size_t needed = 7;
+    uint32_t kept;
+    expect(encoded(it, extra + 1, samples, profile, 0, file.at, file.size, &needed), JXL_LOSSLESS_WRONG_COUNT, needed, file);
+    expect(encoded(it, extra, samples - 1, profile, 0, file.at, file.size, &needed), JXL_LOSSLESS_WRONG_COUNT, needed, file);
+    expect(encoded(it, extra, samples, profile + 1, 0, file.at, file.size, &needed), JXL_LOSSLESS_WRONG_COUNT, needed, file);
+    expect(encoded(it, extra, samples, profile, 3, file.at, file.size, &needed), JXL_LOSSLESS_NOT_CODABLE, needed, file);
+    kept = it->info.space, it->info.space = 2;
+    expect(encoded(it, extra, samples, profile, 0, file.at, file.size, &needed), JXL_LOSSLESS_NOT_CODABLE, needed, file);
+    it->info.space = kept, kept = it->info.bits, it->info.bits = 40;
+    expect(encoded(it, extra, samples, profile, 0, file.at, file.size, &needed), JXL_LOSSLESS_NOT_CODABLE, needed, file);
+    it->info.bits = kept, it->info.size = 79;
+    expect(encoded(it, extra, samples, profile, 0, file.at, file.size, &needed), JXL_LOSSLESS_WRONG_STRUCT, needed, file);
+    it->info.size = sizeof it->info;
 }
 
 int main(int count, char **words) {
-    static uint8_t file[1 << 24];
+    static uint8_t bytes[1 << 24];
     char path[4096];
-    long tries = count > 2 ? atol(words[2]) : 0, all = 0;
-    size_t page = (size_t)sysconf(_SC_PAGESIZE);
+    long tries = count > 2 ? atol(words[2]) : 0, all = 0, others = 0;
     int k;
     limits.size = sizeof limits;
     jxl_lossless_usual_limits(&limits);
     for (k = 3; k < count; k++) {
         FILE *in = fopen(words[k], "rb"), *out;
-        size_t size, needed = 7, extra, samples, profile, room, j;
+        size_t size, needed, extra, samples, profile, j;
         struct picture it;
-        uint8_t *pages, *at;
-        uint32_t effort, kept, sum = 0;
-        long n, most;
+        uint32_t effort, sum = 0;
         if (in == NULL) return 2;
-        size = fread(file, 1, sizeof file, in);
+        size = fread(bytes, 1, sizeof bytes, in);
         fclose(in);
-        it = decoded(file, size);
+        it = decoded(bytes, size);
         extra = it.info.extra, samples = (size_t)it.info.samples, profile = (size_t)it.info.profile;
-        /* without room it says how much is needed */
-        if (encoded(&it, extra, samples, profile, 0, NULL, 0, &needed) != JXL_LOSSLESS_NO_ROOM) give_up("no size");
-        room = (needed + page - 1) / page * page;
-        pages = (uint8_t *)mmap(NULL, room + page, PROT_READ | PROT_WRITE, MAP_PRIVATE | MAP_ANONYMOUS, -1, 0);
-        if (pages == MAP_FAILED || mprotect(pages + room, page, PROT_NONE) != 0) return 2;
-        at = pages + room - needed;
-        /* with a byte less than that it fails, and with as much it succeeds */
-        memset(pages, 0x5a, room);
-        size = needed, needed = 7;
-        if (encoded(&it, extra, samples, profile, 0, at + 1, size - 1, &needed) != JXL_LOSSLESS_NO_ROOM || needed != size)
-            give_up("another size");
-        for (j = 0; j < room; j++)
-            if (pages[j] != 0x5a) give_up("a buffer without room was changed");
-        /* each cause has its status */
-        needed = 7;
-        expect(encoded(&it, extra + 1, samples, profile, 0, at, size, &needed), JXL_LOSSLESS_WRONG_COUNT, needed, pages, room);
-        expect(encoded(&it, extra, samples - 1, profile, 0, at, size, &needed), JXL_LOSSLESS_WRONG_COUNT, needed, pages, room);
-        expect(encoded(&it, extra, samples, profile + 1, 0, at, size, &needed), JXL_LOSSLESS_WRONG_COUNT, needed, pages, room);
-        expect(encoded(&it, extra, samples, profile, 3, at, size, &needed), JXL_LOSSLESS_NOT_CODABLE, needed, pages, room);
-        kept = it.info.space, it.info.space = 2;
-        expect(encoded(&it, extra, samples, profile, 0, at, size, &needed), JXL_LOSSLESS_NOT_CODABLE, needed, pages, room);
-        it.info.space = kept, kept = it.info.bits, it.info.bits = 40;
-        expect(encoded(&it, extra, samples, profile, 0, at, size, &needed), JXL_LOSSLESS_NOT_CODABLE, needed, pages, room);
-        it.info.bits = kept, it.info.size = 79;
-        expect(encoded(&it, extra, samples, profile, 0, at, size, &needed), JXL_LOSSLESS_WRONG_STRUCT, needed, pages, room);
-        it.info.size = sizeof it.info;
-        /* requests that are refused */
-        refused = 0, asked = 0;
-        if (encoded(&it, extra, samples, profile, 0, at, size, &needed) != JXL_LOSSLESS_DONE) give_up("encode");
-        most = asked;
-        memset(pages, 0x5a, room);
-        for (n = 1; n <= most; n += most / (tries + 1) + 1) {
-            asked = 0, refused = n, needed = 7;
-            expect(encoded(&it, extra, samples, profile, 0, at, size, &needed), JXL_LOSSLESS_NO_MEMORY, needed, pages, room);
-            if (held != 0) give_up("memory held");
-            all++;
-        }
-        refused = 0;
-        munmap(pages, room + page);
-        /* each effort */
         for (effort = 0; effort <= JXL_LOSSLESS_BEST; effort++) {
-            uint8_t *made = (uint8_t *)malloc(size * 2 + 1000);
-            if (encoded(&it, extra, samples, profile, effort, made, size * 2 + 1000, &needed) != JXL_LOSSLESS_DONE) give_up("effort");
-            if (why[0] != 0 || held != 0) give_up("a message, or memory held");
-            compare(&it, made, needed);
-            for (j = 0; j < needed; j++) sum = sum * 31 + made[j];
+            struct fenced file;
+            long n, most, step;
+            /* without room, and with a byte less than it needs, it says how much that is; with as much it succeeds */
+            if (encoded(&it, extra, samples, profile, effort, NULL, 0, &needed) != JXL_LOSSLESS_NO_ROOM) give_up("no size");
+            size = needed, needed = 7;
+            file = fence(size, 1);
+            if (encoded(&it, extra, samples, profile, effort, file.at + 1, size - 1, &needed) != JXL_LOSSLESS_NO_ROOM || needed != size)
+                give_up("another size");
+            if (!is_clear(file) || held != 0) give_up("a buffer without room was changed");
+            if (effort == 0) expect_causes(&it, extra, samples, profile, file);
+            asked = 0;
+            if (encoded(&it, extra, samples, profile, effort, file.at, size, &needed) != JXL_LOSSLESS_DONE) give_up("effort");
+            if (why[0] != 0 || held != 0 || needed != size) give_up("a message, or memory held");
+            compare(&it, file.at, needed);
+            for (j = 0; j < needed; j++) sum = sum * 31 + file.at[j];
             if (effort == JXL_LOSSLESS_BEST) {
                 snprintf(path, sizeof path, "%s/%d.jxl", words[1], k - 2);
                 out = fopen(path, "wb");
-                if (out == NULL || fwrite(made, 1, needed, out) != needed || fclose(out) != 0) return 2;
+                if (out == NULL || fwrite(file.at, 1, needed, out) != needed || fclose(out) != 0) return 2;
             }
-            free(made);
+            /* requests that are refused */
+            clear(file);
+            most = asked, step = most / (tries + 1) + 1;
+            for (n = 1; tries > 0 && n <= most; n += step) {
+                asked = 0, refused = n, needed = 7;
+                expect(encoded(&it, extra, samples, profile, effort, file.at, size, &needed), JXL_LOSSLESS_NO_MEMORY, needed, file);
+                all++;
+            }
+            others += most - (tries > 0 ? (most + step - 1) / step : 0);
+            refused = 0;
+            drop(file);
         }
         printf("%ux%u %u+%u: %lu bytes, sum %u\n", it.info.width, it.info.height, it.info.colours, it.info.extra,
                (unsigned long)needed, sum);
-        drop(&it);
+        drop_picture(&it);
     }
-    fprintf(stderr, "%d pictures encoded and decoded to the same, %ld requests refused\n", count - 3, all);
+    fprintf(stderr, "%d pictures encoded and decoded to the same, %ld requests refused, %ld not\n", count - 3, all, others);
     return 0;
 }

@@ -1,29 +1,10 @@
 /* refuse FILE..: refuses each request for memory of each call, one at a time, and compares what comes out with what the
- * header promises. It takes the place of heap.c. */
-#include <stdbool.h>
+ * header promises. */
 #include <stdio.h>
 #include <stdlib.h>
 #include <string.h>
+#include "counted.h"
 #include "jxl_lossless.h"
-
-struct tried { bool ok; unsigned char *at; };
-static unsigned char nothing;
-static long asked, refused, held;
-
-static struct tried tried(void *at) {
-    struct tried it = {at != NULL, at != NULL ? (unsigned char *)at : &nothing};
-    return it;
-}
-struct tried rattle_alloc(size_t size, size_t align) {
-    void *at = ++asked == refused ? NULL : malloc(size != 0 ? size : align);
-    held += at != NULL;
-    return tried(at);
-}
-struct tried rattle_realloc(unsigned char *at, size_t kept, size_t size, size_t align) {
-    (void)kept;
-    return tried(++asked == refused ? NULL : realloc(at, size != 0 ? size : align));
-}
-void rattle_dealloc(unsigned char *at) { held--; free(at); }
 
 static uint8_t file[1 << 24];
 static size_t size;

@@ -1,7 +1,6 @@
 //! The channels of a picture, of samples that follow one another.
 
-ghost use Rattle.std.specs.Prelude.{◌≡◌, ◌*◌, ◌^◌, ◌≤◌, IfOk, length};
-ghost use Rattle.jxlm_base.specs.Grid.{grid};
+ghost use Rattle.std.specs.Prelude.{◌≡◌, ◌^◌, ◌≤◌, IfOk, length};
 ghost use Rattle.jxl_image_header.specs.Images.{image_of};
 ghost use Rattle.jxl_picture.specs.Limits.{channel_count as the_channel_count};
 ghost use Rattle.jxl_picture.specs.Pictures.{IsWhole};
@@ -10,28 +9,9 @@ ghost use Rattle.jxl_c_picture.specs.Channels.{sample_count as the_sample_count}
 
 use crate::channels::{cells_in, channel_at, channel_count};
 use jxl_image_header::image::ImageHeader;
+use jxl_text::rows::grid_of;
 use jxlm_base::grid::{AlignedGrid, OutOfMemory};
 use std::alloc::Global;
-
-// A channel with these sides and samples.
-fn grid_of(
-    alloc: Global,
-    width: usize,
-    height: usize,
-    cells: &[i32],
-) -> Result<AlignedGrid<i32>, OutOfMemory>
-    requires { length cells.now ≡ width * height }
-    ensures { IfOk result (λ g. g ≡ grid width height cells.now) }
-{
-    let mut made = AlignedGrid::new(alloc, width, height)?;
-    let mut left = cells;
-    for y in 0..height {
-        let (row, after) = left.split_at(width);
-        made.get_row_mut(y).copy_from_slice(row);
-        left = after;
-    }
-    Ok(made)
-}
 
 /// The channels of an upright picture with this header, of samples that follow one another.
 pub fn grids_of(

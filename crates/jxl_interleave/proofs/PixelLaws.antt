@@ -15,8 +15,9 @@ use Rattle.jxl_picture.proofs.Channels.{have_sides}
 use Rattle.jxl_netpbm.specs.Formats.{can_stand, colour_layers, first_alpha, is_whole, most_of, pam_layers, tuple_count}
 use Rattle.jxl_netpbm.specs.Rasters.{Layer, maximum}
 use Rattle.jxl_netpbm.proofs.LayerLaws.{Cover, alpha_covers, maximum_some, whole_some}
-use Rattle.jxl_interleave.specs.Inner.Layers.{AllHave, CoverAll, CoversIf, Has, layer_of, layers_of, with_own}
-use Rattle.jxl_interleave.specs.declared.pixels.Layer.{Layer as Held}
+use Rattle.jxl_netpbm.specs.Layers.{AllHave, Has, layer_of}
+use Rattle.jxl_netpbm.specs.declared.layers.Layer.{Layer as Held}
+use Rattle.jxl_interleave.specs.Inner.Layers.{CoverAll, CoversIf, layers_of, with_own}
 use Rattle.jxl_interleave.specs.declared.pixels.Layers.{Layers}
 
 both_true : (a b : Bool) → (a && b) ≡ true → (a ≡ true) × (b ≡ true)

@@ -17,8 +17,8 @@ use Rattle.jxl_netpbm.specs.Rasters.{Layer, maximum}
 use Rattle.jxl_netpbm.specs.Formats.{can_stand, first_alpha, is_whole, colour_layers, colours_of, most_of, pam_layers}
 use Rattle.jxl_picture.proofs.Shifts.{full_sides}
 use Rattle.jxl_picture.proofs.Channels.{have_sides}
-use Rattle.jxl_netpbm.specs.Inner.Layers.{AllCover, AllHave, Covers, Has, layer_of, layers_of}
-use Rattle.jxl_netpbm.specs.declared.raster.Layer.{Layer as Held}
+use Rattle.jxl_netpbm.specs.Layers.{AllCover, AllHave, Covers, Has, layer_of, layers_of}
+use Rattle.jxl_netpbm.specs.declared.layers.Layer.{Layer as Held}
 
 pub record Cover (width height : ℕ) (l : Layer) : Type 0 where
   pub wide : width ≤ l.grid.width

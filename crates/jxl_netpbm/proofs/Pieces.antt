@@ -8,8 +8,8 @@ use Rattle.std.proofs.lemmas.List.Folds.{flat_map-map}
 use Rattle.jxlm_base.specs.Grid.{Grid, at, cell, row}
 use Rattle.jxlm_base.proofs.GridLaws.{at_from_cell}
 use Rattle.jxl_netpbm.specs.Rasters.{level, rescaled_sample, number_text, sample_text, pixel_text, pixels_text, float_text}
-use Rattle.jxl_netpbm.specs.Inner.Layers.{layer_of, layers_of}
-use Rattle.jxl_netpbm.specs.declared.raster.Layer.{Layer as Held}
+use Rattle.jxl_netpbm.specs.Layers.{layer_of, layers_of}
+use Rattle.jxl_netpbm.specs.declared.layers.Layer.{Layer as Held}
 use Rattle.jxl_netpbm.proofs.Growing.{below_more, take_piece}
 
 pub float_piece : (channels : List (Grid ℤ)) (i x y : ℕ) (item : Grid ℤ) (v : ℤ) → i < length channels → item ≡ get_or channels i item → cell item x y ≡ Some v →

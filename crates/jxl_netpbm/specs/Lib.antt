@@ -1,4 +1,5 @@
 pub mod Rasters
+pub mod Layers
 pub mod Formats
 pub mod Output
 pub mod Inner

@@ -3,6 +3,7 @@
 
 mod decimals;
 pub mod format;
+pub mod layers;
 pub mod output;
 mod raster;
 mod text;

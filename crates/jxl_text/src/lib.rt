@@ -5,5 +5,5 @@ mod cut;
 mod lines;
 pub mod printing;
 pub mod reading;
-mod rows;
+pub mod rows;
 mod words;

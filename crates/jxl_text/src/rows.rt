@@ -59,7 +59,7 @@ pub(crate) fn read_rows<S: Sample>(
 }
 
 /// The grid of these cells, which are its rows from top to bottom.
-pub(crate) fn grid_of<S: Sample>(
+pub fn grid_of<S: Sample>(
     alloc: Global,
     width: usize,
     height: usize,

@@ -1,17 +1,14 @@
 -- The channels of pixels as the code holds them.
-use Rattle.std.specs.Prelude.{ℕ, ◌<◌, ◌≤◌, ℤ, List, ◌++◌, map, Option, IfSome, option_to_list}
-use Rattle.std.specs.List.{All, flat_map}
+use Rattle.std.specs.Prelude.{ℕ, ◌<◌, ℤ, List, ◌++◌, map, Option, IfSome, option_to_list}
+use Rattle.std.specs.List.{flat_map}
 use Rattle.std.specs.Option.{option_map}
 use Rattle.jxlm_base.specs.Grid.{Grid}
+use Rattle.jxl_netpbm.specs.Layers.{AllHave, Covers, layer_of}
 use Rattle.jxl_netpbm.specs.Rasters.{Layer}
+use Rattle.jxl_netpbm.specs.declared.layers.Layer.{Layer as Held}
 use Rattle.jxl_interleave.specs.Pixels.{sample_bytes}
 use Rattle.jxl_interleave.specs.declared.depth.Depth.{Depth}
-use Rattle.jxl_interleave.specs.declared.pixels.Layer.{Layer as Held}
 use Rattle.jxl_interleave.specs.declared.pixels.Layers.{Layers}
-
--- a channel with its maximum
-abbrev pub layer_of : Held → Layer
-layer_of l = record { grid = l.grid.now; own = l.own }
 
 -- a channel of colours, with the maximum of all of them
 abbrev pub with_own : ℕ → Grid ℤ → Layer
@@ -25,20 +22,7 @@ layers_of l = map (with_own l.own) l.colours.now ++ option_to_list (option_map l
 abbrev pub samples_in : Depth → ℕ → ℕ → ℕ → List (Grid ℤ) → List ℕ
 samples_in depth x y own channels = flat_map (λ g. sample_bytes depth x y (with_own own g)) channels
 
--- each channel has these columns and rows
-pub record Has (width height : ℕ) (g : Grid ℤ) : Type 0 where
-  pub wide : width ≤ g.width
-  pub high : height ≤ g.height
-
-abbrev pub AllHave : ℕ → ℕ → List (Grid ℤ) → Type 0
-AllHave width height channels = All (Has width height) channels
-
--- a channel has these columns and rows, and a maximum above 0
-pub record Covers (width height : ℕ) (l : Held) : Type 0 where
-  pub wide : width ≤ l.grid.now.width
-  pub high : height ≤ l.grid.now.height
-  pub some : 0 < l.own
-
+-- a channel, if there is one, has these columns and rows, and a maximum above 0
 abbrev pub CoversIf : ℕ → ℕ → Option Held → Type 0
 CoversIf width height alpha = IfSome alpha (Covers width height)
 

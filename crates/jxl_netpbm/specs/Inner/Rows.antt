@@ -4,7 +4,7 @@ use Rattle.std.specs.List.{All, flat_map}
 use Rattle.jxlm_base.specs.Grid.{Grid, below, row}
 use Rattle.jxl_text.specs.Printing.{line, row_text as numbers_text}
 use Rattle.jxl_netpbm.specs.Rasters.{float_pixels, pixels_text}
-use Rattle.jxl_netpbm.specs.Inner.Layers.{AllCover, AllHave, layers_of}
+use Rattle.jxl_netpbm.specs.Layers.{AllCover, AllHave, layers_of}
 use Rattle.jxl_netpbm.specs.declared.raster.Raster.{Raster}
 use Rattle.jxl_netpbm.specs.declared.raster.Samples.{Samples}
 use Rattle.jxl_netpbm.specs.declared.raster.Samples.TheVariants.{Numbers, Floats, Decimals}

@@ -1,7 +1,7 @@
 use Rattle.std.proofs.Common.{◌≡◌, map, take, ℤ}
 use Rattle.jxlm_base.specs.Grid.{Grid}
 use Rattle.jxl_netpbm.specs.Rasters.{Layer}
-use Rattle.jxl_netpbm.specs.Inner.Layers.{layers_of}
+use Rattle.jxl_netpbm.specs.Layers.{layers_of}
 use Rattle.jxl_netpbm.proofs.format.colour_layers.Given as goal
 
 abbrev pub invariant-loop-grid : goal.invariant-loop-grid

@@ -2,7 +2,7 @@ use Rattle.std.proofs.Common.{◌≡◌, ◌∙◌, ap, subst, List, sym}
 use Rattle.jxl_image_header.specs.Images.{image_of}
 use Rattle.jxl_netpbm.specs.Formats.{pam_layers}
 use Rattle.jxl_netpbm.specs.Rasters.{Layer}
-use Rattle.jxl_netpbm.specs.Inner.Layers.{layers_of}
+use Rattle.jxl_netpbm.specs.Layers.{layers_of}
 use Rattle.std.specs.List.{All}
 use Rattle.jxl_netpbm.proofs.LayerLaws.{Cover, covers_held, pam_covers}
 use Rattle.jxl_netpbm.proofs.Writing.{begun_none, on_err}

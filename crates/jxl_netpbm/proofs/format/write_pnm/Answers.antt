@@ -6,7 +6,7 @@ use Rattle.jxl_netpbm.specs.Output.{AppendsBeginning}
 use Rattle.jxl_image_header.specs.Images.{Image, image_of}
 use Rattle.jxl_netpbm.specs.Formats.{colour_layers, most_of, pnm_head, pnm_text}
 use Rattle.jxl_netpbm.specs.Rasters.{Layer, raster_text}
-use Rattle.jxl_netpbm.specs.Inner.Layers.{layers_of}
+use Rattle.jxl_netpbm.specs.Layers.{layers_of}
 use Rattle.std.specs.List.{All}
 use Rattle.jxl_netpbm.proofs.LayerLaws.{Cover, colours_cover, covers_held}
 use Rattle.jxl_netpbm.proofs.Writing.{begun_none, on_err}

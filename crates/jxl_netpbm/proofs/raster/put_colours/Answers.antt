@@ -1,10 +1,10 @@
 use Rattle.std.proofs.Common.{◌≡◌, ◌+◌, ◌*◌, ◌<◌, ◌≤◌, ◌++◌, ◌∷◌, [], ℤ, List, pos, get_or, length, ap, sym, subst, ◌∙◌, take, w32, to_z, of_z, arith, rules}
 use Rattle.std.proofs.lemmas.Int.{to_z-of_z}
 use Rattle.std.proofs.lemmas.List.Elements.{All-get_or}
-use Rattle.jxl_netpbm.specs.Inner.Layers.{Covers, layers_of}
+use Rattle.jxl_netpbm.specs.Layers.{Covers, layers_of}
 use Rattle.jxl_netpbm.specs.Inner.Rows.{number_len}
 use Rattle.jxl_netpbm.specs.Rasters.{pixels_text}
-use Rattle.jxl_netpbm.specs.declared.raster.Layer.{Layer}
+use Rattle.jxl_netpbm.specs.declared.layers.Layer.{Layer}
 use Rattle.jxl_netpbm.proofs.Growing.{joined}
 use Rattle.jxl_netpbm.proofs.Pieces.{at_row, colours_piece, number_of, three_joined, three_layers}
 use Rattle.jxl_netpbm.proofs.Writing.{place_next}

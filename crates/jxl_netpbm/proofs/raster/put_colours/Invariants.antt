@@ -1,5 +1,5 @@
 use Rattle.std.proofs.Common.{◌≡◌, ◌+◌, ◌*◌, ◌++◌, take}
-use Rattle.jxl_netpbm.specs.Inner.Layers.{layers_of}
+use Rattle.jxl_netpbm.specs.Layers.{layers_of}
 use Rattle.jxl_netpbm.specs.Inner.Rows.{number_len}
 use Rattle.jxl_netpbm.specs.Rasters.{pixels_text}
 use Rattle.jxl_netpbm.proofs.raster.put_colours.Given as goal

@@ -1,5 +1,5 @@
 use Rattle.std.proofs.Common.{◌*◌, length}
-use Rattle.jxl_netpbm.specs.Inner.Layers.{layers_of}
+use Rattle.jxl_netpbm.specs.Layers.{layers_of}
 use Rattle.jxl_netpbm.specs.Inner.Rows.{number_len}
 use Rattle.jxl_netpbm.specs.Rasters.{pixel_text}
 use Rattle.jxl_netpbm.proofs.Growing.{below_more, joined}

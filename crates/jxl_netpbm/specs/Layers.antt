@@ -3,7 +3,7 @@ use Rattle.std.specs.Prelude.{ℕ, ◌<◌, ◌≤◌, ℤ, List, map}
 use Rattle.std.specs.List.{All}
 use Rattle.jxlm_base.specs.Grid.{Grid}
 use Rattle.jxl_netpbm.specs.Rasters.{Layer}
-use Rattle.jxl_netpbm.specs.declared.raster.Layer.{Layer as Held}
+use Rattle.jxl_netpbm.specs.declared.layers.Layer.{Layer as Held}
 
 abbrev pub layer_of : Held → Layer
 layer_of l = record { grid = l.grid.now; own = l.own }
