@@ -114,6 +114,7 @@ int main(int count, char **words) {
             if (effort == 0) expect_causes(&it, extra, samples, profile, file);
             asked = 0;
             if (encoded(&it, extra, samples, profile, effort, file.at, size, &needed) != JXL_LOSSLESS_DONE) give_up("effort");
+            most = asked, step = most / (tries + 1) + 1;
             if (why[0] != 0 || held != 0 || needed != size) give_up("a message, or memory held");
             compare(&it, file.at, needed);
             for (j = 0; j < needed; j++) sum = sum * 31 + file.at[j];
@@ -124,7 +125,6 @@ int main(int count, char **words) {
             }
             /* requests that are refused */
             clear(file);
-            most = asked, step = most / (tries + 1) + 1;
             for (n = 1; tries > 0 && n <= most; n += step) {
                 asked = 0, refused = n, needed = 7;
                 expect(encoded(&it, extra, samples, profile, effort, file.at, size, &needed), JXL_LOSSLESS_NO_MEMORY, needed, file);
@@ -135,7 +135,7 @@ int main(int count, char **words) {
             drop(file);
         }
         printf("%ux%u %u+%u: %lu bytes, sum %u\n", it.info.width, it.info.height, it.info.colours, it.info.extra,
-               (unsigned long)needed, sum);
+               (unsigned long)size, sum);
         drop_picture(&it);
     }
     fprintf(stderr, "%d pictures encoded and decoded to the same, %ld requests refused, %ld not\n", count - 3, all, others);

@@ -1,7 +1,7 @@
 //! How large a picture may be, as a caller says it.
 
 ghost use Rattle.std.specs.Prelude.{◌≡◌, ◌<◌, ◌≤◌, ◌^◌};
-ghost use Rattle.jxl_c.specs.Kinds.{is_older_limits, is_small_limits, limits_of};
+ghost use Rattle.jxl_c.specs.Kinds.{codewords_in, is_older_limits, is_small_limits, limits_of};
 
 use crate::status::{DONE, WRONG_STRUCT};
 use jxl_lossless::Limits;
@@ -36,11 +36,10 @@ const FIRST_SIZE: u64 = 40;
 /// The limit on codewords where the struct has none.
 const USUAL_CODEWORDS: u64 = 1 << 26;
 
-// Limits on bytes, and the default one on codewords; of the others nothing is allowed.
+// Limits on bytes alone.
 fn with_bytes(bytes: u64) -> Limits
     ensures bytes { result.bytes ≡ bytes }
     ensures small { result.bytes < 2 ^ 64 }
-    ensures codewords { result.codewords ≡ 2 ^ 26 }
 {
     Limits {
         pixels: 0,
@@ -48,7 +47,7 @@ fn with_bytes(bytes: u64) -> Limits
         bytes,
         profile: 0,
         decisions: 0,
-        codewords: USUAL_CODEWORDS,
+        codewords: 0,
     }
 }
 
@@ -67,6 +66,17 @@ impl CLimits {
         self.size < LIMITS_SIZE
     }
 
+    /// The limit on codewords: the default, if the struct does not have it.
+    fn most_codewords(&self) -> u64
+        ensures { result ≡ codewords_in self.now }
+    {
+        if self.is_older() {
+            USUAL_CODEWORDS
+        } else {
+            self.codewords
+        }
+    }
+
     /// These limits.
     pub fn limits(&self) -> Limits
         ensures are { result ≡ limits_of self.now }
@@ -77,10 +87,7 @@ impl CLimits {
         limits.channels = self.channels;
         limits.profile = self.profile;
         limits.decisions = self.decisions;
-        if self.is_older() {
-            return limits;
-        }
-        limits.codewords = self.codewords;
+        limits.codewords = self.most_codewords();
         limits
     }
 }
