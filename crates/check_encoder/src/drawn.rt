@@ -1,8 +1,9 @@
-//! Netpbm files that are drawn: `KIND WIDTHxHEIGHT BITS NOISE SEED`.
+//! Netpbm files that are drawn: `KIND WIDTHxHEIGHT BITS NOISE SEED`, and perhaps ` PLAIN`.
 //!
 //! The kind is `grey`, `rgb`, `grey_alpha` or `rgb_alpha`, or `grey_float` or `rgb_float` with 32 bits. In the order of the
 //! file, the sample of channel k in column x of a row y steps the state, from the seed on, to 1664525 times the state plus
 //! 1013904223, modulo 2^32. It is 5x + 3y + 7k, plus the top NOISE bits of the state, modulo 2^BITS; of floats the bits.
+//! In the first PLAIN columns, none without the word, it is 5x + 3y + 7k modulo 4 instead.
 
 use check_rows::{number, numbers, word};
 use std::alloc::Global;
@@ -16,6 +17,16 @@ struct Drawn<'t> {
     bits: u32,
     noise: u32,
     seed: u32,
+    plain: u32,
+}
+
+/// The number of columns without noise and with four values, which a row may leave out.
+fn plain_columns(text: &str) -> Option<u32> {
+    if text.is_empty() {
+        Some(0)
+    } else {
+        number(text)
+    }
 }
 
 /// What a row asks for; the noise has at most as many bits as a sample.
@@ -23,7 +34,8 @@ fn asked(text: &str) -> Option<Drawn<'_>> {
     let (kind, rest) = word(text);
     let (sides, rest) = word(rest);
     let (bits, rest) = word(rest);
-    let (noise, seed) = word(rest);
+    let (noise, rest) = word(rest);
+    let (seed, plain) = word(rest);
     let (width, height) = numbers(sides, 'x')?;
     Some(Drawn {
         kind,
@@ -32,6 +44,7 @@ fn asked(text: &str) -> Option<Drawn<'_>> {
         bits: number(bits)?,
         noise: number(noise)?,
         seed: number(seed)?,
+        plain: plain_columns(plain)?,
     })
 }
 
@@ -92,6 +105,7 @@ fn pam_header(alloc: Global, drawn: &Drawn<'_>, channels: u32, maximum: u32) -> 
 struct State {
     state: u32,
     noise: u32,
+    plain: u32,
 }
 
 impl State {
@@ -103,10 +117,12 @@ impl State {
             .wrapping_add(1_013_904_223);
         let noise = (u64::from(self.state) << self.noise.min(32)) >> 32;
         let (across, down) = (x.wrapping_mul(5), y.wrapping_mul(3));
-        across
-            .wrapping_add(down)
-            .wrapping_add(k.wrapping_mul(7))
-            .wrapping_add(noise as u32)
+        let sum = across.wrapping_add(down).wrapping_add(k.wrapping_mul(7));
+        if x < self.plain {
+            sum % 4
+        } else {
+            sum.wrapping_add(noise as u32)
+        }
     }
 }
 
@@ -146,6 +162,7 @@ pub fn draw(alloc: Global, text: &str) -> Option<Vec<u8>> {
     let mut state = State {
         state: drawn.seed,
         noise: drawn.noise,
+        plain: drawn.plain,
     };
     for y in 0..drawn.height {
         add_row(&mut file, &drawn, &mut state, channels, y)?;
