@@ -122,14 +122,14 @@ test_memory() {
     "$folder/refuse" $(ls "$folder"/*.jxl | head -5) || fail "refuse ended with status $?"
 }
 
-# Each picture is encoded, and decoded to the same; djxl decodes it to the pixels of the file that it is of. Of small
-# pictures each request for memory is refused, of others some.
+# Each picture is encoded, and decoded to the same; djxl decodes it to the pixels of the file that it is of. Some of
+# the requests for memory are refused: of small pictures EACH for each effort.
 test_encode() {
     mkdir -p "$folder/encoded" "$folder/small/encoded"
     draw 6 "$folder/small"
     $CC -std=c99 $flags -Iinclude c/tests/encode.c "$out/libjxl_c.a" -o "$folder/encode"
     "$folder/encode" "$folder/encoded" "${TRIES:-20}" "$folder"/*.jxl > "$folder/encode.said" || fail "$(tail -1 "$folder/encode.said")"
-    [ ! -f "$folder/small/narrow_ppm.jxl" ] || "$folder/encode" "$folder/small/encoded" 1000000 "$folder"/small/*.jxl > "$folder/small.said" ||
+    [ ! -f "$folder/small/narrow_ppm.jxl" ] || "$folder/encode" "$folder/small/encoded" "${EACH:-100}" "$folder"/small/*.jxl > "$folder/small.said" ||
         fail "$(tail -1 "$folder/small.said")"
     k=0 same=0
     for file in "$folder"/*.jxl; do

@@ -265,7 +265,7 @@ expect 0 - ball.jxl --max-pixels 2048 --max-bytes 8192
 expect 1 'jxldec: chain.jxl: global tree: more decisions than the limit' chain.jxl --max-decisions 0
 expect 0 - chain.jxl --max-decisions 1
 expect 1 'jxldec: own.jxl: codes of sections: more codewords than the limit' own.jxl --max-codewords 0
-expect 0 - own.jxl --max-codewords 1000
+expect 0 - own.jxl --max-codewords 1
 expect 1 'jxldec: own.jxl: codes of sections: more codewords than the limit' own.jxl --max-codewords 0 --max-decisions 0
 expect 1 'jxldec: own.jxl: tree of a section: more decisions than the limit' own.jxl --max-decisions 0
 expect 0 - --help
