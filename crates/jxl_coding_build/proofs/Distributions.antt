@@ -1,25 +1,23 @@
 -- Distributions that a head can signal.
-use Rattle.std.proofs.Common.{◌≡◌, ℕ, zero, suc, ◌+◌, ◌-◌, ◌*◌, ◌^◌, ◌<◌, ◌≤◌, List, [], ◌∷◌, length, get_or, replicate, Bool, true, false, cond, Option, Some, None, refl, sym, ap, subst, ◌∙◌, inl, inr, arith}
+use Rattle.std.proofs.Common.{◌≡◌, ℕ, zero, suc, ◌+◌, ◌-◌, ◌<◌, ◌≤◌, ◌⊎◌, List, [], ◌∷◌, length, get_or, replicate, Bool, true, false, cond, Option, Some, None, refl, sym, ap, subst, ◌∙◌, inl, inr, arith}
 use Rattle.std.specs.Prelude.{◌==◌, slice_index, slice_set}
 use Rattle.std.specs.List.{All, sum}
 use Rattle.std.proofs.lemmas.Bool.{true≢false, cases_lt, eq-eqb}
-use Rattle.std.proofs.lemmas.Nat.{pow_pos}
 use Rattle.std.proofs.lemmas.List.{get_or_past}
 use Rattle.std.proofs.lemmas.List.Sums.{get_or-le-sum_by}
-use Rattle.std.proofs.Math.Nat.{pow-le-pow_right, mul-le-mul_left}
 use Rattle.jxl_coding_codes.specs.Alias.{only_from}
 use Rattle.jxl_coding_codes.specs.Distributions.{whole, one_symbol}
-use Rattle.jxl_coding_codes.specs.IntegerConfigs.{IsConfig}
 use Rattle.jxl_coding_codes.specs.declared.config.IntegerConfig.{IntegerConfig}
-use Rattle.jxl_coding_write.specs.HybridIntegers.{symbol_count}
 use Rattle.jxl_coding_stream_write.specs.Heads.{FitsConfig, FitsCounts, FitsCluster}
 use Rattle.jxl_coding_stream_write.specs.declared.cluster.ClusterWriter.{ClusterWriter}
 use Rattle.jxl_coding_stream_write.proofs.OnlySymbols.{only_is}
 
 -- an only symbol
 
-pub below_count : (s c : ℕ) → s < c → c ≤ 256 → s + 1 ≤ 256
-below_count s c lt few = omega (arith, lt, few)
+-- a symbol below 256, since those of all numbers are, or since this one is where the clusters are the same
+pub below_count : (s n v : ℕ) (Same : Type 0) → s < n → s ≡ v → (n ≤ 256) ⊎ (Same → v < 256) → Same → s + 1 ≤ 256
+below_count s n v Same few is (inl most) same = omega (arith, few, most)
+below_count s n v Same few is (inr lt) same = let l = lt same in omega (arith, is, l)
 
 pub only_small : (o : Option ℕ) (counts : List ℕ) (symbol : ℕ) → o ≡ only_from 0 counts → o ≡ Some symbol → length counts ≤ 256 → symbol < 256
 only_small o counts symbol is some few =
@@ -85,24 +83,9 @@ many_fit o counts is none many total = subst (λ (x : Option ℕ). FitsCounts x 
 
 -- a configuration
 
-few_bits : (s c a b : ℕ) → 2 ^ 8 ≤ a → 1 ≤ b → c ≡ a + b → c ≤ 256 → s < 8
-few_bits s c a b large some e few = absurd (omega (arith, large, some, e, few))
-
-fits_config : (h : IntegerConfig) → IsConfig h → symbol_count h ≤ 256 → h.split_exponent < 8
-fits_config h valid few =
-    elim (cases_lt h.split_exponent 8) [
-      | inl lt ↦ lt
-      | inr ge ↦
-          let x = valid.0 in
-          let up : 2 ^ 8 ≤ 2 ^ h.split_exponent = pow-le-pow_right {n = 2} (omega arith) ge in
-          let m : (32 - h.split_exponent) * 1 ≤ (32 - h.split_exponent) * 2 ^ (h.msb_in_token + h.lsb_in_token) = mul-le-mul_left (32 - h.split_exponent) (pow_pos (h.msb_in_token + h.lsb_in_token)) in
-          few_bits h.split_exponent (symbol_count h) (2 ^ h.split_exponent) ((32 - h.split_exponent) * 2 ^ (h.msb_in_token + h.lsb_in_token)) up (omega (arith, m, x)) refl few
-    ]
-
-pub code_fits : (code : ClusterWriter) (config : IntegerConfig) (counts : List ℕ) → code.config ≡ config → code.slots.counts.items ≡ counts → IsConfig config → symbol_count config ≤ 256 →
+pub code_fits : (code : ClusterWriter) (config : IntegerConfig) (counts : List ℕ) → code.config ≡ config → code.slots.counts.items ≡ counts → config.split_exponent < 8 →
     FitsCounts (only_from 0 counts) counts → FitsCluster 8 code
-code_fits code config counts e f valid few fits =
-    let lt : config.split_exponent < 8 = fits_config config valid few in
+code_fits code config counts e f lt fits =
     record {
       rule = subst (λ (h : IntegerConfig). FitsConfig 8 h) (sym e) (omega (arith, lt), λ same. absurd (omega (arith, lt, same)));
       counts =

@@ -1,13 +1,13 @@
 //! The code of a cluster, made for its tokens.
 
-ghost use Rattle.std.specs.Prelude.{◌≡◌, ℕ, ◌+◌, ◌<◌, ◌≤◌, ◌^◌, length, slice_index, sum, IfOk};
+ghost use Rattle.std.specs.Prelude.{◌≡◌, ℕ, ◌+◌, ◌<◌, ◌≤◌, ◌^◌, ◌⊎◌, length, slice_index, sum, IfOk};
 ghost use Rattle.std.specs.List.{All};
 ghost use Rattle.jxl_coding_codes.specs.IntegerConfigs.{IsConfig};
 ghost use Rattle.jxl_coding_codes.specs.Alias.{only_from};
 ghost use Rattle.jxl_coding_codes.specs.Distributions.{one_symbol as the_one_symbol};
 ghost use Rattle.jxl_coding_write.specs.HybridIntegers.{symbol_of, symbol_count};
 ghost use Rattle.jxl_coding_stream_write.specs.Heads.{FitsCounts, FitsCluster};
-ghost use Rattle.jxl_coding_build.specs.Histograms.{AllOccur};
+ghost use Rattle.jxl_coding_build.specs.Histograms.{AllOccur, HasSymbol, HaveSymbols};
 
 use crate::normalise::{normalise, total_of};
 use jxl_coding_codes::alias::only;
@@ -50,6 +50,7 @@ fn add_one(counts: &mut Vec<u32>, symbol: usize)
 }
 
 /// Counts a token, if it is of the cluster.
+#[inline(always)]
 fn count_token(
     counts: &mut Vec<u32>,
     config: &IntegerConfig,
@@ -57,7 +58,7 @@ fn count_token(
     token: Token,
 ) -> Result<(), AllocError>
     requires config { IsConfig config.now }
-    requires symbols { symbol_count config.now ≤ 256 }
+    requires symbols { (symbol_count config.now ≤ 256) ⊎ HasSymbol config.now cluster token }
     requires few { length counts.old.items ≤ 256 }
     requires fits { sum counts.old.items + 1 < 2 ^ 32 }
     ensures few { IfOk result (λ _. length counts.new.items ≤ 256) }
@@ -85,7 +86,7 @@ fn counts_of(
     tokens: &[Token],
 ) -> Result<Vec<u32>, AllocError>
     requires config { IsConfig config.now }
-    requires symbols { symbol_count config.now ≤ 256 }
+    requires symbols { HaveSymbols config.now cluster tokens.now }
     requires fits { length tokens.now < 2 ^ 31 }
     ensures few { IfOk result (λ v. length v.items ≤ 256) }
     ensures some { IfOk result (λ v. 3 ≤ length v.items) }
@@ -160,7 +161,8 @@ pub fn cluster_for(
     tokens: &[Token],
 ) -> Result<ClusterWriter, AllocError>
     requires config { IsConfig config }
-    requires symbols { symbol_count config ≤ 256 }
+    requires split { config.split_exponent < 8 }
+    requires symbols { HaveSymbols config cluster tokens.now }
     requires fits { length tokens.now < 2 ^ 31 }
     ensures config { IfOk result (λ c. c.config ≡ config) }
     ensures log { IfOk result (λ c. c.slots.log ≡ 8) }

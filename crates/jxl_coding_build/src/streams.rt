@@ -10,22 +10,14 @@ ghost use Rattle.jxl_coding_stream_write.specs.Heads.{IsHead, map_token};
 ghost use Rattle.jxl_coding_stream_write.specs.Streams.{IsStream};
 ghost use Rattle.jxl_coding_stream_write.specs.Tokens.{HasSlot};
 
+use crate::configs::{Values, config_for};
 use crate::histogram::cluster_for;
-use jxl_coding_codes::config::IntegerConfig;
 use jxl_coding_stream_write::cluster::ClusterWriter;
 use jxl_coding_stream_write::head::{are_below, map_tokens, write_head, write_mapped_head};
 use jxl_coding_stream_write::stream::StreamWriter;
 use jxlm_bit_writer::token::Token;
 use jxlm_bit_writer::writer::BitWriter;
 use std::alloc::{AllocError, Global};
-
-/// The configuration of tokens: a token below 16 is its own symbol; another has its leading one and the two bits
-/// below it in the symbol. All symbols are below 128.
-const CONFIG: IntegerConfig = IntegerConfig {
-    split_exponent: 4,
-    msb_in_token: 2,
-    lsb_in_token: 0,
-};
 
 /// Adds a code.
 fn push_code(codes: &mut Vec<ClusterWriter>, code: ClusterWriter) -> Result<(), AllocError>
@@ -56,8 +48,10 @@ pub fn writer_for(
     ensures slots { IfOk result (λ w. All (HasSlot w.codes.items) tokens.now) }
 {
     let mut codes: Vec<ClusterWriter> = Vec::new(alloc);
+    let mut values = Values::of(alloc, many, tokens)?;
     for cluster in 0..many {
-        let code = cluster_for(alloc, CONFIG, cluster as u8, tokens)?;
+        let config = config_for(&mut values, cluster as u8, tokens);
+        let code = cluster_for(alloc, config, cluster as u8, tokens)?;
         push_code(&mut codes, code)?;
     }
     Ok(StreamWriter {

@@ -3,4 +3,4 @@ use Rattle.jxl_coding_build.proofs.histogram.cluster_for.Goals as goal
 
 pub returns-clause-head : goal.returns-clause-head
 returns-clause-head c =
-    code_fits c.in_ok-code.code c.args.config c.in_ok-shares.shares.items c.in_ok-code.ensures.config c.in_ok-code.ensures.counts c.requires.config c.requires.symbols c.in_ok-shares.ensures.head
+    code_fits c.in_ok-code.code c.args.config c.in_ok-shares.shares.items c.in_ok-code.ensures.config c.in_ok-code.ensures.counts c.requires.split c.in_ok-shares.ensures.head
