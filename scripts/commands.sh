@@ -158,6 +158,24 @@ expect 0 - spot.jxl -q
 expect 0 - spot.jxl --format text
 expect 0 - spot.jxl --info
 
+# What no chunk of a PNG file says: a frame of cjxl after headers with PQ and white E, perceptual; with a negative coordinate;
+# with other coordinates; with P3, perceptual; and with colours that are multiplied by alpha.
+printf '\377\012\010\100\020\040\106\207\010\002\001\000\114\000\113\022\305\202\205\044\216\021\167\123\167\201\016\100\332\317\055\003\000' > pq.jxl
+printf '\377\012\010\100\020\040\004\022\235\030\234\044\210\275\146\241\142\000\000\000\010\110\350\040\003\200\307\054\321\042\010\002\001\000\114\000\113\022\305\202\205\044\216\021\167\123\167\201\016\100\332\317\055\003\000' > neg.jxl
+printf '\377\012\010\100\020\040\004\022\235\030\234\044\010\045\134\101\304\003\210\204\012\106\225\000\240\017\340\253\320\042\010\002\001\000\114\000\113\022\305\202\205\044\216\021\167\123\167\201\016\100\332\317\055\003\000' > custom.jxl
+printf '\377\012\010\100\020\220\311\205\010\002\001\000\114\000\113\022\305\202\205\044\216\021\167\123\167\201\016\100\332\317\055\003\000' > p3.jxl
+printf '\377\012\000\160\060\000\202\342\102\010\010\020\000\070\000\113\022\305\202\205\044\016\032\220\346\001\170\103\001' > mult.jxl
+expect 0 'jxldec: pq.jxl: transfer function left out
+jxldec: pq.jxl: rendering intent left out' pq.jxl -o pq.png
+begins pq.png "$(printf '\211PNG')"
+expect 0 'jxldec: neg.jxl: negative coordinates of colours left out' neg.jxl -o neg.png
+expect 0 - custom.jxl -o custom.png
+expect 0 'jxldec: p3.jxl: rendering intent left out' p3.jxl -o p3.png
+expect 0 'jxldec: mult.jxl: colours stay multiplied by alpha' mult.jxl -o mult.png
+expect 0 - pq.jxl -q -o pq.png
+expect 0 - pq.jxl -o pq.ppm
+expect 0 - pq.jxl --info
+
 # Boxes after the codestream that have an error: the picture, and a warning. One before it is an error.
 boxed() {
     printf '\0\0\0\014JXL \r\n\207\n\0\0\0\024ftypjxl \0\0\0\0jxl '
@@ -188,6 +206,27 @@ for name in cut twice jbrd; do
 done
 expect 1 'jxldec: first.jxl: not supported: a JPEG file to be rebuilt' first.jxl -o first.ppm
 absent first.ppm
+
+# Exif data after the codestream that say an orientation: in a PNG file, whose picture is upright, it is 1; --exif gives the data of
+# the file. Data without a TIFF header are kept. The chunk eXIf comes after the header and sRGB, so its data begin at byte 54.
+printf 'II\052\000\010\000\000\000\001\000\022\001\003\000\001\000\000\000\010\000\000\000\000\000\000\000' > turn.exif
+printf 'II\052\000\010\000\000\000\001\000\022\001\003\000\001\000\000\000\001\000\000\000\000\000\000\000' > upright.exif
+printf 'IM\052\000\010\000\000\000\001\000\022\001\003\000\001\000\000\000\010\000\000\000\000\000\000\000' > other.exif
+for name in turn upright other; do
+    { boxed; whole; printf '\0\0\0\046Exif\0\0\0\0'; cat $name.exif; } > $name.jxl
+    case $name in
+        other) written=other.exif ;;
+        *) written=upright.exif ;;
+    esac
+    expect 0 - $name.jxl -o $name.png --exif out.exif
+    { printf eXIf; cat $written; } > chunk
+    tail -c +51 $name.png | head -c 30 | cmp -s - chunk
+    judge $? "the Exif data of $name.png are not those of $written"
+    cmp -s $name.exif out.exif
+    judge $? "--exif gives other data than those of $name.jxl"
+    "$program" $name.jxl -o $name.ppm && cmp -s $name.ppm whole.ppm
+    judge $? "the picture of $name.jxl is another one"
+done
 
 # The profile, the Exif data and the XMP data: each in a file of its own, with the picture or without it.
 { boxed; printf '\0\0\0\021Exif\0\0\0\0II*\0\0'; whole; printf '\0\0\0\014xml <x/>'; } > data.jxl

@@ -29,7 +29,8 @@ use Rattle.jxl_picture.specs.declared.limits.Limits.{Limits}
 use Rattle.jxl_picture.specs.declared.picture.Picture.{Picture}
 use Rattle.jxl_png_write.specs.Headers.{alpha_of, alpha_suits, is_side, is_whole, suits_png}
 use Rattle.jxldec.specs.Contents.{content_text}
-use Rattle.jxldec.specs.Formats.{IsWrittenAs, chosen, is_profile_left_out, suits_output}
+use Rattle.jxldec.specs.Formats.{IsWrittenAs, chosen, suits_output}
+use Rattle.jxldec.specs.Losses.{loss_in}
 use Rattle.jxldec.specs.Texts.{HasNoFormat, IsAboveLimits, IsTextOfFile}
 use Rattle.jxldec.specs.Warnings.{kinds_left_out}
 use Rattle.jxldec.specs.declared.failures.Failure.{Failure}
@@ -120,9 +121,9 @@ pub text_of_file : (limits : Limits) (file : List ℕ) (asked : Option OutputFor
     IsPictureOfFile limits file picture 0 steps → HasExif file exif → HasXmp file xmp → chosen asked (image_of picture.header) ≡ Some format → (result : Result Output Failure) →
     IfOk result (λ o. IsWrittenAs format (image_of picture.header) picture.channels.items (bytes_if picture.profile) exif xmp (content_text o.content)) →
     IfOk result (λ o. string_bytes o.left_out.channels ≡ kinds_left_out format (image_of picture.header).ec_info) →
-    IfOk result (λ o. o.left_out.profile ≡ is_profile_left_out format (image_of picture.header)) →
-    IfOk result (λ o. IsTextOfFile limits file asked (content_text o.content) (string_bytes o.left_out.channels) o.left_out.profile)
-text_of_file limits file asked picture steps format exif xmp is has_exif has_xmp suited (Ok o) written without plain = record {
+    IfOk result (λ o. o.left_out.loss ≡ loss_in format (image_of picture.header)) →
+    IfOk result (λ o. IsTextOfFile limits file asked (content_text o.content) (string_bytes o.left_out.channels) o.left_out.loss)
+text_of_file limits file asked picture steps format exif xmp is has_exif has_xmp suited (Ok o) written without meant = record {
   picture = picture;
   steps = steps;
   is = is;
@@ -134,9 +135,9 @@ text_of_file limits file asked picture steps format exif xmp is has_exif has_xmp
   suited = suited;
   written = written;
   without = without;
-  plain = plain;
+  meant = meant;
 }
-text_of_file limits file asked picture steps format exif xmp is has_exif has_xmp suited (Err e) written without plain = tt
+text_of_file limits file asked picture steps format exif xmp is has_exif has_xmp suited (Err e) written without meant = tt
 
 -- what is left out has the error of the boxes after the codestream
 pub later_kept : (limits : Limits) (file : List ℕ) (read : JxlFile) → IsReadOf limits file read → (error : Option BoxError) → error ≡ later_error_of read → (result : Result Output Failure) →

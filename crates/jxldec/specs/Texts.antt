@@ -1,5 +1,5 @@
 -- What the program writes of a file: its picture, or what its headers tell.
-use Rattle.std.specs.Prelude.{◌≡◌, ℕ, List, [], length, Bool, true, false, not, ◌&&◌, MatchBool, Option, Some, None, if◌then◌else◌}
+use Rattle.std.specs.Prelude.{◌≡◌, ℕ, List, [], length, Bool, true, false, MatchBool, Option, Some, None, if◌then◌else◌}
 use Rattle.std.specs.Io.KnownBytes.{Appends, Consumes, IsAtEnd}
 use Rattle.jxl_codestream.specs.FrontParts.{bytes_if}
 use Rattle.jxl_coding.specs.Parse.{decoder_at}
@@ -19,18 +19,21 @@ use Rattle.jxl_lossless.specs.Pictures.{FileFails, IsPictureOfFile, ProfileOfFil
 use Rattle.jxl_codestream.specs.declared.error.FrontError.TheVariants as fronts
 use Rattle.jxl_image_header.specs.declared.size.Size.{Size}
 use Rattle.jxldec.specs.Failures.{failure_line, is_of_output, subject}
-use Rattle.jxldec.specs.Formats.{IsWrittenAs, chosen, is_profile_left_out}
+use Rattle.jxldec.specs.Formats.{IsWrittenAs, chosen}
+use Rattle.jxldec.specs.Losses.{has_loss, loss_in, unless_saved}
 use Rattle.jxldec.specs.Warnings.{kinds_left_out, warnings}
 use Rattle.jxldec.specs.declared.failures.Failure.{Failure}
 use Rattle.jxldec.specs.declared.failures.Failure.TheVariants as failures
 use Rattle.jxldec.specs.declared.format.OutputFormat.{OutputFormat}
+use Rattle.jxldec.specs.declared.loss.Loss.{Loss}
+use Rattle.jxldec.specs.declared.loss.Loss.TheVariants.{Nothing}
 use Rattle.jxldec.specs.declared.options.Options.{Options}
 use Rattle.jxldec.specs.declared.options.Task.{Task}
 use Rattle.jxldec.specs.declared.options.Task.TheVariants as tasks
 
 -- The text is the picture of the file in a format, in PNG with its profile, Exif and XMP data; of its channels these kinds are left out, and
--- perhaps its profile.
-pub record IsTextOfFile (limits : Limits) (file : List ℕ) (asked : Option OutputFormat) (text others : List ℕ) (profile : Bool) : Type 0 where
+-- of its meaning this.
+pub record IsTextOfFile (limits : Limits) (file : List ℕ) (asked : Option OutputFormat) (text others : List ℕ) (loss : Loss) : Type 0 where
   pub picture : Picture
   pub steps : ℕ
   pub is : IsPictureOfFile limits file picture 0 steps
@@ -42,7 +45,7 @@ pub record IsTextOfFile (limits : Limits) (file : List ℕ) (asked : Option Outp
   pub suited : chosen asked (image_of picture.header) ≡ Some format
   pub written : IsWrittenAs format (image_of picture.header) picture.channels.items (bytes_if picture.profile) exif xmp text
   pub without : others ≡ kinds_left_out format (image_of picture.header).ec_info
-  pub plain : profile ≡ is_profile_left_out format (image_of picture.header)
+  pub meant : loss ≡ loss_in format (image_of picture.header)
 
 -- The headers of the file are supported, of a picture that is not written in the format that is asked for, or in any.
 pub record HasNoFormat (limits : Limits) (file : List ℕ) (asked : Option OutputFormat) : Type 0 where
@@ -82,14 +85,14 @@ InfoFails limits file failures.OutOfMemory = Unit {0}
 InfoFails limits file failure = ⊥
 
 -- what the headers of a file tell, of which nothing is left out
-abbrev pub IsInfo : Limits → List ℕ → List ℕ → List ℕ → Bool → Type 0
-IsInfo limits file text others profile = IsInfoOfFile (entropy decoder_at) limits file text × (others ≡ []) × (profile ≡ false)
+abbrev pub IsInfo : Limits → List ℕ → List ℕ → List ℕ → Loss → Type 0
+IsInfo limits file text others loss = IsInfoOfFile (entropy decoder_at) limits file text × (others ≡ []) × (loss ≡ Nothing)
 
 -- what is asked of a file for the output: what its headers tell, its picture, or nothing
-abbrev pub IsAsked : Task → Limits → Option OutputFormat → List ℕ → List ℕ → List ℕ → Bool → Type 0
-IsAsked tasks.Headers limits asked file text others profile = IsInfo limits file text others profile
-IsAsked tasks.Picture limits asked file text others profile = IsTextOfFile limits file asked text others profile
-IsAsked tasks.Nothing limits asked file text others profile = (text ≡ []) × (others ≡ []) × (profile ≡ false)
+abbrev pub IsAsked : Task → Limits → Option OutputFormat → List ℕ → List ℕ → List ℕ → Loss → Type 0
+IsAsked tasks.Headers limits asked file text others loss = IsInfo limits file text others loss
+IsAsked tasks.Picture limits asked file text others loss = IsTextOfFile limits file asked text others loss
+IsAsked tasks.Nothing limits asked file text others loss = (text ≡ []) × (others ≡ []) × (loss ≡ Nothing)
 
 -- why what is asked of a file is not made
 abbrev pub AskedFails : Task → Limits → Option OutputFormat → List ℕ → Failure → Type 0
@@ -100,8 +103,8 @@ AskedFails task limits asked file failure = InfoFails limits file failure
 pub record IsBegun (task : Task) (limits : Limits) (asked : Option OutputFormat) (held holds : Option (List ℕ)) (file : List ℕ) : Type 0 where
   pub text : List ℕ
   pub others : List ℕ
-  pub profile : Bool
-  pub is : IsAsked task limits asked file text others profile
+  pub loss : Loss
+  pub is : IsAsked task limits asked file text others loss
   pub begun : AppendsBeginning held holds text
 
 -- what each failure says of the input, from left to rest, and of the output, which held `held`: the input was read to its
@@ -116,12 +119,12 @@ InputFails task limits asked left rest held holds failure = IsReadWhole left res
 
 -- The input was read to its end, from left to rest, and the output, which held `held`, holds after it what was asked of
 -- what was read, which has this error after its codestream, or none.
-pub record IsWritten (task : Task) (limits : Limits) (asked : Option OutputFormat) (left rest held holds : Option (List ℕ)) (others : List ℕ) (profile : Bool) (error : Option BoxError) : Type 0 where
+pub record IsWritten (task : Task) (limits : Limits) (asked : Option OutputFormat) (left rest held holds : Option (List ℕ)) (others : List ℕ) (loss : Loss) (error : Option BoxError) : Type 0 where
   pub file : List ℕ
   pub text : List ℕ
   pub read : Consumes left rest file
   pub ended : IsAtEnd rest
-  pub is : IsAsked task limits asked file text others profile
+  pub is : IsAsked task limits asked file text others loss
   pub later : HasLaterError file error
   pub written : Appends held holds text
 
@@ -139,12 +142,12 @@ IsSaved wanted Has held holds Flushed Stays = MatchBool wanted ((bytes : List �
 -- not left out.
 pub record IsDone (task : Task) (quiet saved : Bool) (limits : Limits) (asked : Option OutputFormat) (name : List ℕ) (left rest held holds : Option (List ℕ)) (Gets : List ℕ → Type 0) (Silent : Type 0) : Type 0 where
   pub others : List ℕ
-  pub profile : Bool
+  pub loss : Loss
   pub error : Option BoxError
-  pub written : IsWritten task limits asked left rest held holds others profile error
-  pub gets : Gets (warnings quiet name others (profile && not saved) error)
+  pub written : IsWritten task limits asked left rest held holds others loss error
+  pub gets : Gets (warnings quiet name others (unless_saved saved loss) error)
   pub kept : quiet ≡ true → Silent
-  pub none : others ≡ [] → (profile && not saved) ≡ false → error ≡ None → Silent
+  pub none : others ≡ [] → has_loss (unless_saved saved loss) ≡ false → error ≡ None → Silent
 
 -- What is asked for is not done, by this failure; the output stays as it was, unless it is what fails; standard error gets
 -- the line of the failure, about what fails.

@@ -7,9 +7,11 @@ use Rattle.jxl_info.specs.Names.{kind_name}
 use Rattle.jxl_picture.specs.Pictures.{is_full_alpha}
 use Rattle.jxl_netpbm.specs.declared.format.Format.TheVariants as formats
 use Rattle.jxldec.specs.Failures.{line_about}
+use Rattle.jxldec.specs.Losses.{loss_lines}
 use Rattle.jxldec.specs.Reasons.{box_text}
 use Rattle.jxldec.specs.declared.format.OutputFormat.{OutputFormat}
 use Rattle.jxldec.specs.declared.format.OutputFormat.TheVariants.{Netpbm, Png}
+use Rattle.jxldec.specs.declared.loss.Loss.{Loss}
 
 -- the kinds of channels, each after a space
 abbrev pub kinds : List ExtraChannel → List ℕ
@@ -31,24 +33,20 @@ kinds_left_out format channels = kinds channels
 unfoldable pub channel_line : List ℕ → List ℕ → List ℕ
 channel_line name others = if length others == 0 then [] else line_about name (codes "channels left out:" ++ others)
 
--- the line on a colour profile, which the format does not hold
-unfoldable pub profile_line : List ℕ → Bool → List ℕ
-profile_line name profile = if profile then line_about name (codes "colour profile left out") else []
-
--- the lines on what is left out of a picture: these channels, and perhaps a profile
-unfoldable pub left_out_lines : List ℕ → List ℕ → Bool → List ℕ
-left_out_lines name others profile = channel_line name others ++ profile_line name profile
+-- the lines on what is left out of a picture: these channels, and what of its meaning the format does not hold
+unfoldable pub left_out_lines : List ℕ → List ℕ → Loss → List ℕ
+left_out_lines name others loss = channel_line name others ++ loss_lines name loss
 
 -- the line on the error of the boxes after the codestream, if they have one
 unfoldable pub later_line : List ℕ → Option BoxError → List ℕ
 later_line name (Some error) = line_about name (codes "ignored after the codestream: " ++ box_text error)
 later_line name None = []
 
--- what is written on standard error beside the output, if these channels and perhaps a profile are left out of it, and this error
--- comes after the codestream
-abbrev pub warning_lines : List ℕ → List ℕ → Bool → Option BoxError → List ℕ
-warning_lines name others profile later = left_out_lines name others profile ++ later_line name later
+-- what is written on standard error beside the output, if it lacks these channels and this meaning, and this error comes after the
+-- codestream
+abbrev pub warning_lines : List ℕ → List ℕ → Loss → Option BoxError → List ℕ
+warning_lines name others loss later = left_out_lines name others loss ++ later_line name later
 
 -- so it is, unless nothing but errors is to be printed
-abbrev pub warnings : Bool → List ℕ → List ℕ → Bool → Option BoxError → List ℕ
-warnings quiet name others profile later = if quiet then [] else warning_lines name others profile later
+abbrev pub warnings : Bool → List ℕ → List ℕ → Loss → Option BoxError → List ℕ
+warnings quiet name others loss later = if quiet then [] else warning_lines name others loss later

@@ -2,7 +2,7 @@
 
 ghost use Rattle.std.specs.Prelude.{◌≡◌, ◌↔◌, IsTrue};
 ghost use Rattle.jxl_image_header.specs.Images.{image_of};
-ghost use Rattle.jxldec.specs.Formats.{chosen, is_profile_left_out, suits_output};
+ghost use Rattle.jxldec.specs.Formats.{chosen, suits_output};
 
 use jxl_image_header::image::ImageHeader;
 use jxl_netpbm::format::Format;
@@ -25,16 +25,6 @@ impl OutputFormat {
         match self {
             OutputFormat::Netpbm(format) => format.suits(header),
             OutputFormat::Png => suits_png(header),
-        }
-    }
-
-    /// Whether a profile of a picture with this header is left out.
-    pub fn leaves_profile_out(self, header: &ImageHeader) -> bool
-        ensures { result ≡ is_profile_left_out self (image_of header.now) }
-    {
-        match self {
-            OutputFormat::Netpbm(_) => header.colour_encoding.want_icc,
-            OutputFormat::Png => false,
         }
     }
 }

@@ -15,13 +15,16 @@ ghost use Rattle.jxl_picture.specs.Pictures.{IsWhole};
 ghost use Rattle.jxl_picture.specs.declared.limits.Limits.{Limits as TheLimits};
 ghost use Rattle.jxldec.specs.Contents.{IsWritable, content_text};
 ghost use Rattle.jxldec.specs.Failures.{IsOfContent, IsOfSaving, failure_line, is_of_output};
-ghost use Rattle.jxldec.specs.Formats.{IsWrittenAs, chosen, is_profile_left_out, suits_output};
+ghost use Rattle.jxldec.specs.Formats.{IsWrittenAs, chosen, suits_output};
+ghost use Rattle.jxldec.specs.Losses.{has_loss, loss_in};
 ghost use Rattle.jxldec.specs.Texts.{AskedFails, InfoFails, InputFails, IsAsked, IsDone, IsFailed, IsFound, IsInfo, IsSaved, IsTextOfFile, IsWritten, TextFails};
 ghost use Rattle.jxldec.specs.Warnings.{kinds_left_out, warnings};
+ghost use Rattle.jxldec.specs.declared.loss.Loss.TheVariants.{Nothing as NoLoss};
 
 use crate::failures::Failure;
 use crate::format::{OutputFormat, format_for};
 use crate::options::{Options, Task};
+use crate::png::upright_png;
 use crate::warning::{LeftOut, warn};
 use jxl_codestream::error::FrontError;
 use jxl_coding::decoder::EntropyDecoder;
@@ -38,7 +41,6 @@ use jxl_info::text::info_text;
 use jxl_lossless::{FileError, JxlFile, Limits, Picture, Progress, Steps};
 use jxl_netpbm::format::Format;
 use jxl_netpbm::output::{WriteError, write_whole};
-use jxl_png_write::picture::png_file;
 use std::alloc::Global;
 use std::io::{Read, Write};
 
@@ -65,7 +67,7 @@ pub struct Output {
 // What the headers of a file tell.
 fn info_of_file(alloc: Global, file: &[u8], limits: &Limits) -> Result<Output, Failure>
     ensures text { IfOk result (λ o. IsInfo limits.now file.now (content_text o.content)
-        (string_bytes o.left_out.channels) o.left_out.profile) }
+        (string_bytes o.left_out.channels) o.left_out.loss) }
     ensures writable { IfOk result (λ o. IsWritable o.content) }
     ensures later { IfOk result (λ o. HasLaterError file.now o.left_out.later_error) }
     ensures err { IfErr result (InfoFails limits.now file.now) }
@@ -145,7 +147,7 @@ fn content_of(
 {
     match format {
         OutputFormat::Netpbm(format) => Ok(Content::Picture { picture, format }),
-        OutputFormat::Png => match png_file(alloc, &picture, exif, xmp) {
+        OutputFormat::Png => match upright_png(alloc, &picture, exif, xmp) {
             Ok(file) => Ok(Content::Png(file)),
             Err(_) => Err(Failure::OutOfMemory),
         },
@@ -168,7 +170,7 @@ fn output_of(
     ensures writable { IfOk result (λ o. IsWritable o.content) }
     ensures channels { IfOk result (λ o. string_bytes o.left_out.channels
         ≡ kinds_left_out format (image_of picture.header).ec_info) }
-    ensures profile { IfOk result (λ o. o.left_out.profile ≡ is_profile_left_out format (image_of picture.header)) }
+    ensures loss { IfOk result (λ o. o.left_out.loss ≡ loss_in format (image_of picture.header)) }
     ensures later { IfOk result (λ o. o.left_out.later_error ≡ later_error) }
     ensures err { IfErr result (λ failure. failure ≡ Failure.OutOfMemory) }
 {
@@ -189,7 +191,7 @@ pub fn picture_of_file<P: Progress + Line>(
     progress: &mut P,
 ) -> Result<Output, Failure>
     ensures text { IfOk result (λ o. IsTextOfFile limits.now file.now asked (content_text o.content)
-        (string_bytes o.left_out.channels) o.left_out.profile) }
+        (string_bytes o.left_out.channels) o.left_out.loss) }
     ensures writable { IfOk result (λ o. IsWritable o.content) }
     ensures later { IfOk result (λ o. HasLaterError file.now o.left_out.later_error) }
     ensures err { IfErr result (TextFails limits.now file.now asked) }
@@ -213,7 +215,7 @@ pub fn picture_of_file<P: Progress + Line>(
 fn nothing_of_file(alloc: Global, file: &[u8], limits: &Limits) -> Result<Output, Failure>
     ensures text { IfOk result (λ o. content_text o.content ≡ []) }
     ensures channels { IfOk result (λ o. string_bytes o.left_out.channels ≡ []) }
-    ensures profile { IfOk result (λ o. o.left_out.profile ≡ false) }
+    ensures loss { IfOk result (λ o. o.left_out.loss ≡ NoLoss) }
     ensures writable { IfOk result (λ o. IsWritable o.content) }
     ensures later { IfOk result (λ o. HasLaterError file.now o.left_out.later_error) }
     ensures err { IfErr result (InfoFails limits.now file.now) }
@@ -235,7 +237,7 @@ fn output_asked<P: Progress + Line>(
     progress: &mut P,
 ) -> Result<Output, Failure>
     ensures ok { IfOk result (λ o. IsAsked options.now.task options.now.limits options.now.format file.now
-        (content_text o.content) (string_bytes o.left_out.channels) o.left_out.profile) }
+        (content_text o.content) (string_bytes o.left_out.channels) o.left_out.loss) }
     ensures writable { IfOk result (λ o. IsWritable o.content) }
     ensures later { IfOk result (λ o. HasLaterError file.now o.left_out.later_error) }
     ensures err { IfErr result (AskedFails options.now.task options.now.limits options.now.format file.now) }
@@ -427,7 +429,7 @@ fn asked_of_file<'a, P: Progress + Line>(
     progress: &mut P,
 ) -> Result<Asked<'a>, Failure>
     ensures ok { IfOk result (λ a. IsAsked options.now.task options.now.limits options.now.format file.now
-        (content_text a.output.content) (string_bytes a.output.left_out.channels) a.output.left_out.profile) }
+        (content_text a.output.content) (string_bytes a.output.left_out.channels) a.output.left_out.loss) }
     ensures writable { IfOk result (λ a. IsWritable a.output.content) }
     ensures later { IfOk result (λ a. HasLaterError file.now a.output.left_out.later_error) }
     ensures profile { IfOk result (λ a. IsFound (is_some options.now.paths.icc)
@@ -456,7 +458,7 @@ fn carry_out<R: Read, W: Flush, F: Flush, P: Progress + Line>(
 ) -> Result<LeftOut, Failure>
     ensures done { IfOk result (λ l. IsWritten options.now.task options.now.limits options.now.format
         (R.remaining input.old) (R.remaining input.new) (W.contents output.old) (W.contents output.new)
-        (string_bytes l.channels) l.profile l.later_error) }
+        (string_bytes l.channels) l.loss l.later_error) }
     ensures saved { OnOk result (IsReadWhole (R.remaining input.old) (R.remaining input.new) (λ file.
         IsSaved (is_some options.now.paths.icc) (λ bytes. ProfileOfFile options.now.limits file (Some bytes))
         (F.contents extras.old.profile) (F.contents extras.new.profile) (F.is_flushed extras.new.profile)
@@ -504,10 +506,10 @@ pub fn report<E: Write>(errors: &mut E, name: &str, failure: Failure) -> End
 fn succeed<E: Write>(errors: &mut E, options: &Options<'_>, left_out: &LeftOut) -> End
     ensures status { result.status ≡ 0 }
     ensures lines { IsTrue result.reported → Appends (E.contents errors.old) (E.contents errors.new)
-        (warnings options.now.quiet options.now.input.now (string_bytes left_out.now.channels) left_out.now.profile
+        (warnings options.now.quiet options.now.input.now (string_bytes left_out.now.channels) left_out.now.loss
         left_out.now.later_error) }
     ensures quiet { options.now.quiet ≡ true → errors.new ≡ errors.old }
-    ensures none { string_bytes left_out.now.channels ≡ [] → left_out.now.profile ≡ false
+    ensures none { string_bytes left_out.now.channels ≡ [] → has_loss left_out.now.loss ≡ false
         → left_out.now.later_error ≡ None → errors.new ≡ errors.old }
 {
     let reported = !options.quiet && warn(errors, options.input, left_out);

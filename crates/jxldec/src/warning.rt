@@ -1,14 +1,15 @@
 //! What the output leaves out of a file.
 
-ghost use Rattle.std.specs.Prelude.{◌≡◌, ◌++◌, ◌&&◌, IfOk, None, OnOk, IsTrue, false, not, [], string_bytes};
+ghost use Rattle.std.specs.Prelude.{◌≡◌, ◌++◌, IfOk, None, OnOk, IsTrue, false, [], string_bytes};
 ghost use Rattle.std.specs.Io.KnownBytes.{Appends};
 ghost use Rattle.jxl_image_header.specs.Images.{image_of};
 ghost use Rattle.jxl_picture.specs.Pictures.{is_full_alpha as the_full_alpha};
-ghost use Rattle.jxldec.specs.Formats.{is_profile_left_out};
+ghost use Rattle.jxldec.specs.Losses.{has_loss, loss_in, unless_saved as the_unless_saved};
 ghost use Rattle.jxldec.specs.Warnings.{kinds_left_out, later_line, left_out_lines, warning_lines};
 ghost use Rattle.jxldec.specs.Inner.Kinds.{rest_kinds};
 
 use crate::format::OutputFormat;
+use crate::loss::{Loss, LossLines};
 use crate::reason::box_text;
 use jxl_container::error::FileError as BoxError;
 use jxl_image_header::channel::ExtraChannel;
@@ -25,8 +26,8 @@ use std::{fmt, io};
 pub struct LeftOut {
     /// The kinds of the channels that are left out, each after a space.
     pub channels: String,
-    /// Whether a profile says what colours mean, which the format does not hold.
-    pub profile: bool,
+    /// What the format does not hold of what its samples mean.
+    pub loss: Loss,
     /// The first error of the boxes after the codestream, if there is one: from there on they are left out.
     pub later_error: Option<BoxError>,
 }
@@ -64,7 +65,7 @@ impl LeftOut {
     ) -> Result<LeftOut, OutOfMemory>
         ensures channels { IfOk result (λ l. string_bytes l.channels
             ≡ kinds_left_out format (image_of header.now).ec_info) }
-        ensures profile { IfOk result (λ l. l.profile ≡ is_profile_left_out format (image_of header.now)) }
+        ensures loss { IfOk result (λ l. l.loss ≡ loss_in format (image_of header.now)) }
         ensures later { IfOk result (λ l. l.later_error ≡ later_error) }
     {
         let mut channels = String::new(alloc);
@@ -77,7 +78,7 @@ impl LeftOut {
         }
         Ok(LeftOut {
             channels,
-            profile: format.leaves_profile_out(header),
+            loss: Loss::of(format, header),
             later_error,
         })
     }
@@ -85,12 +86,12 @@ impl LeftOut {
     /// The same, but for the profile if that is saved.
     pub fn but_saved(self, saved: bool) -> LeftOut
         ensures channels { string_bytes result.channels ≡ string_bytes self.channels }
-        ensures profile { result.profile ≡ (self.profile && not saved) }
+        ensures loss { result.loss ≡ the_unless_saved saved self.loss }
         ensures later { result.later_error ≡ self.later_error }
     {
         LeftOut {
             channels: self.channels,
-            profile: self.profile && !saved,
+            loss: self.loss.unless_saved(saved),
             later_error: self.later_error,
         }
     }
@@ -98,12 +99,12 @@ impl LeftOut {
     /// Nothing of a picture, and the boxes from this error on.
     pub fn boxes(alloc: Global, later_error: Option<BoxError>) -> LeftOut
         ensures channels { string_bytes result.channels ≡ [] }
-        ensures profile { result.profile ≡ false }
+        ensures loss { result.loss ≡ Loss.Nothing }
         ensures later { result.later_error ≡ later_error }
     {
         LeftOut {
             channels: String::new(alloc),
-            profile: false,
+            loss: Loss::Nothing,
             later_error,
         }
     }
@@ -114,24 +115,25 @@ impl LeftOut {
 struct Warnings<'a> {
     name: &'a str,
     channels: &'a str,
-    profile: bool,
+    loss: Loss,
 }
 
 impl fmt::Display for Warnings<'_> {
     ghost use Rattle.std.specs.Prelude.{Some};
 
-    ghost output = { λ w. Some (left_out_lines w.name.now w.channels.now w.profile) };
+    ghost output = { λ w. Some (left_out_lines w.name.now w.channels.now w.loss) };
 
-    #[tactic(auto, unfolding(crate::specs::Warnings::left_out_lines, crate::specs::Warnings::channel_line, crate::specs::Warnings::profile_line))]
+    #[tactic(auto, unfolding(crate::specs::Warnings::left_out_lines, crate::specs::Warnings::channel_line))]
     fn fmt<W: fmt::Write>(&self, f: &mut fmt::Formatter<W>) -> fmt::Result {
         let (name, channels) = (self.name, self.channels);
         if !channels.is_empty() {
             writeln!(f, "jxldec: {name}: channels left out:{channels}")?;
         }
-        if self.profile {
-            writeln!(f, "jxldec: {name}: colour profile left out")?;
-        }
-        Ok(())
+        let lines = LossLines {
+            name,
+            loss: self.loss,
+        };
+        write!(f, "{lines}")
     }
 }
 
@@ -158,23 +160,24 @@ impl fmt::Display for LaterError<'_> {
     }
 }
 
-/// Writes a line on channels that were left out, if there are any, one on a profile, and one on the error of the boxes after
-/// the codestream, as far as they can be written. It returns whether lines were written.
+/// Writes a line on channels that were left out, if there are any, those on what the format does not hold of the meaning
+/// of samples, and one on the error of the boxes after the codestream, as far as they can be written. It returns whether
+/// lines were written.
 pub fn warn<E: Write>(errors: &mut E, name: &str, left_out: &LeftOut) -> bool
     ensures lines { IsTrue result → Appends (E.contents errors.old) (E.contents errors.new)
-        (warning_lines name.now (string_bytes left_out.now.channels) left_out.now.profile left_out.now.later_error) }
-    ensures none { string_bytes left_out.now.channels ≡ [] → left_out.now.profile ≡ false
+        (warning_lines name.now (string_bytes left_out.now.channels) left_out.now.loss left_out.now.later_error) }
+    ensures none { string_bytes left_out.now.channels ≡ [] → has_loss left_out.now.loss ≡ false
         → left_out.now.later_error ≡ None → errors.new ≡ errors.old }
 {
-    let (channels, profile) = (left_out.channels.as_str(), left_out.profile);
+    let (channels, loss) = (left_out.channels.as_str(), left_out.loss);
     let later_error = left_out.later_error;
-    if channels.is_empty() && !profile && later_error.is_none() {
+    if channels.is_empty() && !loss.has_line() && later_error.is_none() {
         return false;
     }
     let warnings = Warnings {
         name,
         channels,
-        profile,
+        loss,
     };
     let later = LaterError {
         name,

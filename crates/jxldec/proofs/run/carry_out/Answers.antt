@@ -25,7 +25,7 @@ returns-in_err-save_all-clause-failed g c =
       is = record {
         text = _;
         others = _;
-        profile = _;
+        loss = _;
         is = c.in_ok-asked.ensures.ok;
         begun = whole_begins _ _ _ c.in_ok-pass_on.ensures.ok;
       };

@@ -25,7 +25,7 @@ returns-in-Ok-decode-clause-text g c =
     (c.in-Ok-decode.ensures.picture c.args.limits.now c.args.file.now c.in-Ok.ensures.ok))
     (subst (λ (o : Option (List ℕ)). HasExif c.args.file.now o) (sym c.exif-exif.ensures) c.in-Ok.ensures.ok.exif)
     (subst (λ (o : Option (List ℕ)). HasXmp c.args.file.now o) (sym c.xmp-xmp.ensures) c.in-Ok.ensures.ok.xmp)
-    suited c.output_of.result c.output_of.ensures.text c.output_of.ensures.channels c.output_of.ensures.profile
+    suited c.output_of.result c.output_of.ensures.text c.output_of.ensures.channels c.output_of.ensures.loss
 
 pub returns-in-Ok-decode-clause-later : goal.returns-in-Ok-decode-clause-later
 returns-in-Ok-decode-clause-later g c =
