@@ -211,11 +211,11 @@ absent first.ppm
 # the file. Data without a TIFF header are kept. The chunk eXIf comes after the header and sRGB, so its data begin at byte 54.
 printf 'II\052\000\010\000\000\000\001\000\022\001\003\000\001\000\000\000\010\000\000\000\000\000\000\000' > turn.exif
 printf 'II\052\000\010\000\000\000\001\000\022\001\003\000\001\000\000\000\001\000\000\000\000\000\000\000' > upright.exif
-printf 'IM\052\000\010\000\000\000\001\000\022\001\003\000\001\000\000\000\010\000\000\000\000\000\000\000' > other.exif
-for name in turn upright other; do
+printf 'IM\052\000\010\000\000\000\001\000\022\001\003\000\001\000\000\000\010\000\000\000\000\000\000\000' > broken.exif
+for name in turn upright broken; do
     { boxed; whole; printf '\0\0\0\046Exif\0\0\0\0'; cat $name.exif; } > $name.jxl
     case $name in
-        other) written=other.exif ;;
+        broken) written=broken.exif ;;
         *) written=upright.exif ;;
     esac
     expect 0 - $name.jxl -o $name.png --exif out.exif
