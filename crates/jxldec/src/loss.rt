@@ -62,7 +62,7 @@ impl Loss {
 }
 
 // A line about a file of this name, if it applies.
-#[derive(Clone, Copy)]
+#[derive(Drop)]
 struct Remark<'a> {
     name: &'a str,
     applies: bool,
@@ -85,7 +85,7 @@ impl fmt::Display for Remark<'_> {
 }
 
 // The lines on what no chunk of a PNG file says.
-#[derive(Clone, Copy)]
+#[derive(Drop)]
 struct UnsaidLines<'a> {
     name: &'a str,
     losses: Losses,
@@ -124,7 +124,7 @@ impl fmt::Display for UnsaidLines<'_> {
 }
 
 /// The lines that warn of a loss, about a file of this name.
-#[derive(Clone, Copy)]
+#[derive(Drop)]
 pub struct LossLines<'a> {
     pub name: &'a str,
     pub loss: Loss,

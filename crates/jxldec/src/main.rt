@@ -8,7 +8,6 @@ mod format;
 mod loss;
 mod meter;
 mod options;
-mod png;
 mod reason;
 mod run;
 mod warning;

@@ -71,22 +71,12 @@ fn info(alloc: Global) -> Result<Arg<'static>, AllocError> {
         .conflicts_with("output")
 }
 
-fn icc(alloc: Global) -> Arg<'static> {
-    Arg::new(alloc, "icc").long("icc").value_name("OUT").help(
-        "Where to write the ICC profile; without --output, no picture is written",
-    )
-}
-
-fn exif(alloc: Global) -> Arg<'static> {
-    Arg::new(alloc, "exif").long("exif").value_name("OUT").help(
-        "Where to write the Exif data; without --output, no picture is written",
-    )
-}
-
-fn xmp(alloc: Global) -> Arg<'static> {
-    Arg::new(alloc, "xmp").long("xmp").value_name("OUT").help(
-        "Where to write the XMP data; without --output, no picture is written",
-    )
+// Where data beside the picture are written.
+fn extra(alloc: Global, name: &'static str, help: &'static str) -> Arg<'static> {
+    Arg::new(alloc, name)
+        .long(name)
+        .value_name("OUT")
+        .help(help)
 }
 
 fn format(alloc: Global) -> Arg<'static> {
@@ -97,20 +87,18 @@ fn format(alloc: Global) -> Arg<'static> {
         .help("Its format [default: by the ending of its name, else by what the picture holds]")
 }
 
-fn pixels(alloc: Global) -> Arg<'static> {
-    Arg::new(alloc, "pixels")
-        .long("max-pixels")
+// A limit of 64 bits.
+fn limit(
+    alloc: Global,
+    name: &'static str,
+    long: &'static str,
+    help: &'static str,
+) -> Arg<'static> {
+    Arg::new(alloc, name)
+        .long(long)
         .value_name("N")
         .value_parser(clap::value_parser!(u64))
-        .help("The maximum number of pixels [default: 268435456]")
-}
-
-fn bytes(alloc: Global) -> Arg<'static> {
-    Arg::new(alloc, "bytes")
-        .long("max-bytes")
-        .value_name("N")
-        .value_parser(clap::value_parser!(u64))
-        .help("The maximum number of bytes of samples, four each [default: 2147483648]")
+        .help(help)
 }
 
 fn decisions(alloc: Global) -> Arg<'static> {
@@ -119,14 +107,6 @@ fn decisions(alloc: Global) -> Arg<'static> {
         .value_name("N")
         .value_parser(clap::value_parser!(u32))
         .help("The maximum number of decisions for a sample in shared trees [default: 128]")
-}
-
-fn codewords(alloc: Global) -> Arg<'static> {
-    Arg::new(alloc, "codewords")
-        .long("max-codewords")
-        .value_name("N")
-        .value_parser(clap::value_parser!(u64))
-        .help("The maximum number of codewords of sections' own codes [default: 67108864]")
 }
 
 fn quiet(alloc: Global) -> Arg<'static> {
@@ -143,14 +123,41 @@ pub fn command<'a>(alloc: Global) -> Result<Command<'a>, AllocError> {
         input(alloc),
         output(alloc),
         info(alloc)?,
-        icc(alloc),
-        exif(alloc),
-        xmp(alloc),
+        extra(
+            alloc,
+            "icc",
+            "Where to write the ICC profile; without --output, no picture is written"
+        ),
+        extra(
+            alloc,
+            "exif",
+            "Where to write the Exif data; without --output, no picture is written"
+        ),
+        extra(
+            alloc,
+            "xmp",
+            "Where to write the XMP data; without --output, no picture is written"
+        ),
         format(alloc),
-        pixels(alloc),
-        bytes(alloc),
+        limit(
+            alloc,
+            "pixels",
+            "max-pixels",
+            "The maximum number of pixels [default: 268435456]",
+        ),
+        limit(
+            alloc,
+            "bytes",
+            "max-bytes",
+            "The maximum number of bytes of samples, four each [default: 2147483648]",
+        ),
         decisions(alloc),
-        codewords(alloc),
+        limit(
+            alloc,
+            "codewords",
+            "max-codewords",
+            "The maximum number of codewords of sections' own codes [default: 67108864]",
+        ),
         quiet(alloc),
     ]?;
     Command::new(alloc, "jxldec")

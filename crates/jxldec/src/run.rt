@@ -24,7 +24,6 @@ ghost use Rattle.jxldec.specs.declared.loss.Loss.TheVariants.{Nothing as NoLoss}
 use crate::failures::Failure;
 use crate::format::{OutputFormat, format_for};
 use crate::options::{Options, Task};
-use crate::png::upright_png;
 use crate::warning::{LeftOut, warn};
 use jxl_codestream::error::FrontError;
 use jxl_coding::decoder::EntropyDecoder;
@@ -41,6 +40,7 @@ use jxl_info::text::info_text;
 use jxl_lossless::{FileError, JxlFile, Limits, Picture, Progress, Steps};
 use jxl_netpbm::format::Format;
 use jxl_netpbm::output::{WriteError, write_whole};
+use jxl_png_write::upright::upright_png;
 use std::alloc::Global;
 use std::io::{Read, Write};
 
