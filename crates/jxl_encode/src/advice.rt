@@ -13,6 +13,7 @@ use jxl_encode_advice::axis::Axis;
 use jxl_encode_advice::residuals::{Care, scheme_by_residuals};
 use jxl_encode_advice::scheme::Scheme;
 use jxl_encode_advice::values::scheme_by_values;
+use jxl_encode_colours::shades::scheme_by_colours;
 use jxl_image_header::channel::BitDepth;
 use jxl_image_header::image::ImageHeader;
 use jxl_picture::picture::{Picture, is_grey};
@@ -31,11 +32,23 @@ pub(crate) struct Advice {
     pub(crate) colour: Option<u32>,
 }
 
+impl Advice {
+    /// Whether a picture is coded alike by both.
+    fn is_same(&self, other: &Advice) -> bool {
+        self.colour == other.colour
+            && self.clusters.as_slice() == other.clusters.as_slice()
+            && self.nodes.as_slice() == other.nodes.as_slice()
+    }
+}
+
 /// The most leaves of a tree, since each has a cluster of its own.
 const MAX_LEAVES: usize = 256;
 
 /// The cuts between differences of two neighbours of eight bits.
 const NEAR_CUTS: [i32; 6] = [-40, -12, -3, 2, 11, 39];
+
+/// The cuts between differences of two neighbours of few colours.
+const SHADE_CUTS: [i32; 8] = [-40, -12, -3, -1, 0, 2, 11, 39];
 
 /// The cuts between true errors of the weighted predictor, of samples of eight bits.
 const ERROR_CUTS: [i32; 33] = [
@@ -57,6 +70,18 @@ const MAX_ERROR: u32 = 15;
 
 /// The kind of colour transform that is luma and two differences.
 const LUMA: u32 = 6;
+
+/// The kinds of colour transform that are green, red or blue, and the differences of the others to it.
+const SHADES: [u32; 3] = [10, 3, 17];
+
+/// All efforts.
+const EFFORTS: [Effort; 3] = [Effort::Fast, Effort::Usual, Effort::Best];
+
+/// The most nodes of the tree of a picture of few colours, nearly.
+const MAX_NODES: usize = 16383;
+
+/// The most nodes of the tree of a group of few colours, nearly: it has the first channel's beside them.
+const GROUP_NODES: usize = 450;
 
 /// How much larger the cuts between slopes are at most: deep samples are often as smooth as others.
 const MAX_SLOPE_SCALE: i32 = 8;
@@ -120,6 +145,15 @@ fn error_axes(alloc: Global, depth: BitDepth, channels: bool) -> Result<Vec<Axis
     Ok(axes)
 }
 
+/// Slopes, flat ones apart.
+fn shade_axes(alloc: Global) -> Result<Vec<Axis>, OutOfMemory> {
+    let mut axes = Vec::new(alloc);
+    for slope in &[10, 11, 12] {
+        axes.push(Axis::new(alloc, *slope, &SHADE_CUTS)?)?;
+    }
+    Ok(axes)
+}
+
 /// A cluster for each leaf.
 fn clusters_of(alloc: Global, nodes: &[EncodeNode]) -> Result<Vec<u8>, OutOfMemory> {
     let leaves = nodes
@@ -176,6 +210,7 @@ fn care_of(effort: Effort) -> (usize, Care) {
             Care {
                 samples: 1 << 15,
                 clusters: 8,
+                colours: 256,
             },
         ),
         Effort::Usual => (
@@ -183,6 +218,7 @@ fn care_of(effort: Effort) -> (usize, Care) {
             Care {
                 samples: 1 << 18,
                 clusters: 16,
+                colours: 8192,
             },
         ),
         Effort::Best => (
@@ -190,6 +226,7 @@ fn care_of(effort: Effort) -> (usize, Care) {
             Care {
                 samples: 1 << 20,
                 clusters: 64,
+                colours: 8192,
             },
         ),
     }
@@ -205,40 +242,128 @@ pub(crate) fn group_scheme(
 ) -> Result<Scheme, OutOfMemory> {
     let (slopes, care) = care_of(effort);
     let axes = slope_axes(alloc, depth, slopes)?;
-    let scheme = scheme_by_residuals(alloc, channels, colour.is_some(), axes, care)?;
-    if colour.is_some() {
-        return Ok(scheme);
+    let mut best = scheme_by_residuals(alloc, channels, colour, axes, care)?;
+    let axes = shade_axes(alloc)?;
+    if let Some(other) = scheme_by_colours(alloc, channels, colour, axes, care, GROUP_NODES)? {
+        best = best.or_cheaper(other);
     }
-    match scheme_by_values(alloc, channels)? {
-        Some(other) if other.cost < scheme.cost => Ok(other),
-        _ => Ok(scheme),
+    if colour.is_none() {
+        if let Some(other) = scheme_by_values(alloc, channels)? {
+            best = best.or_cheaper(other);
+        }
+    }
+    Ok(best)
+}
+
+/// The cheaper of this way and that by the colours of the picture, if they are few.
+fn or_by_colours(
+    alloc: Global,
+    picture: &Picture,
+    care: Care,
+    colour: Option<u32>,
+    best: Option<(Scheme, Option<u32>)>,
+) -> Result<Option<(Scheme, Option<u32>)>, OutOfMemory> {
+    let axes = shade_axes(alloc)?;
+    match scheme_by_colours(alloc, &picture.channels, colour, axes, care, MAX_NODES)? {
+        Some(scheme) => Ok(cheaper(best, scheme, colour)),
+        None => Ok(best),
     }
 }
 
-/// A way to code a picture by what its samples are like.
+/// The cheapest way to code a picture by its colours, after a colour transform if `transforms` says so; none, if they are
+/// too many.
+fn by_colours(
+    alloc: Global,
+    picture: &Picture,
+    effort: Effort,
+    transforms: bool,
+) -> Result<Option<(Scheme, Option<u32>)>, OutOfMemory> {
+    let care = care_of(effort).1;
+    if !transforms {
+        return or_by_colours(alloc, picture, care, None, None);
+    }
+    let kinds = if matches!(effort, Effort::Fast) { 1 } else { 3 };
+    let mut best = None;
+    for kind in SHADES.iter().take(kinds) {
+        best = or_by_colours(alloc, picture, care, Some(*kind), best)?;
+    }
+    Ok(best)
+}
+
+/// The cheapest way to code a picture by slopes and one of these colour transforms, if it is cheaper than this.
+fn by_slopes(
+    alloc: Global,
+    picture: &Picture,
+    effort: Effort,
+    colours: &[Option<u32>],
+    best: Option<(Scheme, Option<u32>)>,
+) -> Result<Option<(Scheme, Option<u32>)>, OutOfMemory> {
+    let (slopes, care) = care_of(effort);
+    let mut best = best;
+    for colour in colours {
+        let axes = slope_axes(alloc, picture.header.bit_depth, slopes)?;
+        let scheme = scheme_by_residuals(alloc, &picture.channels, *colour, axes, care)?;
+        best = cheaper(best, scheme, *colour);
+    }
+    Ok(best)
+}
+
+/// The cheapest way to code a picture by its colours or by slopes.
 fn learnt(
     alloc: Global,
     picture: &Picture,
     effort: Effort,
     colours: &[Option<u32>],
-) -> Result<Option<Advice>, OutOfMemory> {
-    let (slopes, care) = care_of(effort);
-    let mut best = None;
-    if let Some(scheme) = scheme_by_values(alloc, &picture.channels)? {
-        best = cheaper(best, scheme, None);
+) -> Result<Option<(Scheme, Option<u32>)>, OutOfMemory> {
+    let best = by_colours(alloc, picture, effort, colours.len() > 1)?;
+    by_slopes(alloc, picture, effort, colours, best)
+}
+
+/// Adds a way, if it is not among them.
+fn add_way(list: &mut Vec<Advice>, scheme: Scheme, colour: Option<u32>) -> Result<(), OutOfMemory> {
+    let advice = Advice {
+        nodes: scheme.nodes,
+        clusters: scheme.clusters,
+        colour,
+    };
+    if !list.iter().any(|other| other.is_same(&advice)) {
+        list.push(advice)?;
     }
-    for colour in colours {
-        let axes = slope_axes(alloc, picture.header.bit_depth, slopes)?;
-        let scheme = scheme_by_residuals(alloc, &picture.channels, colour.is_some(), axes, care)?;
-        best = cheaper(best, scheme, *colour);
+    Ok(())
+}
+
+/// Adds the cheapest way of each of the first efforts, of this number, by values, colours or slopes.
+fn add_learnt(
+    alloc: Global,
+    list: &mut Vec<Advice>,
+    picture: &Picture,
+    efforts: usize,
+    colours: &[Option<u32>],
+) -> Result<(), OutOfMemory> {
+    let values = scheme_by_values(alloc, &picture.channels)?;
+    let most = match &values {
+        Some(scheme) => scheme.cost,
+        None => u64::MAX,
+    };
+    let mut by_values = false;
+    for effort in EFFORTS.iter().take(efforts) {
+        match learnt(alloc, picture, *effort, colours)? {
+            Some((scheme, colour)) if scheme.cost < most => add_way(list, scheme, colour)?,
+            _ => by_values = true,
+        }
     }
-    match best {
-        Some((scheme, colour)) => Ok(Some(Advice {
-            nodes: scheme.nodes,
-            clusters: scheme.clusters,
-            colour,
-        })),
-        None => Ok(None),
+    match values {
+        Some(scheme) if by_values => add_way(list, scheme, None),
+        _ => Ok(()),
+    }
+}
+
+/// The number of efforts up to this one: a greater effort tries what a lower one does.
+fn efforts_to(effort: Effort) -> usize {
+    match effort {
+        Effort::Fast => 1,
+        Effort::Usual => 2,
+        Effort::Best => 3,
     }
 }
 
@@ -257,9 +382,7 @@ pub(crate) fn advices_for(
     } else {
         &[None, Some(LUMA)]
     };
-    if let Some(advice) = learnt(alloc, picture, effort, colours)? {
-        list.push(advice)?;
-    }
+    add_learnt(alloc, &mut list, picture, efforts_to(effort), colours)?;
     if floats || matches!(effort, Effort::Fast) {
         return Ok(list);
     }

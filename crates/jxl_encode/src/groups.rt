@@ -12,21 +12,28 @@ use std::alloc::Global;
 /// The side of a group.
 const SIDE: usize = GROUP_DIM as usize;
 
-/// The trees that groups may have of their own: without a colour transform, and with one.
+/// The trees that groups may have of their own by a colour transform.
+#[derive(Drop)]
+struct ColourTrees {
+    colour: Option<u32>,
+    trees: Vec<GroupTree>,
+}
+
+/// The trees that groups may have of their own.
 #[derive(Drop)]
 pub(crate) struct OwnTrees {
-    plain: Vec<GroupTree>,
-    luma: Vec<GroupTree>,
+    sets: Vec<ColourTrees>,
 }
 
 impl OwnTrees {
     /// Those of groups that are coded by this colour transform.
     pub(crate) fn by(&self, colour: Option<u32>) -> &[GroupTree] {
-        if colour.is_some() {
-            &self.luma
-        } else {
-            &self.plain
+        for set in &self.sets {
+            if set.colour == colour {
+                return &set.trees;
+            }
         }
+        &[]
     }
 }
 
@@ -95,7 +102,23 @@ fn tree_of(
     })
 }
 
-/// The trees of all groups.
+/// Adds the trees of all groups.
+fn add_trees(
+    alloc: Global,
+    trees: &mut Vec<GroupTree>,
+    picture: &Picture,
+    effort: Effort,
+    colour: Option<u32>,
+) -> Result<(), OutOfMemory> {
+    let across = u64::from(picture.header.size.width.div_ceil(GROUP_DIM));
+    let down = u64::from(picture.header.size.height.div_ceil(GROUP_DIM));
+    for group in 0..across.saturating_mul(down) {
+        trees.push(tree_of(alloc, picture, effort, colour, group, across)?)?;
+    }
+    Ok(())
+}
+
+/// The trees of all groups: at the greatest effort also those that are learnt at the usual one.
 fn trees_by(
     alloc: Global,
     picture: &Picture,
@@ -103,10 +126,9 @@ fn trees_by(
     colour: Option<u32>,
 ) -> Result<Vec<GroupTree>, OutOfMemory> {
     let mut trees = Vec::new(alloc);
-    let across = u64::from(picture.header.size.width.div_ceil(GROUP_DIM));
-    let down = u64::from(picture.header.size.height.div_ceil(GROUP_DIM));
-    for group in 0..across.saturating_mul(down) {
-        trees.push(tree_of(alloc, picture, effort, colour, group, across)?)?;
+    add_trees(alloc, &mut trees, picture, Effort::Usual, colour)?;
+    if matches!(effort, Effort::Best) {
+        add_trees(alloc, &mut trees, picture, effort, colour)?;
     }
     Ok(trees)
 }
@@ -127,21 +149,16 @@ pub(crate) fn own_trees(
     advices: &[Advice],
 ) -> Result<OwnTrees, OutOfMemory> {
     let mut own = OwnTrees {
-        plain: Vec::new(alloc),
-        luma: Vec::new(alloc),
+        sets: Vec::new(alloc),
     };
     if !are_tried(picture, effort) {
         return Ok(own);
     }
     for advice in advices {
-        match advice.colour {
-            Some(_) if own.luma.is_empty() => {
-                own.luma = trees_by(alloc, picture, effort, advice.colour)?;
-            }
-            None if own.plain.is_empty() => {
-                own.plain = trees_by(alloc, picture, effort, None)?;
-            }
-            _ => {}
+        let colour = advice.colour;
+        if !own.sets.iter().any(|set| set.colour == colour) {
+            let trees = trees_by(alloc, picture, effort, colour)?;
+            own.sets.push(ColourTrees { colour, trees })?;
         }
     }
     Ok(own)

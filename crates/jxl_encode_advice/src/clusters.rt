@@ -7,7 +7,7 @@ use std::alloc::Global;
 
 /// The counts of the symbols of each cluster, and what each costs.
 #[derive(Drop)]
-pub(crate) struct Clusters {
+pub struct Clusters {
     scale: u64,
     most: usize,
     counts: Vec<u32>,
@@ -27,7 +27,7 @@ fn counts_at(counts: &[u32], cluster: usize) -> &[u32] {
 
 impl Clusters {
     /// No clusters, of which there are to be at most this number.
-    pub(crate) fn new(alloc: Global, scale: u64, most: usize) -> Clusters {
+    pub fn new(alloc: Global, scale: u64, most: usize) -> Clusters {
         Clusters {
             scale,
             most: most.min(255),
@@ -37,7 +37,7 @@ impl Clusters {
     }
 
     /// What all clusters cost.
-    pub(crate) fn cost(&self) -> u64 {
+    pub fn cost(&self) -> u64 {
         let mut sum: u64 = 0;
         for cost in &self.costs {
             sum = sum.saturating_add(*cost);
@@ -81,7 +81,7 @@ impl Clusters {
     }
 
     /// Puts a leaf of these symbols into the best cluster, or into a new one; returns which.
-    pub(crate) fn put(&mut self, counts: &[u32]) -> Result<u8, OutOfMemory> {
+    pub fn put(&mut self, counts: &[u32]) -> Result<u8, OutOfMemory> {
         let own = cost_of_both(self.scale, counts, &[]);
         let most = if self.costs.len() < self.most {
             own

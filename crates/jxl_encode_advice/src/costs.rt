@@ -3,7 +3,7 @@
 use crate::symbols::bits_after;
 
 /// One bit.
-pub(crate) const BIT: u64 = 65536;
+pub const BIT: u64 = 65536;
 
 /// What a code and a tree cost beside the samples.
 #[derive(Clone, Copy)]

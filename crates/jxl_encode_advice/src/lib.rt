@@ -3,13 +3,13 @@
 #![tactic(auto)]
 
 pub mod axis;
-mod clusters;
-mod costs;
+pub mod clusters;
+pub mod costs;
 mod learn;
 mod near;
 pub mod residuals;
-mod rows;
+pub mod rows;
 pub mod scheme;
-mod symbols;
-mod table;
+pub mod symbols;
+pub mod table;
 pub mod values;

@@ -18,7 +18,7 @@ pub(crate) const PREDICTORS: [Predictor; 6] = [
 ];
 
 /// The neighbours of a sample.
-#[derive(Clone, Copy)]
+#[derive(Clone, Copy, PartialEq, Eq)]
 pub(crate) struct Near {
     channel: i32,
     earlier: i32,

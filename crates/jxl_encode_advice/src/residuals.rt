@@ -17,6 +17,8 @@ pub struct Care {
     pub samples: usize,
     /// The most clusters of leaves.
     pub clusters: usize,
+    /// The most colours of a picture that is coded by its colours.
+    pub colours: usize,
 }
 
 /// Counts the residuals of a sample.
@@ -44,11 +46,7 @@ fn add_channel(
     channel: usize,
     step: usize,
 ) -> Result<(), OutOfMemory> {
-    let height = match source.channels.get(channel) {
-        Some(grid) => grid.height(),
-        None => 0,
-    };
-    for y in 0..height {
+    for y in 0..source.height(channel) {
         if y.wrapping_mul(40503) / 16 % step.max(1) == 0 {
             rows.go(source, channel, y)?;
             add_row(table, channel.min(255) as i32, rows);
@@ -58,7 +56,7 @@ fn add_channel(
 }
 
 /// The number of samples.
-fn samples_in(channels: &[AlignedGrid<i32>]) -> usize {
+pub fn samples_in(channels: &[AlignedGrid<i32>]) -> usize {
     let mut samples: usize = 0;
     for channel in channels {
         samples = samples.saturating_add(channel.buf().len());
@@ -67,19 +65,30 @@ fn samples_in(channels: &[AlignedGrid<i32>]) -> usize {
 }
 
 /// The scheme that is learnt by these axes from a part of the samples of the channels, the first three of which are coded
-/// as luma and two differences if `luma` says so.
+/// by a colour transform of this kind, if there is one.
 pub fn scheme_by_residuals(
     alloc: Global,
     channels: &[AlignedGrid<i32>],
-    luma: bool,
+    colour: Option<u32>,
     axes: Vec<Axis>,
     care: Care,
 ) -> Result<Scheme, OutOfMemory> {
-    let step = (samples_in(channels) / care.samples.max(1)).max(1);
-    let source = Source { channels, luma };
+    let source = Source { channels, colour };
+    scheme_of_first(alloc, source, channels.len(), axes, care)
+}
+
+/// The scheme that is learnt by these axes from a part of the samples of the first channels.
+pub fn scheme_of_first(
+    alloc: Global,
+    source: Source<'_>,
+    count: usize,
+    axes: Vec<Axis>,
+    care: Care,
+) -> Result<Scheme, OutOfMemory> {
+    let step = (samples_in(source.channels) / care.samples.max(1)).max(1);
     let mut table = Table::new(alloc, axes, PREDICTORS.len(), SYMBOLS)?;
     let mut rows = Rows::new(alloc);
-    for channel in 0..channels.len() {
+    for channel in 0..count {
         add_channel(&mut table, &mut rows, source, channel, step)?;
     }
     let prices = Prices {

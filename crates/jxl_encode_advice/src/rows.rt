@@ -4,11 +4,13 @@ use crate::near::GROUP_SIDE;
 use jxlm_base::grid::{AlignedGrid, OutOfMemory};
 use std::alloc::Global;
 
-/// The channels of a picture, and whether the first three are coded as luma and two differences.
+/// The channels of a picture, and the kind of colour transform by which the first three are coded.
 #[derive(Clone, Copy)]
-pub(crate) struct Source<'a> {
-    pub(crate) channels: &'a [AlignedGrid<i32>],
-    pub(crate) luma: bool,
+pub struct Source<'a> {
+    /// The channels.
+    pub channels: &'a [AlignedGrid<i32>],
+    /// The kind of the colour transform.
+    pub colour: Option<u32>,
 }
 
 /// The rows around a sample.
@@ -38,8 +40,36 @@ fn luma(channel: usize, red: i32, green: i32, blue: i32) -> i32 {
     }
 }
 
+/// The channels from which the coded ones come by a colour transform of this kind.
+fn order_of(kind: u32) -> [usize; 3] {
+    match kind / 7 {
+        0 => [0, 1, 2],
+        1 => [1, 2, 0],
+        2 => [2, 0, 1],
+        3 => [0, 2, 1],
+        4 => [1, 0, 2],
+        _ => [2, 1, 0],
+    }
+}
+
+/// The sample of a channel that a colour transform of this kind makes of three samples in its order.
+fn formed(kind: u32, channel: usize, first: i32, second: i32, third: i32) -> i32 {
+    let part = kind % 7;
+    if part == 6 {
+        return luma(channel, first, second, third);
+    }
+    match channel {
+        0 => first,
+        1 if part / 2 == 1 => second.wrapping_sub(first),
+        1 if part / 2 == 2 => second.wrapping_sub(first.wrapping_add(third) >> 1),
+        1 => second,
+        _ if part % 2 == 1 => third.wrapping_sub(first),
+        _ => third,
+    }
+}
+
 /// The row of a channel; none outside.
-fn row_of<'a>(channels: &'a [AlignedGrid<i32>], channel: usize, y: usize) -> &'a [i32] {
+pub(crate) fn row_of<'a>(channels: &'a [AlignedGrid<i32>], channel: usize, y: usize) -> &'a [i32] {
     match channels.get(channel) {
         Some(grid) if y < grid.height() => grid.get_row(y),
         _ => &[],
@@ -47,26 +77,41 @@ fn row_of<'a>(channels: &'a [AlignedGrid<i32>], channel: usize, y: usize) -> &'a
 }
 
 impl Source<'_> {
-    /// Adds a row of luma or a difference.
-    fn add_luma(self, row: &mut Vec<i32>, channel: usize, y: usize) -> Result<(), OutOfMemory> {
-        let red = row_of(self.channels, 0, y);
-        let green = row_of(self.channels, 1, y);
-        let blue = row_of(self.channels, 2, y);
-        for x in 0..red.len() {
-            let green = green.get(x).copied().unwrap_or(0);
-            let blue = blue.get(x).copied().unwrap_or(0);
-            row.push(luma(channel, red[x], green, blue))?;
+    /// The height of a channel; 0, if there is none of this number.
+    pub fn height(self, channel: usize) -> usize {
+        match self.channels.get(channel) {
+            Some(grid) => grid.height(),
+            None => 0,
+        }
+    }
+
+    /// Adds a row of a channel that a colour transform makes.
+    fn add_formed(
+        self,
+        row: &mut Vec<i32>,
+        kind: u32,
+        channel: usize,
+        y: usize,
+    ) -> Result<(), OutOfMemory> {
+        let [first, second, third] = order_of(kind);
+        let first = row_of(self.channels, first, y);
+        let second = row_of(self.channels, second, y);
+        let third = row_of(self.channels, third, y);
+        for x in 0..first.len() {
+            let second = second.get(x).copied().unwrap_or(0);
+            let third = third.get(x).copied().unwrap_or(0);
+            row.push(formed(kind, channel, first[x], second, third))?;
         }
         Ok(())
     }
 
     /// Puts a row of a channel in the place of another.
-    fn copy(self, row: &mut Vec<i32>, channel: usize, y: usize) -> Result<(), OutOfMemory> {
+    pub fn copy(self, row: &mut Vec<i32>, channel: usize, y: usize) -> Result<(), OutOfMemory> {
         row.truncate(0);
-        if self.luma && channel < 3 {
-            return self.add_luma(row, channel, y);
+        match self.colour {
+            Some(kind) if channel < 3 => self.add_formed(row, kind, channel, y)?,
+            _ => row.extend_from_slice(row_of(self.channels, channel, y))?,
         }
-        row.extend_from_slice(row_of(self.channels, channel, y))?;
         Ok(())
     }
 }

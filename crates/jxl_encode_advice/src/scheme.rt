@@ -22,6 +22,13 @@ pub struct Scheme {
     pub cost: u64,
 }
 
+impl Scheme {
+    /// The cheaper of two.
+    pub fn or_cheaper(self, other: Scheme) -> Scheme {
+        if other.cost < self.cost { other } else { self }
+    }
+}
+
 /// The number of the greatest count.
 fn top_of(counts: &[u32]) -> usize {
     let mut top: usize = 0;

@@ -9,7 +9,7 @@ pub(crate) const SYMBOLS: usize = 72;
 const DIRECT: u32 = 16;
 
 /// The symbol of a residual.
-pub(crate) fn symbol_of(residual: i32) -> usize {
+pub fn symbol_of(residual: i32) -> usize {
     let value = pack(residual);
     if value < DIRECT {
         return value as usize;

@@ -141,14 +141,14 @@ impl Table {
 }
 
 /// Sets all counts to 0.
-pub(crate) fn clear(counts: &mut [u32]) {
+pub fn clear(counts: &mut [u32]) {
     for count in counts.iter_mut() {
         *count = 0;
     }
 }
 
 /// A list of zeros, one for each symbol of this number of lists.
-pub(crate) fn zeros(alloc: Global, lists: usize) -> Result<Vec<u32>, OutOfMemory> {
+pub fn zeros(alloc: Global, lists: usize) -> Result<Vec<u32>, OutOfMemory> {
     let list = vec![in alloc; 0; lists.saturating_mul(SYMBOLS).min(MAX_COUNTS)]?;
     Ok(list)
 }

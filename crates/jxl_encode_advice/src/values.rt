@@ -17,34 +17,65 @@ const MAX_VALUES: usize = 12;
 const MAX_CLUSTERS: usize = 32;
 
 /// The most classes of samples.
-const MAX_CLASSES: usize = 20000;
+const MAX_CLASSES: usize = 24000;
 
-/// The slopes that samples are told apart by, each by its sign.
+/// The most values of which each slope is told apart.
+const MAX_APART: usize = 3;
+
+/// The slopes that samples are told apart by.
 const SLOPES: [u32; 4] = [14, 13, 11, 12];
+
+/// The number of values below a sample.
+fn rank(values: &[i32], sample: i32) -> usize {
+    let mut below: usize = 0;
+    for value in values {
+        if *value < sample {
+            below = below.saturating_add(1);
+        }
+    }
+    below
+}
 
 /// Adds the values of these samples in rising order. Returns false where there would be too many.
 fn add_values(values: &mut Vec<i32>, samples: &[i32]) -> Result<bool, OutOfMemory> {
     for sample in samples {
-        if !values.iter().any(|value| *value == *sample) {
+        let at = rank(values, *sample).min(values.len());
+        if values.get(at).copied() != Some(*sample) {
             if values.len() >= MAX_VALUES {
                 return Ok(false);
             }
-            let below = values.iter().filter(|value| **value < *sample).count();
-            let at = below.min(values.len());
             values.insert(at, *sample)?;
         }
     }
     Ok(true)
 }
 
-/// The values of all samples in rising order; none, if there are too many.
+/// Adds the values of a channel's samples in rising order. Returns false where there would be too many.
+fn add_values_of(
+    values: &mut Vec<i32>,
+    row: &mut Vec<i32>,
+    source: Source<'_>,
+    channel: usize,
+) -> Result<bool, OutOfMemory> {
+    for y in 0..source.height(channel) {
+        source.copy(row, channel, y)?;
+        if !add_values(values, row)? {
+            return Ok(false);
+        }
+    }
+    Ok(true)
+}
+
+/// The values of the first channels' samples in rising order; none, if there are too many.
 fn values_of(
     alloc: Global,
-    channels: &[AlignedGrid<i32>],
+    source: Source<'_>,
+    count: usize,
 ) -> Result<Option<Vec<i32>>, OutOfMemory> {
     let mut values = Vec::new(alloc);
-    for channel in channels {
-        if !add_values(&mut values, channel.buf())? {
+    let mut row = Vec::new(alloc);
+    for channel in 0..count {
+        if !add_values_of(&mut values, &mut row, source, channel)? {
             return Ok(None);
         }
     }
@@ -53,11 +84,16 @@ fn values_of(
 
 /// Counts the samples of a row.
 fn add_row(table: &mut Table, values: &[i32], channel: i32, rows: &Rows) {
+    let mut last = Near::of(channel, rows, 0);
+    let mut class = last.class(&table.axes);
     for x in 0..rows.here.len() {
-        let class = Near::of(channel, rows, x).class(&table.axes);
+        let near = Near::of(channel, rows, x);
+        if near != last {
+            class = near.class(&table.axes);
+            last = near;
+        }
         let sample = rows.here[x];
-        let rank = values.iter().filter(|value| **value < sample).count();
-        table.add(class, 0, rank);
+        table.add(class, 0, rank(values, sample));
     }
 }
 
@@ -66,18 +102,10 @@ fn add_channel(
     table: &mut Table,
     rows: &mut Rows,
     values: &[i32],
-    channels: &[AlignedGrid<i32>],
+    source: Source<'_>,
     channel: usize,
 ) -> Result<(), OutOfMemory> {
-    let source = Source {
-        channels,
-        luma: false,
-    };
-    let height = match channels.get(channel) {
-        Some(grid) => grid.height(),
-        None => 0,
-    };
-    for y in 0..height {
+    for y in 0..source.height(channel) {
         rows.go(source, channel, y)?;
         add_row(table, values, channel.min(255) as i32, rows);
     }
@@ -94,35 +122,63 @@ fn add_axis(axes: &mut Vec<Axis>, axis: Axis, classes: usize) -> Result<usize, O
     Ok(more)
 }
 
-/// The axes of samples of these values in this number of channels: samples by their value, slopes by their sign.
+/// Adds the differences of these values to another in rising order.
+fn add_differences(list: &mut Vec<i32>, values: &[i32], value: i32) -> Result<(), OutOfMemory> {
+    for other in values {
+        let _ = add_values(list, &[other.wrapping_sub(value)])?;
+    }
+    Ok(())
+}
+
+/// The cuts between slopes of samples of these values: between all differences, if the values are few, or between signs.
+fn slope_cuts(alloc: Global, values: &[i32]) -> Result<Vec<i32>, OutOfMemory> {
+    let mut cuts = Vec::new(alloc);
+    if values.len() > MAX_APART {
+        cuts.extend_from_slice(&[-1, 0])?;
+        return Ok(cuts);
+    }
+    for value in values {
+        add_differences(&mut cuts, values, *value)?;
+    }
+    cuts.truncate(cuts.len().saturating_sub(1));
+    Ok(cuts)
+}
+
+/// The axes of samples of these values in this number of channels: samples by their value, and slopes.
 fn axes_of(alloc: Global, values: &[i32], channels: usize) -> Result<Vec<Axis>, OutOfMemory> {
+    let cuts = match values.split_last() {
+        Some((_, cuts)) => cuts,
+        None => &[],
+    };
+    let slopes = slope_cuts(alloc, values)?;
     let mut axes = Vec::new(alloc);
     let mut classes = 1;
     if channels > 1 {
         classes = add_axis(&mut axes, Axis::new(alloc, 0, &[0, 1, 2])?, classes)?;
-        classes = add_axis(&mut axes, Axis::new(alloc, 17, values)?, classes)?;
+        classes = add_axis(&mut axes, Axis::new(alloc, 17, cuts)?, classes)?;
     }
-    classes = add_axis(&mut axes, Axis::new(alloc, 7, values)?, classes)?;
-    classes = add_axis(&mut axes, Axis::new(alloc, 6, values)?, classes)?;
+    classes = add_axis(&mut axes, Axis::new(alloc, 7, cuts)?, classes)?;
+    classes = add_axis(&mut axes, Axis::new(alloc, 6, cuts)?, classes)?;
     for slope in &SLOPES {
-        classes = add_axis(&mut axes, Axis::new(alloc, *slope, &[-1, 0])?, classes)?;
+        classes = add_axis(&mut axes, Axis::new(alloc, *slope, &slopes)?, classes)?;
     }
     Ok(axes)
 }
 
-/// The scheme of a picture of few values; none, if it has too many.
-pub fn scheme_by_values(
+/// The scheme of the first channels of a picture, of few values; none, if they have too many.
+pub fn scheme_of_values(
     alloc: Global,
-    channels: &[AlignedGrid<i32>],
+    source: Source<'_>,
+    count: usize,
 ) -> Result<Option<Scheme>, OutOfMemory> {
-    let Some(values) = values_of(alloc, channels)? else {
+    let Some(values) = values_of(alloc, source, count)? else {
         return Ok(None);
     };
-    let axes = axes_of(alloc, &values, channels.len())?;
+    let axes = axes_of(alloc, &values, count)?;
     let mut table = Table::new(alloc, axes, 1, values.len())?;
     let mut rows = Rows::new(alloc);
-    for channel in 0..channels.len() {
-        add_channel(&mut table, &mut rows, &values, channels, channel)?;
+    for channel in 0..count {
+        add_channel(&mut table, &mut rows, &values, source, channel)?;
     }
     let prices = Prices {
         scale: 1,
@@ -133,4 +189,16 @@ pub fn scheme_by_values(
     };
     let scheme = scheme_of(alloc, &table, prices, &values, MAX_CLUSTERS)?;
     Ok(Some(scheme))
+}
+
+/// The scheme of a picture of few values; none, if it has too many.
+pub fn scheme_by_values(
+    alloc: Global,
+    channels: &[AlignedGrid<i32>],
+) -> Result<Option<Scheme>, OutOfMemory> {
+    let source = Source {
+        channels,
+        colour: None,
+    };
+    scheme_of_values(alloc, source, channels.len())
 }
