@@ -210,7 +210,7 @@ fn care_of(effort: Effort) -> (usize, Care) {
             Care {
                 samples: 1 << 15,
                 clusters: 8,
-                colours: 256,
+                colours: 1024,
             },
         ),
         Effort::Usual => (
