@@ -208,7 +208,7 @@ fn care_of(effort: Effort) -> (usize, Care) {
         Effort::Fast => (
             2,
             Care {
-                samples: 1 << 15,
+                samples: 1 << 17,
                 clusters: 8,
                 colours: 1024,
             },
