@@ -27,6 +27,13 @@ pub enum Task {
     Nothing,
 }
 
+const PIXELS_HELP: &str = "The maximum number of pixels [default: 268435456]";
+
+const BYTES_HELP: &str = "The maximum number of bytes of samples, four each [default: 2147483648]";
+
+const CODEWORDS_HELP: &str =
+    "The maximum number of codewords of sections' own codes [default: 67108864]";
+
 /// What is asked for.
 #[derive(Clone, Copy)]
 pub struct Options<'a> {
@@ -139,25 +146,10 @@ pub fn command<'a>(alloc: Global) -> Result<Command<'a>, AllocError> {
             "Where to write the XMP data; without --output, no picture is written"
         ),
         format(alloc),
-        limit(
-            alloc,
-            "pixels",
-            "max-pixels",
-            "The maximum number of pixels [default: 268435456]",
-        ),
-        limit(
-            alloc,
-            "bytes",
-            "max-bytes",
-            "The maximum number of bytes of samples, four each [default: 2147483648]",
-        ),
+        limit(alloc, "pixels", "max-pixels", PIXELS_HELP),
+        limit(alloc, "bytes", "max-bytes", BYTES_HELP),
         decisions(alloc),
-        limit(
-            alloc,
-            "codewords",
-            "max-codewords",
-            "The maximum number of codewords of sections' own codes [default: 67108864]",
-        ),
+        limit(alloc, "codewords", "max-codewords", CODEWORDS_HELP),
         quiet(alloc),
     ]?;
     Command::new(alloc, "jxldec")
