@@ -15,5 +15,6 @@ pub mod BucketSlots
 pub mod SomeSpelling
 mod SortedSymbols
 mod LookupEntries
+mod CodewordBits
 mod FullCodes
 pub mod AcceptedCodes
