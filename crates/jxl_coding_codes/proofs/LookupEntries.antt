@@ -135,14 +135,11 @@ module _ (bytes : List ℕ) (p n v q : ℕ) (h : number_at bytes p n ≡ Ok (rec
   unfolding number_at
   parts = by_room (nat_lt (8 * length bytes) (p + n)) refl h
 
-  room_of : p + n ≤ 8 * length bytes
+  pub room_of : p + n ≤ 8 * length bytes
   room_of = parts.0
 
   value_of : bits_at bytes p n ≡ v
   value_of = parts.1.0
-
-  end_of : q ≡ p + n
-  end_of = parts.1.1
 
 module _ (counts symbols : List ℕ) (start : ℕ) where
   -- an entry by the bits of its number
@@ -182,8 +179,8 @@ module _ (counts symbols : List ℕ) (start : ℕ) where
       subst (λ (x : Entry). Tells counts symbols start (bits_at bytes p w) x) (sym at) (rw value (all next e within))
 
   -- the next bits tell a codeword
-  pub told : (bytes : List ℕ) (p w v q : ℕ) (e : Entry) → Tells counts symbols start (bits_at bytes p w) e → 0 < e.length → e.length ≤ w →
-      number_at bytes p e.length ≡ Ok (record { value = v; position = q }) → codeword_at counts symbols 0 start bytes p ≡ Ok (record { value = e.symbol; position = q })
-  told bytes p w v q e tells some le h =
-      let room = room_of bytes p e.length v q h in
-      rw (end_of bytes p e.length v q h) (tells some bytes p room (sym (low_part bytes p e.length w le)))
+  pub told : (bytes : List ℕ) (p w q : ℕ) (e : Entry) → Tells counts symbols start (bits_at bytes p w) e → 0 < e.length → e.length ≤ w → p + w ≤ 8 * length bytes → q ≡ p + e.length →
+      codeword_at counts symbols 0 start bytes p ≡ Ok (record { value = e.symbol; position = q })
+  told bytes p w q e tells some le room end =
+      let here : p + e.length ≤ 8 * length bytes = omega (arith, le, room) in
+      rw end (tells some bytes p here (sym (low_part bytes p e.length w le)))

@@ -189,6 +189,7 @@ impl Lookup {
             → IfSome result (Tells counts symbols start
             (bits_at (bytes_of bits.now) (position_of bits.now) self.now.width)) }
         ensures short { IfSome result (λ entry. entry.length ≤ self.now.width) }
+        ensures room { IfSome result (λ _. position_of bits.now + self.now.width ≤ 8 * length (bytes_of bits.now)) }
     {
         let mut ahead = *bits;
         match number(&mut ahead, self.width) {
@@ -216,9 +217,7 @@ impl Lookup {
         if entry.length == 0 {
             return None;
         }
-        match number(bits, u32::from(entry.length)) {
-            Ok(_) => Some(u32::from(entry.symbol)),
-            Err(_) => None,
-        }
+        bits.skip(u64::from(entry.length));
+        Some(u32::from(entry.symbol))
     }
 }
