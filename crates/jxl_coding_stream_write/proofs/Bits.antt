@@ -1,7 +1,7 @@
 -- Bits that were written from the last to the first.
 use Rattle.std.proofs.Common.{◌≡◌, ℕ, ◌+◌, ◌-◌, ◌*◌, ◌/◌, ◌%◌, ◌^◌, ◌<◌, ◌≤◌, List, [], ◌∷◌, ◌++◌, length, get_or, drop, sym, ap, ◌∙◌, arith, append_assoc}
 use Rattle.std.proofs.lemmas.List.{append-nil, drop_more, drop_all}
-use Rattle.std.proofs.lemmas.Nat.{pow_pos, pow-add, shr_high, mul-mod_first, div-add-mod'}
+use Rattle.std.proofs.lemmas.Nat.{pow_pos, pow-add, shr_high, mul-mod_first, mod_below, mod-pow-add, shr-shr, div-add-mod'}
 use Rattle.std.proofs.Math.Nat.{add-mul-mod_self_right, add-mul, mul_assoc, mul_comm, mul-le-mul_left}
 use Rattle.jxlm_bit_writer.specs.Written.{digits}
 use Rattle.jxlm_bit_writer.proofs.BitLists.{digits_low}
@@ -78,26 +78,64 @@ module _ (value n number : ℕ) (small : number < 2 ^ 32) where
       ∙ ap (λ x. (((value + (18446744073709551616 - lead)) % 18446744073709551616 * 2 ^ n % 18446744073709551616) + x) % 18446744073709551616 % 18446744073709551616) f
       ∙ lowest_wrapped
 
--- the last 32 bits are a word
-pub word_kept : (value count : ℕ) (words new : List ℕ) → 32 ≤ count → new ≡ words ++ value / 2 ^ (count - 32) % 4294967296 ∷ [] → digits (count - 32) value ++ words_back new ≡ digits count value ++ words_back words
-word_kept value count words new full e =
-    let rest : ℕ = count - 32 in
-    let word : ℕ = value / 2 ^ rest in
-    let all : rest + 32 ≡ count = omega (arith, full) in
-    ap (λ xs. digits rest value ++ xs) (ap words_back e ∙ words_and_one words (word % 4294967296) ∙ ap (λ xs. xs ++ words_back words) (digits_mod 32 word))
-    ∙ sym (append_assoc (digits rest value) (digits 32 word) (words_back words))
-    ∙ ap (λ xs. xs ++ words_back words) (sym (digits_split rest 32 value) ∙ ap (λ k. digits k value) all)
-  where
-    words_and_one : (xs : List ℕ) (w : ℕ) → words_back (xs ++ w ∷ []) ≡ digits 32 w ++ words_back xs
-    words_and_one [] w = sym (append-nil (digits 32 w))
-    words_and_one (x ∷ xs) w = ap (λ (ys : List ℕ). ys ++ digits 32 x) (words_and_one xs w) ∙ append_assoc (digits 32 w) (words_back xs) (digits 32 x)
+-- the words with one more
+words_and_one : (words : List ℕ) (word : ℕ) → words_back (words ++ word ∷ []) ≡ digits 64 word ++ words_back words
+words_and_one [] word = sym (append-nil (digits 64 word))
+words_and_one (x ∷ words) word = ap (λ (xs : List ℕ). xs ++ digits 64 x) (words_and_one words word) ∙ append_assoc (digits 64 word) (words_back words) (digits 64 x)
+
+-- if the lowest n bits of a number come before others, the last 64 of them all are a word
+module _ (value count n number : ℕ) (small : number < 2 ^ 32) (few : count < 64) (full : 64 ≤ count + n) where
+  abbrev rest : ℕ
+  rest = count + n - 64
+
+  abbrev last : ℕ
+  last = 64 - count
+
+  abbrev high : ℕ
+  high = value * 2 ^ last + number / 2 ^ rest % 2 ^ last
+
+  two_parts : value * 2 ^ n + number % 2 ^ n ≡ high * 2 ^ rest + number % 2 ^ rest
+  two_parts =
+      let e : n ≡ last + rest = omega (arith, few, full) in
+      let p : 2 ^ n ≡ 2 ^ last * 2 ^ rest = ap (λ k. 2 ^ k) e ∙ pow-add 2 last rest in
+      let a : value * 2 ^ n ≡ value * 2 ^ last * 2 ^ rest = ap (λ x. value * x) p ∙ sym (mul_assoc value (2 ^ last) (2 ^ rest)) in
+      let b : number % 2 ^ n ≡ number / 2 ^ rest % 2 ^ last * 2 ^ rest + number % 2 ^ rest = ap (λ k. number % 2 ^ k) e ∙ mod-pow-add number last rest in
+      let d : high * 2 ^ rest ≡ value * 2 ^ last * 2 ^ rest + number / 2 ^ rest % 2 ^ last * 2 ^ rest = add-mul (value * 2 ^ last) (number / 2 ^ rest % 2 ^ last) (2 ^ rest) in
+      omega (arith, a, b, d)
+
+  halves : digits n (number % 2 ^ n) ++ digits count value ≡ digits rest number ++ digits 64 high
+  halves =
+      let e : count + n ≡ 64 + rest = omega (arith, full) in
+      sym (sum_digits value count n (number % 2 ^ n) (mod_below number (2 ^ n) (pow_pos n)))
+      ∙ ap (digits (count + n)) two_parts
+      ∙ ap (λ k. digits k (high * 2 ^ rest + number % 2 ^ rest)) e
+      ∙ sum_digits high 64 rest (number % 2 ^ rest) (mod_below number (2 ^ rest) (pow_pos rest))
+      ∙ ap (λ xs. xs ++ digits 64 high) (digits_mod rest number)
+
+  lead_is : number / 2 ^ n ≡ number / 2 ^ rest / 2 ^ last
+  lead_is = let e : n ≡ rest + last = omega (arith, few, full) in ap (λ k. number / 2 ^ k) e ∙ sym (shr-shr number rest last)
+
+  -- the word, as the machine computes it
+  pub word_same : (l m : ℕ) → l ≡ number / 2 ^ n → m ≡ number / 2 ^ rest →
+      (((value + (18446744073709551616 - l)) % 18446744073709551616 * 2 ^ last % 18446744073709551616) + m) % 18446744073709551616 % 18446744073709551616 ≡ high % 18446744073709551616
+  word_same l m e f = lowest_wrapped_by value last (number / 2 ^ rest) (lead_small value rest number small) l m (e ∙ lead_is) f
+
+  pub word_kept : (word kept : ℕ) (words new : List ℕ) → word % 18446744073709551616 ≡ high % 18446744073709551616 → kept ≡ number → new ≡ words ++ word ∷ [] →
+      digits rest kept ++ words_back new ≡ digits n (number % 2 ^ n) ++ (digits count value ++ words_back words)
+  word_kept word kept words new same k e =
+      ap (λ x. digits rest x ++ words_back new) k
+      ∙ ap (λ xs. digits rest number ++ words_back xs) e
+      ∙ ap (λ xs. digits rest number ++ xs) (words_and_one words word ∙ ap (λ xs. xs ++ words_back words) (sym (digits_mod 64 word) ∙ ap (digits 64) same ∙ digits_mod 64 high))
+      ∙ sym (append_assoc (digits rest number) (digits 64 high) (words_back words))
+      ∙ ap (λ xs. xs ++ words_back words) (sym halves)
+      ∙ append_assoc (digits n (number % 2 ^ n)) (digits count value) (words_back words)
 
 -- a piece of no bits
 pub none_before : (n piece : ℕ) (bits : List ℕ) → n ≡ 0 → bits ≡ digits n piece ++ bits
 none_before n piece bits e = sym (ap (λ k. digits k piece ++ bits) e)
 
 -- the words from one on
-words_one_more : (words : List ℕ) (k : ℕ) → k < length words → words_back (drop k words) ≡ words_back (drop (k + 1) words) ++ digits 32 (get_or words k 0)
+words_one_more : (words : List ℕ) (k : ℕ) → k < length words → words_back (drop k words) ≡ words_back (drop (k + 1) words) ++ digits 64 (get_or words k 0)
 words_one_more words k lt = ap words_back (drop_more words k 0 lt)
 
 -- words from the end on
@@ -105,14 +143,14 @@ pub put_none : (start words : List ℕ) → start ≡ start ++ words_back (drop 
 put_none start words = sym (ap (λ (xs : List ℕ). start ++ words_back xs) (drop_all (length words - 0) words (omega arith)) ∙ append-nil start)
 
 pub put_more : (start a b words : List ℕ) (i : ℕ) → i < length words → a ≡ start ++ words_back (drop (length words - i) words) →
-    b ≡ a ++ digits 32 (get_or words (length words - 1 - i) 0) → b ≡ start ++ words_back (drop (length words - (i + 1)) words)
+    b ≡ a ++ digits 64 (get_or words (length words - 1 - i) 0) → b ≡ start ++ words_back (drop (length words - (i + 1)) words)
 put_more start a b words i lt so_far more =
     let word : ℕ = get_or words (length words - 1 - i) 0 in
     let k : length words - 1 - i + 1 ≡ length words - i = omega (arith, lt) in
     let m : length words - 1 - i ≡ length words - (i + 1) = omega arith in
-    let e : words_back (drop (length words - (i + 1)) words) ≡ words_back (drop (length words - i) words) ++ digits 32 word =
-    ap (λ (n : ℕ). words_back (drop n words)) (sym m) ∙ words_one_more words (length words - 1 - i) (omega (arith, lt)) ∙ ap (λ (n : ℕ). words_back (drop n words) ++ digits 32 word) k in
-    more ∙ ap (λ (xs : List ℕ). xs ++ digits 32 word) so_far ∙ append_assoc start (words_back (drop (length words - i) words)) (digits 32 word)
+    let e : words_back (drop (length words - (i + 1)) words) ≡ words_back (drop (length words - i) words) ++ digits 64 word =
+    ap (λ (n : ℕ). words_back (drop n words)) (sym m) ∙ words_one_more words (length words - 1 - i) (omega (arith, lt)) ∙ ap (λ (n : ℕ). words_back (drop n words) ++ digits 64 word) k in
+    more ∙ ap (λ (xs : List ℕ). xs ++ digits 64 word) so_far ∙ append_assoc start (words_back (drop (length words - i) words)) (digits 64 word)
     ∙ ap (λ (xs : List ℕ). start ++ xs) (sym e)
 
 pub put_all : (start a words : List ℕ) (i : ℕ) → length words ≤ i → a ≡ start ++ words_back (drop (length words - i) words) → a ≡ start ++ words_back words
@@ -121,3 +159,12 @@ put_all start a words i le e = let z : length words - i ≡ 0 = omega (arith, le
 -- two additions are one
 pub joined : (a b d first rest : List ℕ) → b ≡ a ++ first → d ≡ b ++ rest → d ≡ a ++ (first ++ rest)
 joined a b d first rest e f = f ∙ ap (λ (xs : List ℕ). xs ++ rest) e ∙ append_assoc a first rest
+
+-- the digits of a number in two additions
+pub put_both : (start a b : List ℕ) (count value : ℕ) → 32 < count → a ≡ start ++ digits 32 (value % 4294967296) → b ≡ a ++ digits (count - 32) (value / 4294967296 % 4294967296) → count < 64 → b ≡ start ++ digits count value
+put_both start a b count value full e f few =
+    let all : 32 + (count - 32) ≡ count = omega (arith, full) in
+    joined start a b (digits 32 (value % 4294967296)) (digits (count - 32) (value / 4294967296 % 4294967296)) e f
+    ∙ ap (λ xs. start ++ (xs ++ digits (count - 32) (value / 4294967296 % 4294967296))) (digits_mod 32 value)
+    ∙ ap (λ xs. start ++ (digits 32 value ++ xs)) (digits_wrapped (count - 32) 32 (value / 4294967296) (omega (arith, few)))
+    ∙ ap (λ xs. start ++ xs) (sym (digits_split 32 (count - 32) value) ∙ ap (λ k. digits k value) all)

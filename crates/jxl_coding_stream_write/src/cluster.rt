@@ -29,12 +29,16 @@ pub struct ClusterWriter {
     pub(crate) split: u32,
     // Tokens below it are their own symbols, and these are not the only one.
     pub(crate) coded: u32,
+    // Tokens above it have bits after their symbols, which have none of the lowest bits.
+    pub(crate) upper: u32,
     // The symbols of a leading one at the split, in steps of its next bits, less one.
     pub(crate) steps: u32,
     ghost rule: { IsConfig config },
     ghost is_only: { only ≡ only_from 0 slots.counts.items },
     ghost split_is: { split ≡ 2 ^ config.split_exponent },
     ghost steps_is: { steps + 1 ≡ 2 ^ (config.split_exponent - (config.msb_in_token + config.lsb_in_token)) },
+    ghost upper_is: { (token : ℕ) → token < 2 ^ 32 → upper < token
+        → (config.lsb_in_token ≡ 0) × (2 ^ config.split_exponent ≤ token) },
     ghost coded_none: { only ≡ None → coded ≡ split },
     ghost coded_some: { (symbol : ℕ) → only ≡ Some symbol → coded ≡ 0 },
 }
@@ -48,6 +52,14 @@ fn coded_below(only: Option<u32>, split: u32) -> u32
         Some(_) => 0,
         None => split,
     }
+}
+
+/// The tokens above this are not below the split, and their symbols have `low` of the lowest bits, which is 0.
+fn upper_from(low: u32, split: u32) -> u32
+    requires { 0 < split }
+    ensures { (token : ℕ) → token < 2 ^ 32 → result < token → (low ≡ 0) × (split ≤ token) }
+{
+    if low == 0 { split - 1 } else { u32::MAX }
 }
 
 impl ClusterWriter {
@@ -78,6 +90,7 @@ impl ClusterWriter {
             only,
             split,
             coded: coded_below(only, split),
+            upper: upper_from(config.lsb_in_token, split),
             steps: power(config.split_exponent - known) - 1,
         })
     }
@@ -112,7 +125,7 @@ impl ClusterWriter {
     #[inline(always)]
     pub(crate) fn prepend_rest(
         &self,
-        words: &mut Vec<u32>,
+        words: &mut Vec<u64>,
         first: FirstBits,
         token: u32,
     ) -> Result<FirstBits, AllocError>

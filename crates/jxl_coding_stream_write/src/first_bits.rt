@@ -2,10 +2,10 @@
 
 ghost use Rattle.std.specs.Prelude.{◌<◌};
 
-/// The first bits of those that were written, fewer than 32: the lowest of a number, the least significant first.
+/// The first bits of those that were written, fewer than 64: the lowest of a number, the least significant first.
 #[derive(Clone, Copy)]
 pub(crate) struct FirstBits {
     pub(crate) value: u64,
     pub(crate) count: u32,
-    ghost few: { count < 32 },
+    ghost few: { count < 64 },
 }

@@ -61,6 +61,17 @@ impl BitWriter {
         Ok(())
     }
 
+    /// Adds the 64 bits of a number, the least significant first.
+    #[inline]
+    pub fn put_word(&mut self, word: u64) -> Result<(), AllocError>
+        ensures { IfOk result (λ _. self.new ≡ self.old ++ digits 64 word) }
+    {
+        let low = self.held.wrapping_add(word << self.count);
+        self.bytes.extend_from_slice(&low.to_le_bytes())?;
+        self.held = (word >> 32) >> (32 - self.count);
+        Ok(())
+    }
+
     /// The bytes, the first bit the least significant of the first byte; zero bits fill the last byte.
     pub fn into_bytes(self) -> Result<Vec<u8>, AllocError>
         ensures { IfOk result (λ v. AreFilled v.items self) }

@@ -1,12 +1,18 @@
 use Rattle.std.proofs.Common.{◌%◌, ◌^◌, ◌∙◌, arith}
 use Rattle.std.proofs.lemmas.Nat.{pow_pos, mod_below}
-use Rattle.jxl_coding_stream_write.proofs.Bits.{held_before, lowest_wrapped_by}
+use Rattle.jxl_coding_stream_write.proofs.Bits.{held_before, lowest_wrapped_by, word_kept, word_same}
 use Rattle.jxl_coding_stream_write.proofs.back.prepend_lowest.Goals as goal
+
+pub returns-then-count-lt64 : goal.returns-then-count-lt64
+returns-then-count-lt64 c =
+    let t = c.if-count-lt64.true in
+    held_before c.args.first.value c.args.first.count c.args.width (c.args.number % 2 ^ c.args.width) (mod_below c.args.number (2 ^ c.args.width) (pow_pos c.args.width)) _ c.args.words.now.items (omega (arith, t))
+    (lowest_wrapped_by c.args.first.value c.args.width c.args.number c.ranges.number.fits c.from.result c.from-then-count-lt64.result (c.from.ensures ∙ c.requires.lead) c.from-then-count-lt64.ensures)
 
 pub returns : goal.returns
 returns c =
     let few = c.args.first.few in
-    let most = c.requires.width in
-    c.in_ok-first.ensures
-    ∙ held_before c.args.first.value c.args.first.count c.args.width (c.args.number % 2 ^ c.args.width) (mod_below c.args.number (2 ^ c.args.width) (pow_pos c.args.width)) _ c.args.words.now.items (omega (arith, few, most))
-    (lowest_wrapped_by c.args.first.value c.args.width c.args.number c.ranges.number.fits c.from.result c.from-2.result (c.from.ensures ∙ c.requires.lead) c.from-2.ensures)
+    let full = c.if-count-lt64.false in
+    word_kept c.args.first.value c.args.first.count c.args.width c.args.number c.ranges.number.fits c.args.first.few (omega (arith, full)) _ c.from-3.result c.args.words.now.items c.push.new.self.items
+    (word_same c.args.first.value c.args.first.count c.args.width c.args.number c.ranges.number.fits c.args.first.few (omega (arith, full)) c.from.result c.from-2.result (c.from.ensures ∙ c.requires.lead) c.from-2.ensures)
+    c.from-3.ensures c.in_ok-push.ensures.items

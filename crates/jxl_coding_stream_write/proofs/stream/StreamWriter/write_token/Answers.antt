@@ -10,10 +10,10 @@ returns-then-token-code-clause-reads c = λ tokens reads.
     c.args.after.state (bits_back c.args.after.first c.args.words.now.items) c.if-token-code.true
     c.in_ok-before.before.state l.0 l.1 l.2 (bits_back c.in_ok-before.before.first c.write_symbol.new.words.items) l.3 tokens reads
 
-pub returns-then-token-code-2-clause-reads : goal.returns-then-token-code-2-clause-reads
-returns-then-token-code-2-clause-reads c = λ tokens reads.
+pub returns-then-token-code-3-clause-reads : goal.returns-then-token-code-3-clause-reads
+returns-then-token-code-3-clause-reads c = λ tokens reads.
     only_read c.args.self.now c.args.token c.requires.slot c.index-codes-token.result (c.index-codes-token.is ∙ ap (λ xs. get_or xs c.args.token.cluster c.index-codes-token.result) c.requires.codes)
-    c.args.after.state (bits_back c.args.after.first c.args.words.now.items) c.if-token-code.false c.if-token-code-2.true
+    c.args.after.state (bits_back c.args.after.first c.args.words.now.items) c.if-token-code.false c.if-token-code-3.true
     tokens reads
 
 pub returns-then-is_some-clause-reads : goal.returns-then-is_some-clause-reads
