@@ -1,7 +1,7 @@
 -- The slots of symbols, as lists of counts and of starts.
-use Rattle.std.proofs.Common.{◌≡◌, ℕ, ◌+◌, ◌<◌, ◌≤◌, List, [], ◌∷◌, ◌++◌, length, map, get_or, take, slice_index, sym, ap, ◌∙◌, subst, arith, below_more}
+use Rattle.std.proofs.Common.{◌≡◌, ℕ, ◌+◌, ◌<◌, ◌≤◌, List, [], ◌∷◌, ◌++◌, length, map, get_or, take, slice_index, sym, ap, ◌∙◌, arith, below_more}
 use Rattle.std.specs.List.{sum}
-use Rattle.std.proofs.lemmas.List.{length-map, get_or-map, get_or_append_left, get_or_push, length-take-le, length_push, map_push, take_more, take_all}
+use Rattle.std.proofs.lemmas.List.{length-map, get_or-map, get_or_append_left, get_or_push, length-take-le, map_push, take_more, take_all}
 use Rattle.jxl_coding_write.proofs.SumsBefore.{occurs}
 use Rattle.jxl_coding_write.specs.declared.slot_table.SymbolSlots.{SymbolSlots}
 

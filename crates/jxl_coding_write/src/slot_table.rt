@@ -12,13 +12,10 @@ use std::alloc::{AllocError, Global};
 /// The slots of a symbol, in a list of those of all symbols.
 #[derive(Clone, Copy)]
 pub(crate) struct SymbolSlots {
-    /// The states below it keep their bits before the symbol.
-    limit: u64,
     /// How many slots there are.
     count: u32,
     /// The number of slots of the symbols before it.
     start: u32,
-    ghost limit_is: { limit ≡ count * 1048576 },
 }
 
 /// The slots of a distribution, by symbol and number.
@@ -53,11 +50,7 @@ fn slots_after(start: u32, count: u32) -> SymbolSlots
     ensures count { result.count ≡ count }
     ensures start { result.start ≡ start }
 {
-    SymbolSlots {
-        limit: u64::from(count) * 1048576,
-        count,
-        start,
-    }
+    SymbolSlots { count, start }
 }
 
 /// The slots of each symbol.
@@ -179,7 +172,7 @@ impl SlotTable {
             state result.bits.count result.bits.value }
     {
         let slots = &self.symbols[symbol as usize];
-        if u64::from(state) < slots.limit {
+        if state / 1048576 < slots.count {
             return SymbolBits {
                 state: self.before(state, symbol, slots),
                 bits: BitPiece { value: 0, count: 0 },

@@ -1,4 +1,4 @@
-use Rattle.std.proofs.Common.{◌≡◌, ◌<◌, ◌*◌, slice_index, arith}
+use Rattle.std.proofs.Common.{◌≡◌, slice_index, arith}
 use Rattle.jxl_coding_write.proofs.SymbolLists.{symbol_inside, start_read, count_read}
 use Rattle.jxl_coding_write.proofs.WrittenSlots.{kept_leads, reduced_leads}
 use Rattle.jxl_coding_write.proofs.slot_table.SlotTable.write.Goals as goal
@@ -29,10 +29,8 @@ before-requires-2-clause-start c =
 
 pub before-requires-clause-small : goal.before-requires-clause-small
 before-requires-clause-small c =
-    let l : c.index-slots.result.now.limit ≡ c.index-slots.result.now.count * 1048576 = c.index-slots.result.now.limit_is in
-    let f = c.from.ensures in
-    let t = c.if-from-slots.true in
-    omega (arith, l, f, t)
+    let t = c.if-state-slots.true in
+    omega (arith, t)
 
 pub before-requires-2-clause-small : goal.before-requires-2-clause-small
 before-requires-2-clause-small c =
@@ -42,24 +40,20 @@ before-requires-2-clause-small c =
     let o = c.requires.occurs in
     omega (arith, n, o)
 
-pub returns-then-from-slots : goal.returns-then-from-slots
-returns-then-from-slots c =
+pub returns-then-state-slots : goal.returns-then-state-slots
+returns-then-state-slots c =
     let n : c.index-slots.result.now.count ≡ slice_index c.args.self.now.counts.items c.args.symbol =
     count_read c.args.self.now.symbols.items c.args.symbol c.index-slots.result.now (symbol_inside c.args.self.now.counts.items c.args.self.now.symbols.items c.args.symbol c.args.self.now.counted c.requires.occurs) c.index-slots.ensures
     c.args.self.now.counts.items c.args.self.now.counted in
-    let l : c.index-slots.result.now.limit ≡ c.index-slots.result.now.count * 1048576 = c.index-slots.result.now.limit_is in
-    let f = c.from.ensures in
-    let t = c.if-from-slots.true in
+    let t = c.if-state-slots.true in
     kept_leads c.args.self.now.counts.items c.args.self.now.log c.args.symbol c.args.state c.args.self.now.whole c.requires.occurs c.requires.least c.ranges.state.fits
-    c.index-slots.result.now.count c.before-then-from-slots.result c.before-then-from-slots.ensures.0 n (omega (arith, l, f, t)) c.before-then-from-slots.ensures.1 c.before-then-from-slots.ensures.2
+    c.index-slots.result.now.count c.before-then-state-slots.result c.before-then-state-slots.ensures.0 n (omega (arith, t)) c.before-then-state-slots.ensures.1 c.before-then-state-slots.ensures.2
 
 pub returns : goal.returns
 returns c =
     let n : c.index-slots.result.now.count ≡ slice_index c.args.self.now.counts.items c.args.symbol =
     count_read c.args.self.now.symbols.items c.args.symbol c.index-slots.result.now (symbol_inside c.args.self.now.counts.items c.args.self.now.symbols.items c.args.symbol c.args.self.now.counted c.requires.occurs) c.index-slots.ensures
     c.args.self.now.counts.items c.args.self.now.counted in
-    let l : c.index-slots.result.now.limit ≡ c.index-slots.result.now.count * 1048576 = c.index-slots.result.now.limit_is in
-    let f = c.from.ensures in
-    let t = c.if-from-slots.false in
+    let t = c.if-state-slots.false in
     reduced_leads c.args.self.now.counts.items c.args.self.now.log c.args.symbol c.args.state c.args.self.now.whole c.requires.occurs c.requires.least c.ranges.state.fits
-    c.index-slots.result.now.count c.before-2.result c.before-2.ensures.0 n (omega (arith, l, f, t)) c.before-2.ensures.1 c.before-2.ensures.2
+    c.index-slots.result.now.count c.before-2.result c.before-2.ensures.0 n (omega (arith, t)) c.before-2.ensures.1 c.before-2.ensures.2
