@@ -1,6 +1,6 @@
 //! Trees as the samples of one channel walk them, and what a leaf says.
 
-ghost use Rattle.std.specs.Prelude.{◌≡◌, ◌≢◌, ◌≤◌, ◌<◌, ◌+◌, ◌^◌, ℕ, ℤ, pos, false, length, true, ◌/◌, ◌⊎◌, IfOk, IfErr, IfSome, None};
+ghost use Rattle.std.specs.Prelude.{◌≡◌, ◌≢◌, ◌≤◌, ◌<◌, ◌+◌, ◌^◌, ℕ, ℤ, pos, false, length, true, ◌/◌, ◌⊎◌, IfOk, IfErr, IfSome, None, if◌then◌else◌};
 ghost use Rattle.std.proofs.Common.{reverse};
 ghost use Rattle.std.specs.Int.{w32, int_wrap};
 ghost use Rattle.jxlm_bits.specs.Bits.{bytes_of};
@@ -172,6 +172,18 @@ impl Side {
     }
 }
 
+// The place at which the walk goes on, at the left side or the right one. Both are asked, so that neither question
+// waits for the answer that chooses between them.
+#[inline(always)]
+fn end_of<P: PlaceProperties>(goes_left: bool, left: &Side, right: &Side, properties: &P) -> u32
+    requires { P.IsCurrent properties.now }
+    ensures { EndsAt P.gives properties.now (if goes_left then left.now else right.now) result }
+{
+    let left_end = left.end(properties);
+    let right_end = right.end(properties);
+    if goes_left { left_end } else { right_end }
+}
+
 // Of which earlier channel a property is, from 1 on, each with four from property 16 on; 0 where it is of none.
 fn earlier_of(property: u32) -> u32
     ensures { result ≡ channels_of property }
@@ -312,8 +324,7 @@ impl CompiledTree {
                     right,
                 } => {
                     let goes_left = properties.property(property) > *value;
-                    let side = if goes_left { left } else { right };
-                    place = side.end(properties) as usize;
+                    place = end_of(goes_left, left, right, properties) as usize;
                 }
             }
         }

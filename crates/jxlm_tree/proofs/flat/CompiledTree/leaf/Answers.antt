@@ -1,4 +1,4 @@
-use Rattle.std.proofs.Common.{◌≡◌, ◌-◌, pos, [], ◌∷◌, List, reverse, vec_len, w32, to_z, of_z, sym, ap, ◌∙◌, arith, SFits, subst, rules, true, false, Bor, ◌⊎◌, inl, inr}
+use Rattle.std.proofs.Common.{◌≡◌, ◌-◌, pos, [], ◌∷◌, List, reverse, vec_len, w32, to_z, of_z, sym, ap, refl, ◌∙◌, arith, SFits, subst, rules, Bool, true, false, if◌then◌else◌, ◌⊎◌, inl, inr}
 use Rattle.std.specs.Prelude.{int_lt}
 use Rattle.std.proofs.lemmas.Int.{to_z-of_z, ints}
 use Rattle.std.proofs.lemmas.List.{length-reverse}
@@ -7,8 +7,12 @@ use Rattle.jxlm_tree.specs.Inner.Walking.{Ended, Walked}
 use Rattle.jxlm_tree.specs.declared.flat.Side.{Side}
 use Rattle.jxlm_tree.proofs.FlatLooks.{entry-within, read-at, says-below}
 use Rattle.jxlm_tree.proofs.FlatSteps.{says-fused, says-table, told, walked-end, walked-none, walked-on}
-use Rattle.jxlm_tree.proofs.flat.CompiledTree.leaf.Goals.{then-goes_left, else-goes_left}
 use Rattle.jxlm_tree.proofs.flat.CompiledTree.leaf.Goals as goal
+
+-- one of two sides, by the answer that chooses
+chosen_by : (b : Bool) (left right : Side) → ((b ≡ true) × ((if b then left else right) ≡ left)) ⊎ ((b ≡ false) × ((if b then left else right) ≡ right))
+chosen_by true left right = inl (refl, refl)
+chosen_by false left right = inr (refl, refl)
 
 pub loop-leaf-init : goal.loop-leaf-init
 loop-leaf-init g c = walked-none g.P.PlaceProperties.gives c.args.properties.now (reverse c.args.self.now.nodes.items) c.args.self.now.root c.args.steps.now (let w = c.requires.rooted in let l = length-reverse c.args.self.now.nodes.items in omega arith)
@@ -74,17 +78,16 @@ loop-leaf-smaller g c =
     let value : SFits w32 c.in-Fused.value = search rules in
     let first : SFits w32 c.property.result = search rules in
     let x = c.property.result in
-    let y = c.end-place.ensures.answer in
-    let side = c.if-goes_left.side.now in
+    let y = c.end_of-place.ensures.answer in
     let v1 = to_z w32 (of_z w32 c.in-Fused.value) in
     let x1 = to_z w32 (of_z w32 x) in
+    let side : Side = if int_lt v1 x1 then c.in-Fused.left else c.in-Fused.right in
     let hs : List Heard = heard c.in-Fused.property x ∷ heard side.property y ∷ [] in
-    let chosen : ((int_lt v1 x1 ≡ true) × (side ≡ c.in-Fused.left)) ⊎ ((int_lt v1 x1 ≡ false) × (side ≡ c.in-Fused.right)) =
-    elim c.if-goes_left.branch [ then-goes_left w ↦ inl (w.if-goes_left.true, ap (λ (s : Bor Side). s.now) w.side-is) | else-goes_left w ↦ inr (w.if-goes_left.false, ap (λ (s : Bor Side). s.now) w.side-is) ] in
-    let says_it : says c.index.result.now (told x y) ≡ go c.end-place.result hs =
+    let chosen = chosen_by (int_lt v1 x1) c.in-Fused.left c.in-Fused.right in
+    let says_it : says c.index.result.now (told x y) ≡ go c.end_of-place.result hs =
     ap (λ n. says n (told x y)) c.in-Fused.is
-    ∙ says-fused c.in-Fused.property c.in-Fused.value v1 x x1 y c.in-Fused.left c.in-Fused.right side c.end-place.result (to_z-of_z w32 c.in-Fused.value value) (to_z-of_z w32 x first) chosen c.end-place.ensures.end_is in
-    let smaller = says-below c.loop-leaf.place c.index.result.now (told x y) c.end-place.result hs r.below says_it in
+    ∙ says-fused c.in-Fused.property c.in-Fused.value v1 x x1 y c.in-Fused.left c.in-Fused.right side c.end_of-place.result (to_z-of_z w32 c.in-Fused.value value) (to_z-of_z w32 x first) chosen c.end_of-place.ensures.end_is in
+    let smaller = says-below c.loop-leaf.place c.index.result.now (told x y) c.end_of-place.result hs r.below says_it in
     smaller
 
 pub loop-leaf-preserved : goal.loop-leaf-preserved
@@ -93,18 +96,17 @@ loop-leaf-preserved g c =
     let value : SFits w32 c.in-Fused.value = search rules in
     let first : SFits w32 c.property.result = search rules in
     let x = c.property.result in
-    let y = c.end-place.ensures.answer in
-    let side = c.if-goes_left.side.now in
+    let y = c.end_of-place.ensures.answer in
     let v1 = to_z w32 (of_z w32 c.in-Fused.value) in
     let x1 = to_z w32 (of_z w32 x) in
+    let side : Side = if int_lt v1 x1 then c.in-Fused.left else c.in-Fused.right in
     let hs : List Heard = heard c.in-Fused.property x ∷ heard side.property y ∷ [] in
-    let chosen : ((int_lt v1 x1 ≡ true) × (side ≡ c.in-Fused.left)) ⊎ ((int_lt v1 x1 ≡ false) × (side ≡ c.in-Fused.right)) =
-    elim c.if-goes_left.branch [ then-goes_left w ↦ inl (w.if-goes_left.true, ap (λ (s : Bor Side). s.now) w.side-is) | else-goes_left w ↦ inr (w.if-goes_left.false, ap (λ (s : Bor Side). s.now) w.side-is) ] in
-    let says_it : says c.index.result.now (told x y) ≡ go c.end-place.result hs =
+    let chosen = chosen_by (int_lt v1 x1) c.in-Fused.left c.in-Fused.right in
+    let says_it : says c.index.result.now (told x y) ≡ go c.end_of-place.result hs =
     ap (λ n. says n (told x y)) c.in-Fused.is
-    ∙ says-fused c.in-Fused.property c.in-Fused.value v1 x x1 y c.in-Fused.left c.in-Fused.right side c.end-place.result (to_z-of_z w32 c.in-Fused.value value) (to_z-of_z w32 x first) chosen c.end-place.ensures.end_is in
-    let smaller = says-below c.loop-leaf.place c.index.result.now (told x y) c.end-place.result hs r.below says_it in
-    subst (λ k. Walked g.P.PlaceProperties.gives c.args.properties.now (reverse c.args.self.now.nodes.items) c.args.self.now.root c.end-place.result c.args.steps.now k) (sym c.tick.ensures)
-    (walked-on g.P.PlaceProperties.gives c.args.properties.now (reverse c.args.self.now.nodes.items) c.args.self.now.root c.loop-leaf.place c.end-place.result c.args.steps.now c.loop-leaf.steps c.index.result.now x y hs c.loop-leaf.invariant r smaller says_it
+    ∙ says-fused c.in-Fused.property c.in-Fused.value v1 x x1 y c.in-Fused.left c.in-Fused.right side c.end_of-place.result (to_z-of_z w32 c.in-Fused.value value) (to_z-of_z w32 x first) chosen c.end_of-place.ensures.end_is in
+    let smaller = says-below c.loop-leaf.place c.index.result.now (told x y) c.end_of-place.result hs r.below says_it in
+    subst (λ k. Walked g.P.PlaceProperties.gives c.args.properties.now (reverse c.args.self.now.nodes.items) c.args.self.now.root c.end_of-place.result c.args.steps.now k) (sym c.tick.ensures)
+    (walked-on g.P.PlaceProperties.gives c.args.properties.now (reverse c.args.self.now.nodes.items) c.args.self.now.root c.loop-leaf.place c.end_of-place.result c.args.steps.now c.loop-leaf.steps c.index.result.now x y hs c.loop-leaf.invariant r smaller says_it
     (record { low = λ k. omega (arith, ints); high = λ k. omega (arith, ints) })
-    (λ f are. (are c.in-Fused.property x c.property.ensures, (are side.property y c.end-place.ensures.given, tt))))
+    (λ f are. (are c.in-Fused.property x c.property.ensures, (are side.property y c.end_of-place.ensures.given, tt))))
