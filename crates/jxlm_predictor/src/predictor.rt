@@ -1,14 +1,17 @@
 //! Predictors.
 
-ghost use Rattle.std.specs.Prelude.{◌≡◌, ◌<◌, Some, slice_get};
+ghost use Rattle.std.specs.Prelude.{◌≡◌, ◌<◌, Some, pos, slice_get};
+ghost use Rattle.std.specs.Int.{int_wrap, w32};
 ghost use Rattle.jxlm_bits.specs.Grammar.{number};
 ghost use Rattle.jxlm_predictor.specs.Holding.{IsCurrent, IsOfPlace};
-ghost use Rattle.jxlm_predictor.specs.Predictions.{number_of, prediction, predictors};
+ghost use Rattle.jxlm_predictor.specs.Predictions.{number_of, prediction, prediction_from, predictors};
+ghost use Rattle.jxlm_weighted.specs.Around.{neighbours_of};
 
 use crate::predictions::predicted_from;
 pub use crate::properties::Properties;
 pub use crate::state::PredictorState;
 use jxlm_bits::bits::BitstreamError;
+use jxlm_weighted::around::Around;
 use jxlm_weighted::reduced::reduced;
 pub use jxlm_weighted::self_correcting::PredictionResult;
 pub use jxlm_weighted::weights::WpHeader;
@@ -115,5 +118,13 @@ impl Predictor {
     {
         let corrected = PredictionResult::eightfold(&properties.correction);
         reduced(predicted_from(&properties.around, corrected, self))
+    }
+
+    /// What the predictor makes of these neighbours where the weighted prediction is 0, reduced to 32 bits.
+    #[inline(always)]
+    pub fn predict_around(self, around: &Around) -> i32
+        ensures { result ≡ int_wrap w32 (prediction_from (neighbours_of around.now) (pos 0) self) }
+    {
+        reduced(predicted_from(around, 0, self))
     }
 }

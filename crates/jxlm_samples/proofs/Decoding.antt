@@ -1,6 +1,6 @@
 -- What the loops over rows and channels promise one another: a row more, a channel more.
 use Rattle.std.proofs.Common.{◌≡◌, ℕ, suc, ◌+◌, ◌*◌, ◌<◌, List, [], length, Ok, Err, refl, sym, ◌∙◌, subst, arith, ℤ}
-use Rattle.std.specs.Prelude.{Result, OnOk, IfErr}
+use Rattle.std.specs.Prelude.{Option, Result, OnOk, IfErr}
 use Rattle.std.specs.Int.{Width}
 use Rattle.std.proofs.lemmas.List.{length-map}
 use Rattle.jxlm_bits.specs.Decoding.{Meaning}
@@ -8,6 +8,7 @@ use Rattle.jxlm_base.specs.Grid.{Grid}
 use Rattle.jxlm_bits.specs.declared.decoder.DecoderError.{DecoderError}
 use Rattle.jxlm_base.proofs.Outside.{all_lie_still, keeps_all, keeps_both}
 use Rattle.jxlm_predictor.specs.declared.state.PredictorState.{PredictorState}
+use Rattle.jxlm_tree.specs.declared.flat.Leaf.{Leaf}
 use Rattle.jxlm_samples.specs.ChannelSettings.{StandsAfter, region_at}
 use Rattle.jxlm_samples.specs.Inner.Levels.{IsAtRow, IsOnPath, IsReady}
 use Rattle.jxlm_samples.specs.Inner.Progress.{DecodesCells, FailsInCells, Moment, WalkGives}
@@ -83,9 +84,9 @@ module _ {D X : Type 0} (l : Line X D) (d : Meaning D) (w : Width) (to_int : X �
   error_inside old now (Err e) gives = let inside = gives.inside in let m = length-map row to_int in omega (arith, m, inside)
 
   -- once the row is written, the walk is before the next one
-  module _ (new : List (Grid X)) (old now : Walk X D) (at : IsAtRow d l.coding.now old to_int l.store.now l.path l.i l.y) (below : l.y < (region_on l).height) where
+  module _ (new : List (Grid X)) (only : Option Leaf) (old now : Walk X D) (at : IsAtRow d l.coding.now old to_int l.store.now l.path only l.i l.y) (below : l.y < (region_on l).height) where
     pub row_below : (read : Result (Unit {0}) RowError) (result : Result (Unit {0}) DecoderError) → SetsRead (region_on l) l.y row read l.store.now new result →
-        RowGives l d to_int w row old.source now.source read → OnOk read (IsOnPath l to_int row now) → OnOk result (IsAtRow d l.coding.now now to_int new l.path l.i (l.y + 1))
+        RowGives l d to_int w row old.source now.source read → OnOk read (IsOnPath l to_int row only now) → OnOk result (IsAtRow d l.coding.now now to_int new l.path only l.i (l.y + 1))
     row_below (Err e) result sets gives on = rw sets.1 tt
     row_below (Ok u) result sets gives on =
         let here = at.here in
@@ -97,7 +98,8 @@ module _ {D X : Type 0} (l : Line X D) (d : Meaning D) (w : Width) (to_int : X �
           steps = at.steps;
           ready = still_ready goes at.ready.clusters now.state on.roomy;
           within = on.within;
-          stands = λ walked. begins_row l.coding.now l.i to_int new (l.y + 1) now.state (stands_below l.coding.now l.i l.y to_int l.store.now new row now.state here.part.lie here.channel below long sets.0 (on.stands walked));
+          leads = at.leads;
+          stands = λ walked none. begins_row l.coding.now l.i to_int new (l.y + 1) now.state (stands_below l.coding.now l.i l.y to_int l.store.now new row now.state here.part.lie here.channel below long sets.0 (on.stands walked none));
         })
 
 -- ---- a channel
@@ -111,5 +113,5 @@ at_first_row c i to_int store state stands =
 -- ---- before a row is read
 
 module _ {D X : Type 0} (l : Line X D) (d : Meaning D) (to_int : X → ℤ) where
-  pub is_line : (walk : Walk X D) → IsAtRow d l.coding.now walk to_int l.store.now l.path l.i l.y → l.y < (region_on l).height → l.clamped ≡ clamps (part_of l.coding.now) l.i → IsLine l
+  pub is_line : {only : Option Leaf} (walk : Walk X D) → IsAtRow d l.coding.now walk to_int l.store.now l.path only l.i l.y → l.y < (region_on l).height → l.clamped ≡ clamps (part_of l.coding.now) l.i → IsLine l
   is_line walk at below clamped = record { here = at.here; below = below; gives = at.gives; allows = at.allows; steps = at.steps; clamped = clamped }

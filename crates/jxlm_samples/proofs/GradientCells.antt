@@ -53,7 +53,7 @@ module _ (above row : List ℤ) where
   gradient_next_is : (x : ℕ) → x < length row → gradient_in above (take x row) (length (take x row)) ≡ gradient_in above row x
   gradient_next_is x inside = ap (gradient_in above (take x row)) (length-take-le x row (omega arith)) ∙ gradient_before x
 
-  north_west_before : (x : ℕ) → north_west_in above (take x row) x ≡ north_west_in above row x
+  pub north_west_before : (x : ℕ) → north_west_in above (take x row) x ≡ north_west_in above row x
   north_west_before zero = refl
   north_west_before (suc x) = ap (get_or above x) (west_before (suc x))
 

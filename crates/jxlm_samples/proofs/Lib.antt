@@ -2,7 +2,9 @@ pub mod CellLaws
 pub mod ClampedSums
 pub mod Decoding
 pub mod Earlier
+pub mod FilledRows
 pub mod GradientCells
+pub mod LeafCells
 pub mod Loops
 pub mod NextSample
 pub mod PartAnswers

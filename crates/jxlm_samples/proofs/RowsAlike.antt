@@ -25,6 +25,7 @@ use Rattle.jxlm_samples.specs.Part.{Part, channel, clamps, max_width, next_chann
 use Rattle.jxlm_samples.specs.Progress.{grids_in}
 use Rattle.jxlm_samples.specs.Reading.{FindsClusters, cost_of, flat, part_of, regions_of, tree_of}
 use Rattle.jxlm_samples.specs.ChannelSettings.{region_at}
+use Rattle.jxlm_samples.specs.Inner.LeafRows.{IsLeafAlone, leaf_row_rule, prediction_in, row_two_above}
 use Rattle.jxlm_samples.specs.Inner.Paths.{AreGradients, AreLeavesOf, gradient_rule, leaf_by, leaf_rule, row_above, steps_by, zero_rule}
 use Rattle.jxlm_samples.specs.Inner.Progress.{preceding_cells}
 use Rattle.jxlm_samples.specs.Inner.Rows.{AreAlike, GradientGives, IsLine, ReadsRow, RowGives, row_rule, rule_on}
@@ -37,7 +38,7 @@ use Rattle.jxlm_samples.specs.declared.rows.Line.{Line}
 use Rattle.jxlm_samples.specs.declared.rows.RowError.{RowError}
 use Rattle.jxlm_samples.proofs.ClampedSums.{by-fit}
 use Rattle.jxlm_samples.proofs.NextSample.{SeesRegions, leaf_with, place-fit, seen_with}
-use Rattle.jxlm_samples.proofs.RowNeighbours.{gradient_is, property_9_seen, samples, sum_seen, zero_is}
+use Rattle.jxlm_samples.proofs.RowNeighbours.{gradient_is, prediction_is, property_9_seen, samples, sum_seen, zero_is}
 use Rattle.jxlm_samples.proofs.RowReads.{alike_row}
 use Rattle.jxlm_samples.proofs.RowSees.{sees_regions}
 use Rattle.jxlm_samples.specs.RowNeighbours.{gradient_in, property_9_in}
@@ -106,6 +107,12 @@ module _ {S : Type 0} (d : Meaning S) (w : Width) (part : Part) (bytes : List �
       let is = next_is row short ∙ only.leaf _ in
       (is, predicted_by row short l is ∙ ap (prediction (Some part.weights) (own row short) reg.width) zero ∙ zero_is (Some part.weights) (own row short) reg.width))
 
+  pub leaf_rows : (l : Leaf) → IsLeafAlone (flat part.tree part.stream i) l →
+      AreAlike (leaf_row_rule d w bytes (max_width part.channels) l (row_above own_grid y) (row_two_above own_grid y)) (row_rule d w part bytes regions ints i y) reg.width
+  leaf_rows l alone = by_leaf (λ row. l) (prediction_in (row_above own_grid y) (row_two_above own_grid y) l) (λ row short.
+      let is = next_is row short ∙ alone.only.leaf _ in
+      (is, predicted_by row short l is ∙ prediction_is own_grid (IsFull-grid_of ints reg) y qy row short (Some part.weights) l alone.weightless))
+
   plain_by : (leaves : Leaves) → AreLeavesOf (flat part.tree part.stream i) leaves → (x : ℤ) → IsPlainGradient (leaf_by leaves x)
   plain_by (One l) to x = to.1
   plain_by (Table c) to x = to.1.1
@@ -145,6 +152,9 @@ module _ {D X : Type 0} (l : Line X D) (d : Meaning D) (to_int : X → ℤ) (w :
   abbrev above : List ℤ
   above = row_above (grid_of numbers (region_on l)) l.y
 
+  abbrev two_above : List ℤ
+  two_above = row_two_above (grid_of numbers (region_on l)) l.y
+
   abbrev R : List ℤ
   R = map to_int row
 
@@ -165,3 +175,10 @@ module _ {D X : Type 0} (l : Line X D) (d : Meaning D) (to_int : X → ℤ) (w :
         alike_row d (steps_by leaves) (cost_of c) (gradient_rule d w (clamps (part_of c) l.i) (bytes_of old.bits) c.widest leaves above) (rule_on l d to_int w (bytes_of old.bits)) R
         (on_line (bytes_of old.bits) (λ m. gradient_rule d w (clamps (part_of c) l.i) (bytes_of old.bits) m leaves above) (gradient_rows d w (part_of c) (bytes_of old.bits) (regions_of c) numbers l.i l.y is.here.part.coding.sizes is.here.channel is.below leaves to))
         few result old new (rw is.clamped at h)
+
+    pub row_of_leaf : (k : Leaf) → IsLeafAlone (tree_of c l.i) k → ReadsRow d 0 (leaf_row_rule d w (bytes_of old.bits) c.widest k above two_above) R result old new → RowGives l d to_int w row old new result
+    row_of_leaf k alone h =
+        alike_row d 0 (cost_of c) (leaf_row_rule d w (bytes_of old.bits) c.widest k above two_above) (rule_on l d to_int w (bytes_of old.bits)) R
+        (on_line (bytes_of old.bits) (λ m. leaf_row_rule d w (bytes_of old.bits) m k above two_above)
+        (leaf_rows d w (part_of c) (bytes_of old.bits) (regions_of c) numbers l.i l.y is.here.part.coding.sizes is.here.channel is.below k alone))
+        (omega arith) result old new h

@@ -1,29 +1,35 @@
 -- Rows that are filled with one sample.
-use Rattle.std.proofs.Common.{◌≡◌, ℕ, zero, suc, ◌+◌, ◌<◌, ◌≤◌, List, [], ◌∷◌, ◌++◌, Contains, length, take, map, Some, refl, sym, ap, ◌∙◌, subst, arith, ℤ, pos}
-use Rattle.std.specs.Prelude.{replicate, slice_get, slice_set}
+use Rattle.std.proofs.Common.{◌≡◌, ℕ, zero, suc, ◌+◌, ◌<◌, ◌≤◌, ◌⊎◌, inl, inr, List, Contains, length, Some, refl, sym, ap, ◌∙◌, subst, arith, ℤ, pos}
+use Rattle.std.specs.Prelude.{replicate, slice_get}
 use Rattle.std.specs.Int.{Width}
-use Rattle.std.proofs.lemmas.List.{get_or-replicate, length-map, length-replicate, map-set, replicate_more, take_more_set}
+use Rattle.std.proofs.lemmas.List.{get_or-replicate, length-replicate}
 use Rattle.std.proofs.lemmas.Option.{slice_get-get_or}
 use Rattle.jxlm_bits.specs.Bits.{bytes_of, position_of}
 use Rattle.jxlm_bits.specs.Decoding.{IsLawful, Meaning}
+use Rattle.jxlm_predictor.specs.declared.predictor.Predictor.TheVariants as predictor
+use Rattle.jxlm_tree.specs.FlatTree.{FlatTree}
+use Rattle.jxlm_tree.specs.Paths.{Gives, IsLeafOf}
 use Rattle.jxlm_tree.specs.declared.flat.Leaf.{Leaf}
+use Rattle.jxlm_tree.specs.declared.paths.Path.{Path}
+use Rattle.jxlm_tree.specs.declared.paths.Path.TheVariants as path
 use Rattle.jxlm_samples.specs.Coded.{sample_of}
-use Rattle.jxlm_samples.specs.Inner.Paths.{zero_rule}
+use Rattle.jxlm_samples.specs.Inner.Paths.{Allows, zero_rule}
 use Rattle.jxlm_samples.specs.Inner.Rows.{ReadsCells}
 use Rattle.jxlm_samples.specs.declared.source.Source.{Source}
 use Rattle.jxlm_samples.specs.Rule.{Rule, CodedPrefix}
 
+-- the elements of a filled list
 get_filled : (n k : ℕ) (v : ℤ) → k < n → slice_get (replicate n v) k ≡ Some v
 get_filled n k v inside = slice_get-get_or (replicate n v) k v (omega (arith, inside, length-replicate n v)) ∙ ap Some (get_or-replicate n k v v inside)
 
--- one cell more is filled
-pub fill_more : {X : Type 0} (to_int : X → ℤ) (row : List X) (x : ℕ) (v : X) (z : ℤ) → x < length row → take x (map to_int row) ≡ replicate x z → to_int v ≡ z →
-    take (x + 1) (map to_int (slice_set row x v)) ≡ replicate (x + 1) z
-fill_more to_int row x v z inside filled is =
-    let R = map to_int row in
-    let in_row : x < length R = let m = length-map row to_int in omega (arith, m, inside) in
-    let here : take (x + 1) (slice_set R x (to_int v)) ≡ replicate x z ++ to_int v ∷ [] = take_more_set R x (to_int v) in_row ∙ ap (λ r. r ++ to_int v ∷ []) filled in
-    ap (take (x + 1)) (map-set to_int row x v) ∙ here ∙ ap (λ y. replicate x z ++ y ∷ []) is ∙ replicate_more x z
+-- the path leads to a leaf that predicts by 0
+pub record IsZero (t : FlatTree) (p : Path) (k : Leaf) : Type 0 where
+  pub only : IsLeafOf t k
+  pub predicts : k.predictor ≡ predictor.Zero
+
+pub is_zero : (t : FlatTree) (p : Path) (k : Leaf) → (p ≡ path.Constant k) ⊎ (p ≡ path.Zero k) → Gives t p → Allows p → IsZero t p k
+is_zero t p k (inl is) gives allows = record { only = subst (Gives t) is gives; predicts = subst Allows is allows }
+is_zero t p k (inr is) gives allows = record { only = subst (Gives t) is gives; predicts = subst Allows is allows }
 
 -- Where a cluster has one token, reading a row at a leaf that predicts by 0 fills the row with one sample.
 module _ {D : Type 0} (d : Meaning D) (lawful : IsLawful d) (w : Width) (l : Leaf) (widest : ℕ) (at : Source D) (token : ℕ) (known : Contains (d.cluster_map at.decoder) l.cluster)

@@ -12,6 +12,7 @@ pub mod laws;
 pub mod leaf;
 mod number;
 mod one_gradient;
+mod one_leaf;
 pub mod part;
 pub mod rows;
 mod source;

@@ -1,6 +1,7 @@
 //! Rows of a channel: what one only looks at, what its read returns, and how it is written.
 
-ghost use Rattle.std.specs.Prelude.{◌≡◌, ◌<◌, ◌≤◌, length, IfErr};
+ghost use Rattle.std.specs.Prelude.{◌≡◌, ◌-◌, ◌<◌, ◌≤◌, ◌++◌, drop, length, replicate, take, IfErr};
+ghost use Rattle.jxlm_base.specs.Outside.{SetsRow};
 ghost use Rattle.jxlm_base.specs.Regions.{Lies};
 ghost use Rattle.jxlm_samples.specs.Inner.Rows.{SetsRead};
 ghost use Rattle.jxlm_samples.specs.Lines.{AreAway};
@@ -9,6 +10,7 @@ use crate::coding::PartCoding;
 use jxlm_base::grid::{AlignedGrid, Region};
 use jxlm_base::region::region_set_row;
 use jxlm_bits::decoder::{Decoder, DecoderError};
+use jxlm_tree::flat::Leaf;
 use jxlm_tree::paths::Path;
 
 /// How many tokens of a row of one leaf are read at a time.
@@ -40,6 +42,8 @@ pub(crate) struct ChannelRows<'a, D: Decoder> {
     pub(crate) i: usize,
     /// How its rows are read.
     pub(crate) path: Path<'a>,
+    /// The leaf at which all its samples are read, where there is one that needs no weights.
+    pub(crate) only: Option<Leaf>,
     /// Whether property 9 is clamped.
     pub(crate) clamped: bool,
 }
@@ -99,4 +103,34 @@ pub(crate) fn write_read<S: Copy>(
             Err(ended.error)
         }
     }
+}
+
+/// Fills a row with one value.
+fn fill<S: Copy>(row: &mut [S], value: S)
+    ensures { row.new ≡ replicate (length row.old) value }
+{
+    for x in 0..row.len() {
+        row[x] = value;
+    }
+}
+
+/// Fills the columns from `start` to before `end`.
+fn fill_between<S: Copy>(row: &mut [S], start: usize, end: usize, value: S)
+    requires order { start ≤ end }
+    requires inside { end ≤ length row.old }
+    ensures { row.new ≡ take start row.old ++ (replicate (end - start) value ++ drop end row.old) }
+{
+    fill(&mut row[start..end], value);
+}
+
+/// Fills all cells of row `y` of a region of the store.
+pub(crate) fn fill_row<S: Copy>(store: &mut [AlignedGrid<S>], region: Region, y: usize, value: S)
+    requires lies { Lies region store.old }
+    requires in_rows { y < region.height }
+    ensures { SetsRow region y (replicate region.width value) store.old store.new }
+{
+    let grid = &mut store[region.buffer];
+    prove!(region.x <= grid.width() && region.y < grid.height());
+    let row = grid.get_row_mut(region.y + y);
+    fill_between(row, region.x, region.x + region.width, value);
 }

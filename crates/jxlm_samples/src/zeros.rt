@@ -1,9 +1,8 @@
 //! Rows of a channel whose tree is one leaf that predicts by 0.
 //!
-//! No state of the predictors is needed for them, and no row above. Where the decoder has only one token for the leaf, a
-//! row is filled.
+//! No state of the predictors is needed for them, and no row above.
 
-ghost use Rattle.std.specs.Prelude.{◌≡◌, ◌+◌, ◌≤◌, pos, true, map, length, replicate, Contains};
+ghost use Rattle.std.specs.Prelude.{◌≡◌, ◌+◌, ◌≤◌, pos, true, map, length, Contains};
 ghost use Rattle.jxlm_bits.specs.Bits.{bytes_of};
 ghost use Rattle.jxlm_tree.specs.FlatTree.{HasMultiplier};
 ghost use Rattle.jxlm_samples.specs.Coded.{sample_of};
@@ -16,17 +15,6 @@ use crate::source::Source;
 use jxlm_base::sample::{Sample, Sealed};
 use jxlm_bits::decoder::Decoder;
 use jxlm_tree::flat::Leaf;
-
-/// Fills a row where each cell is predicted by 0 and has the same token.
-fn fill_row<S: Sample>(token: u32, leaf: Leaf, row: &mut [S])
-    requires multiplier { HasMultiplier leaf }
-    ensures { map S.to_int row.new ≡ replicate (length row.old) (sample_of S.width leaf (pos 0) token) }
-{
-    let value = sample_from(token, leaf, 0);
-    for x in 0..row.len() {
-        row[x] = value;
-    }
-}
 
 /// The sample of a token over a prediction of 0: the token's number at a leaf that adds nothing more (`PLAIN`).
 #[inline(always)]
@@ -122,7 +110,7 @@ fn zero_cells<S: Sample, D: Decoder, const PLAIN: bool>(
     Ok(())
 }
 
-/// Reads a row where each cell is predicted by 0; where the decoder has only one token for the leaf, nothing is read.
+/// Reads a row where each cell is predicted by 0.
 ///
 /// # Errors
 ///
@@ -138,10 +126,6 @@ pub(crate) fn read_zeros<S: Sample, D: Decoder>(
     ensures { ReadsRow D.meaning 0 (zero_rule D.meaning S.width (bytes_of source.old.bits) widest leaf)
         (map S.to_int row.new) result source.old source.new }
 {
-    if let Some(token) = source.decoder.single_token(leaf.cluster) {
-        fill_row(token, leaf, row);
-        return Ok(());
-    }
     if leaf.offset == 0 && leaf.multiplier == 1 {
         zero_cells::<S, D, true>(source, leaf, widest, row)
     } else {

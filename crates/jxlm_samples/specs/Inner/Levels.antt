@@ -1,11 +1,13 @@
 -- Where the loops over rows and channels are.
-use Rattle.std.specs.Prelude.{◌≡◌, ℕ, ◌≤◌, ℤ, List, [], length, map, true, None}
+use Rattle.std.specs.Prelude.{◌≡◌, ℕ, ◌≤◌, ℤ, List, [], length, map, true, Option, None, IfSome}
 use Rattle.jxlm_bits.specs.Decoding.{Meaning}
 use Rattle.jxlm_base.specs.Grid.{Grid}
 use Rattle.jxlm_tree.specs.Paths.{Gives, steps_on}
+use Rattle.jxlm_tree.specs.declared.flat.Leaf.{Leaf}
 use Rattle.jxlm_tree.specs.declared.paths.Path.{Path}
 use Rattle.jxlm_predictor.specs.declared.state.PredictorState.{PredictorState}
 use Rattle.jxlm_samples.specs.ChannelSettings.{IsAfterChannel, StandsAfter, StandsIn}
+use Rattle.jxlm_samples.specs.Inner.LeafRows.{IsLeafAlone}
 use Rattle.jxlm_samples.specs.Inner.Paths.{Allows, is_walked}
 use Rattle.jxlm_samples.specs.Inner.Rows.{IsDecoding, IsDecodingPart, StandsInRow}
 use Rattle.jxlm_samples.specs.Reading.{FindsClusters, HasRoom, alone_at, cost_of, row_width, tree_of}
@@ -19,9 +21,10 @@ pub record HasRooms {D X : Type 0} (c : PartCoding D) (state : PredictorState X)
   pub row : row_width c ≤ length scratch
 
 -- after the read of a row, the predictors' state is after it, where the path needs that
-pub record IsOnPath {D X : Type 0} (l : Line X D) (to_int : X → ℤ) (row : List X) (walk : Walk X D) : Type 0 where
+pub record IsOnPath {D X : Type 0} (l : Line X D) (to_int : X → ℤ) (row : List X) (only : Option Leaf) (walk : Walk X D) :
+    Type 0 where
   pub within : alone_at l.coding.now l.i ≡ None → StandsIn l.coding.now l.i walk.state
-  pub stands : is_walked l.path ≡ true → StandsInRow l.coding.now to_int l.store.now l.i l.y (map to_int row) walk.state
+  pub stands : is_walked l.path ≡ true → only ≡ None → StandsInRow l.coding.now to_int l.store.now l.i l.y (map to_int row) walk.state
   pub roomy : HasRoom l.coding.now walk.state
 
 -- The rows of channel i can be read so, and where they are read in the predictors' state, it is before the first one.
@@ -40,15 +43,16 @@ module _ {D X : Type 0} (d : Meaning D) (c : PartCoding D) (walk : Walk X D) whe
     pub clusters : FindsClusters c (d.cluster_map walk.source.decoder)
     pub roomy : HasRoom c walk.state
 
-  -- the walk is before row y of channel i, whose rows are read so
-  pub record IsAtRow (to_int : X → ℤ) (store : List (Grid X)) (path : Path) (i y : ℕ) : Type 0 where
+  -- the walk is before row y of channel i, whose rows are read so, at this leaf if there is one
+  pub record IsAtRow (to_int : X → ℤ) (store : List (Grid X)) (path : Path) (only : Option Leaf) (i y : ℕ) : Type 0 where
     pub here : IsDecoding c i store
     pub gives : Gives (tree_of c i) path
     pub allows : Allows path
     pub steps : steps_on path c.config.now.tree ≤ cost_of c
     pub ready : IsReady
     pub within : alone_at c i ≡ None → StandsIn c i walk.state
-    pub stands : is_walked path ≡ true → StandsInRow c to_int store i y [] walk.state
+    pub leads : IfSome only (IsLeafAlone (tree_of c i))
+    pub stands : is_walked path ≡ true → only ≡ None → StandsInRow c to_int store i y [] walk.state
 
   -- the walk is before channel i
   pub record IsAtChannel (store : List (Grid X)) (i : ℕ) : Type 0 where

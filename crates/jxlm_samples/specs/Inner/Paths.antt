@@ -4,7 +4,7 @@ use Rattle.std.specs.Int.{Width, w32}
 use Rattle.jxlm_bits.specs.Decoding.{Meaning}
 use Rattle.jxlm_base.specs.Grid.{Grid, row as grid_row}
 use Rattle.jxlm_tree.specs.ClusterTables.{IsTableOf, table_leaf}
-use Rattle.jxlm_tree.specs.FlatTree.{FlatTree}
+use Rattle.jxlm_tree.specs.FlatTree.{FlatTree, HasMultiplier}
 use Rattle.jxlm_tree.specs.Paths.{Gives, IsLeafOf, IsOnGradient, IsPlainGradient, steps_on}
 use Rattle.jxlm_tree.specs.Steps.{most_steps}
 use Rattle.jxlm_tree.specs.Tree.{Shape}
@@ -37,6 +37,21 @@ is_walked (path.Runs l) = false
 is_walked (path.Clusters c) = true
 is_walked (path.GradientClusters c) = false
 is_walked path.Tree = true
+
+-- a leaf with a multiplier, whose cluster is one of these
+pub record IsReadable (clusters : List ℕ) (l : Leaf) : Type 0 where
+  pub cluster : Contains clusters l.cluster
+  pub multiplier : HasMultiplier l
+
+-- so is the leaf that predicts by 0, on a path that has one
+abbrev pub IsReadableZero : List ℕ → Path → Type 0
+IsReadableZero clusters (path.Constant l) = IsReadable clusters l
+IsReadableZero clusters (path.Zero l) = IsReadable clusters l
+IsReadableZero clusters (path.Gradient l) = Unit {0}
+IsReadableZero clusters (path.Runs l) = Unit {0}
+IsReadableZero clusters (path.Clusters c) = Unit {0}
+IsReadableZero clusters (path.GradientClusters c) = Unit {0}
+IsReadableZero clusters path.Tree = Unit {0}
 
 -- a path that gives what the tree's walks give, in no more steps, and needs no state of the predictors
 pub record IsLonePath (t : FlatTree) (p : Path) : Type 0 where

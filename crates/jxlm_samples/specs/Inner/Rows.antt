@@ -1,5 +1,5 @@
 -- Rows of cells that are read one after another.
-use Rattle.std.specs.Prelude.{◌≡◌, ◌≢◌, ℕ, ◌+◌, ◌*◌, ◌<◌, ◌≤◌, ℤ, Bool, List, ◌++◌, length, map, take, slice_get, slice_index, slice_set, Some, Result, Ok, Err}
+use Rattle.std.specs.Prelude.{◌≡◌, ◌≢◌, ℕ, ◌+◌, ◌*◌, ◌<◌, ◌≤◌, ◌⊎◌, ℤ, pos, Bool, List, ◌++◌, length, map, take, slice_get, slice_index, slice_set, Some, Result, Ok, Err}
 use Rattle.std.specs.Int.{Width}
 use Rattle.jxlm_bits.specs.Bits.{bytes_of, position_of}
 use Rattle.jxlm_bits.specs.Decoding.{Meaning}
@@ -10,13 +10,16 @@ use Rattle.jxlm_bits.specs.declared.decoder.DecoderError.{DecoderError}
 use Rattle.jxlm_bits.specs.declared.decoder.DecoderError.TheVariants.{OutOfMemory}
 use Rattle.jxlm_base.specs.declared.subgrid.Region.{Region}
 use Rattle.jxlm_tree.specs.Paths.{Gives, steps_on}
+use Rattle.jxlm_tree.specs.declared.flat.Leaf.{Leaf}
+use Rattle.jxlm_tree.specs.declared.paths.Path.{Path}
+use Rattle.jxlm_tree.specs.declared.paths.Path.TheVariants as path
 use Rattle.jxlm_predictor.specs.EarlierRows.{AreRowsOf}
 use Rattle.jxlm_predictor.specs.Standing.{StandsAt}
 use Rattle.jxlm_predictor.specs.declared.earlier.EarlierRow.{EarlierRow}
 use Rattle.jxlm_predictor.specs.declared.state.PredictorState.{PredictorState}
 use Rattle.jxlm_samples.specs.CellLeaves.{steps_walked}
 use Rattle.jxlm_samples.specs.ChannelSettings.{region_at, setting_of}
-use Rattle.jxlm_samples.specs.Coded.{part_rule}
+use Rattle.jxlm_samples.specs.Coded.{part_rule, sample_of}
 use Rattle.jxlm_samples.specs.Lines.{region_on}
 use Rattle.jxlm_samples.specs.Part.{Part, clamps}
 use Rattle.jxlm_samples.specs.Reading.{FindsClusters, HasRoom, IsCodingOf, cost_of, part_of, regions_of, tree_of}
@@ -110,6 +113,15 @@ AreAlike {S} a b n = (row : List ℤ) → length row < n →
     ((s : S) (p : ℕ) → a.read row s p ≡ b.read row s p) × ((token : ℕ) → a.value row token ≡ b.value row token)
 
 -- ---- rows that are written
+
+-- each cell of the path's rows is this sample: its one leaf predicts by 0, and has only one token
+pub record IsOnlySample {S X : Type 0} (d : Meaning S) (decoder : S) (p : Path) (w : Width) (to_int : X → ℤ) (v : X) :
+    Type 0 where
+  pub leaf : Leaf
+  pub token : ℕ
+  pub path_is : (p ≡ path.Constant leaf) ⊎ (p ≡ path.Zero leaf)
+  pub single : d.single_token decoder leaf.cluster ≡ Some token
+  pub is : to_int v ≡ sample_of w leaf (pos 0) token
 
 -- the first n columns of a region
 abbrev pub first_columns : Region → ℕ → Region

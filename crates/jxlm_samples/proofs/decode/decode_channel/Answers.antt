@@ -1,8 +1,11 @@
+use Rattle.std.specs.Prelude.{IfSome}
 use Rattle.std.proofs.Common.{◌<◌, ◌∙◌, ap, sym, subst, arith}
 use Rattle.std.proofs.lemmas.List.{length-take-le}
 use Rattle.jxlm_base.specs.declared.subgrid.Region.{Region}
 use Rattle.jxlm_samples.specs.ChannelSettings.{region_at}
+use Rattle.jxlm_samples.specs.Inner.LeafRows.{IsLeafAlone}
 use Rattle.jxlm_samples.specs.Inner.Progress.{place_of}
+use Rattle.jxlm_samples.proofs.CellLaws.{flat_at}
 use Rattle.jxlm_samples.specs.Reading.{part_of, regions_of}
 use Rattle.jxlm_samples.proofs.Decoding.{at_first_row, none_decoded, walks_between}
 use Rattle.jxlm_samples.proofs.Loops.{channel_begins, channel_done, channel_empty, channel_flat, ok_so}
@@ -34,7 +37,8 @@ decode_rows-requires-clause-at g c κs within =
       steps = begins.steps;
       ready = record { clusters = at.ready.clusters; roomy = begins.roomy };
       within = begins.within;
-      stands = λ walked. at_first_row c.args.coding.now c.args.i g.S.Sealed.to_int c.args.store.now c.begin_channel-path.new.state (begins.stands walked c.args.store.now);
+      leads = subst (λ t. IfSome c.lone_leaf-only.result (IsLeafAlone t)) (flat_at c.args.coding.now at.part.coding c.args.i c.requires.channel _) c.lone_leaf-only.ensures;
+      stands = λ walked none. at_first_row c.args.coding.now c.args.i g.S.Sealed.to_int c.args.store.now c.begin_channel-path.new.state (begins.stands walked c.args.store.now);
     }
 
 pub returns-then-region-eq0-clause-gives : goal.returns-then-region-eq0-clause-gives

@@ -1,26 +1,12 @@
-use Rattle.std.proofs.Common.{◌≡◌, ◌⊎◌, inl, inr, Contains, subst, ◌∙◌}
-use Rattle.jxlm_tree.specs.FlatTree.{FlatTree}
-use Rattle.jxlm_tree.specs.Paths.{Gives, IsLeafOf}
+use Rattle.std.proofs.Common.{Contains, ◌∙◌}
 use Rattle.jxlm_tree.specs.declared.flat.Leaf.{Leaf}
-use Rattle.jxlm_tree.specs.declared.paths.Path.{Path}
-use Rattle.jxlm_tree.specs.declared.paths.Path.TheVariants as path
 use Rattle.jxlm_tree.proofs.FlatTrees.{standing_leaf}
-use Rattle.jxlm_predictor.specs.declared.predictor.Predictor.TheVariants as predictor
-use Rattle.jxlm_samples.specs.Inner.Paths.{Allows}
 use Rattle.jxlm_samples.specs.Reading.{tree_of}
 use Rattle.jxlm_samples.proofs.Decoding.{is_line}
 use Rattle.jxlm_samples.proofs.RowsAlike.{row_of_zeros}
+use Rattle.jxlm_samples.proofs.ZeroCells.{IsZero, is_zero}
 use Rattle.jxlm_samples.proofs.decode.read_row.Goals.{in-Constant, in-Constant-2}
 use Rattle.jxlm_samples.proofs.decode.read_row.Goals as goal
-
--- the path leads to a leaf that predicts by 0
-record IsZero (t : FlatTree) (p : Path) (k : Leaf) : Type 0 where
-  only : IsLeafOf t k
-  predicts : k.predictor ≡ predictor.Zero
-
-is_zero : (t : FlatTree) (p : Path) (k : Leaf) → (p ≡ path.Constant k) ⊎ (p ≡ path.Zero k) → Gives t p → Allows p → IsZero t p k
-is_zero t p k (inl is) gives allows = record { only = subst (Gives t) is gives; predicts = subst Allows is allows }
-is_zero t p k (inr is) gives allows = record { only = subst (Gives t) is gives; predicts = subst Allows is allows }
 
 pub read_zeros-requires-clause-cluster : goal.read_zeros-requires-clause-cluster
 read_zeros-requires-clause-cluster g c κs within =
