@@ -21,7 +21,10 @@ use crate::source::Source;
 use jxlm_base::region::region_row;
 use jxlm_base::sample::{Sample, Sealed};
 use jxlm_bits::decoder::Decoder;
-use jxlm_predictor::predictor::Predictor;
+use jxlm_predictor::predictor::Predictor::{
+    self, AvgAll, AvgNorthAndNorthEast, AvgNorthAndNorthWest, AvgWestAndNorth, AvgWestAndNorthWest,
+    Gradient, North, NorthEast, NorthWest, Select, West, WestWest,
+};
 use jxlm_tree::flat::Leaf;
 use jxlm_weighted::around::Around;
 
@@ -230,74 +233,26 @@ fn samples_by<S: Sample, const EDGE: bool>(
         from tokens.now count }
 {
     match leaf.predictor {
-        Predictor::West => {
-            leaf_samples::<S, EDGE>(tokens, count, leaf, Predictor::West, above, from, row)
+        West => leaf_samples::<S, EDGE>(tokens, count, leaf, West, above, from, row),
+        North => leaf_samples::<S, EDGE>(tokens, count, leaf, North, above, from, row),
+        AvgWestAndNorth => {
+            leaf_samples::<S, EDGE>(tokens, count, leaf, AvgWestAndNorth, above, from, row)
         }
-        Predictor::North => {
-            leaf_samples::<S, EDGE>(tokens, count, leaf, Predictor::North, above, from, row)
+        Select => leaf_samples::<S, EDGE>(tokens, count, leaf, Select, above, from, row),
+        Gradient => leaf_samples::<S, EDGE>(tokens, count, leaf, Gradient, above, from, row),
+        NorthEast => leaf_samples::<S, EDGE>(tokens, count, leaf, NorthEast, above, from, row),
+        NorthWest => leaf_samples::<S, EDGE>(tokens, count, leaf, NorthWest, above, from, row),
+        WestWest => leaf_samples::<S, EDGE>(tokens, count, leaf, WestWest, above, from, row),
+        AvgWestAndNorthWest => {
+            leaf_samples::<S, EDGE>(tokens, count, leaf, AvgWestAndNorthWest, above, from, row)
         }
-        Predictor::AvgWestAndNorth => {
-            leaf_samples::<S, EDGE>(
-                tokens,
-                count,
-                leaf,
-                Predictor::AvgWestAndNorth,
-                above,
-                from,
-                row,
-            )
+        AvgNorthAndNorthWest => {
+            leaf_samples::<S, EDGE>(tokens, count, leaf, AvgNorthAndNorthWest, above, from, row)
         }
-        Predictor::Select => {
-            leaf_samples::<S, EDGE>(tokens, count, leaf, Predictor::Select, above, from, row)
+        AvgNorthAndNorthEast => {
+            leaf_samples::<S, EDGE>(tokens, count, leaf, AvgNorthAndNorthEast, above, from, row)
         }
-        Predictor::Gradient => {
-            leaf_samples::<S, EDGE>(tokens, count, leaf, Predictor::Gradient, above, from, row)
-        }
-        Predictor::NorthEast => {
-            leaf_samples::<S, EDGE>(tokens, count, leaf, Predictor::NorthEast, above, from, row)
-        }
-        Predictor::NorthWest => {
-            leaf_samples::<S, EDGE>(tokens, count, leaf, Predictor::NorthWest, above, from, row)
-        }
-        Predictor::WestWest => {
-            leaf_samples::<S, EDGE>(tokens, count, leaf, Predictor::WestWest, above, from, row)
-        }
-        Predictor::AvgWestAndNorthWest => {
-            leaf_samples::<S, EDGE>(
-                tokens,
-                count,
-                leaf,
-                Predictor::AvgWestAndNorthWest,
-                above,
-                from,
-                row,
-            )
-        }
-        Predictor::AvgNorthAndNorthWest => {
-            leaf_samples::<S, EDGE>(
-                tokens,
-                count,
-                leaf,
-                Predictor::AvgNorthAndNorthWest,
-                above,
-                from,
-                row,
-            )
-        }
-        Predictor::AvgNorthAndNorthEast => {
-            leaf_samples::<S, EDGE>(
-                tokens,
-                count,
-                leaf,
-                Predictor::AvgNorthAndNorthEast,
-                above,
-                from,
-                row,
-            )
-        }
-        Predictor::AvgAll => {
-            leaf_samples::<S, EDGE>(tokens, count, leaf, Predictor::AvgAll, above, from, row)
-        }
+        AvgAll => leaf_samples::<S, EDGE>(tokens, count, leaf, AvgAll, above, from, row),
         other => leaf_samples::<S, EDGE>(tokens, count, leaf, other, above, from, row),
     }
 }
