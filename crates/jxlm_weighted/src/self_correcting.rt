@@ -220,15 +220,18 @@ impl ErrorsAround {
         two_signs | ((self.w == self.n) & (self.w == self.nw))
     }
 
-    /// The prediction: clamped where the errors say so.
+    /// The prediction: clamped where the errors say so. The clamped one is computed in any case, so that no branch
+    /// depends on the errors.
+    #[inline(always)]
     fn settled(&self, around: &Around, unclamped: i64) -> i64
         requires { unsigned_abs unclamped < 2 ^ 40 }
         ensures value { result ≡
             if is_clamped (near_of self.now) then clamped_around (neighbours_of around.now) unclamped else unclamped }
         ensures bound { unsigned_abs result < 2 ^ 40 }
     {
+        let clamped = around.clamped(unclamped);
         if self.is_clamped() {
-            around.clamped(unclamped)
+            clamped
         } else {
             unclamped
         }
@@ -449,7 +452,9 @@ impl Corrector {
         }
     }
 
-    /// What is made of the cell in column `x` of row `y`, with these neighbours.
+    /// What is made of the cell in column `x` of row `y`, with these neighbours. It is inlined, and what it made stays
+    /// in registers.
+    #[inline(always)]
     pub fn predict<const EDGE: bool>(&self, x: usize, y: usize, around: &Around) -> PredictionResult
         requires in_row { x < self.now.width }
         requires inner { EDGE ≡ false → (2 ≤ y) × (2 ≤ x) × (x + 2 < self.now.width) }
