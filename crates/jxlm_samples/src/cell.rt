@@ -144,6 +144,7 @@ fn decode_cell<
 /// # Errors
 ///
 /// That of the read of one cell; the cells before are in the row then.
+#[inline(never)]
 fn read_cells<
     's,
     S: Sample,
