@@ -5,3 +5,4 @@ pub mod PlainTokens
 mod GammaBits
 pub mod GammaCodes
 pub mod RunsAhead
+pub mod RunTokens

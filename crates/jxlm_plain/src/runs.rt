@@ -1,6 +1,6 @@
 //! Tokens of one width under runs, many at a time.
 
-ghost use Rattle.std.specs.Prelude.{◌≡◌, ◌+◌, ◌*◌, ◌/◌, ◌^◌, ◌<◌, ◌≤◌, true, length, Ok};
+ghost use Rattle.std.specs.Prelude.{◌≡◌, ◌+◌, ◌*◌, ◌/◌, ◌^◌, ◌<◌, ◌≤◌, ◌⊎◌, ℕ, true, length, slice_index, Ok};
 ghost use Rattle.jxlm_bits.specs.Bits.{bytes_of, position_of};
 ghost use Rattle.jxlm_plain.specs.Plain.{is_runs, token_at};
 ghost use Rattle.jxlm_plain.specs.Inner.PlainReads.{ReadsTokens};
@@ -20,11 +20,12 @@ struct Ahead {
     at: u64,
 }
 
-/// The next token, which is then the last one.
+/// The next token, or the first of a run, which is then the last one; none is owed before it.
 #[tactic(auto, unfolding(crate::specs::Plain::token_at))]
 #[inline(always)]
 fn token_ahead(bits: &Bitstream<'_>, width: u32, before: Ahead) -> Ahead
     requires narrow { width ≤ 32 }
+    requires none { before.left ≡ 0 }
     requires few { before.at < 2 ^ 62 }
     requires room { (position_of bits.now + before.at) / 8 + 8 ≤ length (bytes_of bits.now) }
     ensures gives { token_at (Runs before.last before.left) (Fixed width) (bytes_of bits.now)
@@ -35,14 +36,8 @@ fn token_ahead(bits: &Bitstream<'_>, width: u32, before: Ahead) -> Ahead
           position = position_of bits.now + result.at;
         }) }
     ensures near { result.at ≤ before.at + 33 }
+    ensures few { result.left < 256 }
 {
-    if before.left > 0 {
-        return Ahead {
-            last: before.last,
-            left: before.left - 1,
-            at: before.at,
-        };
-    }
     let word = bits.ahead(before.at);
     if word % 2 == 1 {
         Ahead {
@@ -59,6 +54,43 @@ fn token_ahead(bits: &Bitstream<'_>, width: u32, before: Ahead) -> Ahead
     }
 }
 
+/// Writes a token into `count` places, from place `from` on.
+#[inline(always)]
+fn fill_from(tokens: &mut [u32], from: usize, count: usize, token: u32)
+    requires inside { from + count ≤ length tokens.old }
+    ensures many { length tokens.new ≡ length tokens.old }
+    ensures filled { (j : ℕ) → from ≤ j → j < from + count → slice_index tokens.new j ≡ token }
+    ensures kept { (j : ℕ) → j < from → slice_index tokens.new j ≡ slice_index tokens.old j }
+{
+    for k in from..from + count {
+        tokens[k] = token;
+    }
+}
+
+/// Writes the last token as often as it comes, once more than it is owed, but not past the end; returns how often.
+#[inline(always)]
+fn repeat_last(tokens: &mut [u32], from: usize, now: Ahead) -> usize
+    requires inside { from < length tokens.old }
+    requires few { now.left < 256 }
+    ensures least { 0 < result }
+    ensures most { result ≤ now.left + 1 }
+    ensures inside { from + result ≤ length tokens.old }
+    ensures whole { (result ≡ now.left + 1) ⊎ (from + result ≡ length tokens.old) }
+    ensures many { length tokens.new ≡ length tokens.old }
+    ensures filled { (j : ℕ) → from ≤ j → j < from + result → slice_index tokens.new j ≡ now.last }
+    ensures kept { (j : ℕ) → j < from → slice_index tokens.new j ≡ slice_index tokens.old j }
+{
+    let times = now.left as usize + 1;
+    if times <= 8 && from + 8 <= tokens.len() {
+        // always eight, of which those after the run are written again
+        fill_from(tokens, from, 8, now.last);
+        return times;
+    }
+    let count = times.min(tokens.len() - from);
+    fill_from(tokens, from, count, now.last);
+    count
+}
+
 /// Tokens that are all there, and eight bytes after them, from the reader's position on.
 #[inline(always)]
 fn tokens_ahead(bits: &Bitstream<'_>, width: u32, before: Ahead, tokens: &mut [u32]) -> Ahead
@@ -71,10 +103,18 @@ fn tokens_ahead(bits: &Bitstream<'_>, width: u32, before: Ahead, tokens: &mut [u
         (position_of bits.now + result.at) }
     ensures near { result.at ≤ 33 * length tokens.old }
 {
-    let mut now = before;
-    for k in 0..tokens.len() {
+    let mut k = (before.left as usize).min(tokens.len());
+    fill_from(tokens, 0, k, before.last);
+    let mut now = Ahead {
+        last: before.last,
+        left: before.left - k as u32,
+        at: 0,
+    };
+    while k < tokens.len() {
         now = token_ahead(bits, width, now);
-        tokens[k] = now.last;
+        let count = repeat_last(tokens, k, now);
+        now.left = now.left + 1 - count as u32;
+        k += count;
     }
     now
 }

@@ -7,14 +7,14 @@ use Rattle.jxlm_plain.proofs.runs.token_ahead.Goals as goal
 pub returns-then-word-eq1-clause-gives : goal.returns-then-word-eq1-clause-gives
 returns-then-word-eq1-clause-gives c =
     let p = position_of c.args.bits.now in
-    let none = c.if-before-gt0.false in
+    let none = c.requires.none in
     let place : p + (c.args.before.at + 9) ≡ p + c.args.before.at + 9 = omega arith in
     rw place (next_of_run (bytes_of c.args.bits.now) c.args.width (p + c.args.before.at) c.ahead-word.result c.requires.room c.ahead-word.ensures c.args.before.last c.args.before.left (omega (arith, none)) c.if-word-eq1.true)
 
 pub returns-else-word-eq1-clause-gives : goal.returns-else-word-eq1-clause-gives
 returns-else-word-eq1-clause-gives c =
     let p = position_of c.args.bits.now in
-    let none = c.if-before-gt0.false in
+    let none = c.requires.none in
     let odd = c.if-word-eq1.false in
     let even : c.ahead-word.result % 2 ≡ 0 = grind (arith, odd) in
     let place : p + (c.args.before.at + 1 + c.args.width) ≡ p + c.args.before.at + 1 + c.args.width = omega arith in
