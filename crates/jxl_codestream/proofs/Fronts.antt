@@ -16,7 +16,7 @@ use Rattle.jxl_image_header.specs.Images.{Image, image_header, image_refusal}
 use Rattle.jxl_image_header.specs.declared.refusal.Refusal.{Refusal as ImageRefusal}
 use Rattle.jxl_image_header.specs.declared.size.Size.{Size}
 use Rattle.jxl_frame_header.specs.Codings.{coding_refusal, is_modular, type_refusal}
-use Rattle.jxl_frame_header.specs.Frames.{Frame, frame_header, frame_refusal, frame_size, has_shifts, is_saved}
+use Rattle.jxl_frame_header.specs.Frames.{Frame, frame_header, frame_refusal, frame_size, has_floats, has_shifts, is_saved}
 use Rattle.jxl_frame_header.specs.declared.place.Crop.{Crop}
 use Rattle.jxl_frame_header.specs.declared.refusal.Refusal.{Refusal as FrameRefusal}
 use Rattle.jxl_frame_header.specs.declared.refusal.Refusal.TheVariants as refusals
@@ -175,7 +175,7 @@ covers_by size (Some c) false shown none = cc
 
 pub covers : (image : Image) (size : Size) (frame : Frame) → frame_refusal image frame ≡ None → is_saved frame ≡ false → frame_size size frame ≡ size
 covers image size frame supported shown =
-    let after_coding = second_none (coding_refusal (not (image.bit_depth.exp_bits == 0)) (has_shifts image) frame.coding) _ supported in
+    let after_coding = second_none (coding_refusal (has_floats image) (has_shifts image) frame.coding) _ supported in
     let after_factors = (passed (list_any (λ f. not (f == 1)) frame.ec_upsampling) refusals.ExtraUpsampling _ after_coding).1 in
     covers_by size frame.place.crop (is_saved frame) shown (passed (is_some frame.place.crop && not (is_saved frame)) refusals.Crop _ after_factors).0
 
@@ -183,7 +183,7 @@ covers image size frame supported shown =
 pub plain : (image : Image) (frame : Frame) → frame_refusal image frame ≡ None → (frame.coding.flags.patches && has_shifts image) ≡ false
 plain image frame supported =
     let f = frame.coding.flags in
-    let floats = not (image.bit_depth.exp_bits == 0) in
+    let floats = has_floats image in
     let coded = first_none (coding_refusal floats (has_shifts image) frame.coding) _ supported in
     let typed = second_none (type_refusal frame.coding.frame_type) _ coded in
     let encoded = (passed (not (is_modular frame.coding.encoding)) refusals.VarDct _ typed).1 in

@@ -40,7 +40,7 @@ abbrev pub is_modular : Encoding → Bool
 is_modular VarDct = false
 is_modular Modular = true
 
--- What of these is not supported, the first that holds: of an image whose colours are floats or not, and with an extra
+-- What of these is not supported, the first that holds: of an image with floats or not, and with an extra
 -- channel of a size of its own or not. Patches are added to whole numbers alone, and where all channels have one size.
 abbrev pub type_refusal : FrameType → Option Refusal
 type_refusal LfFrame = Some refusals.LfFrame

@@ -84,6 +84,10 @@ frame_header image = do
     extensions = extensions;
   })
 
+-- samples of colours or of an extra channel are floats
+abbrev pub has_floats : Image → Bool
+has_floats image = not (image.bit_depth.exp_bits == 0) || list_any (λ c. not (c.bit_depth.exp_bits == 0)) image.ec_info
+
 -- an extra channel has a size of its own
 abbrev pub has_shifts : Image → Bool
 has_shifts image = list_any (λ c. not (c.dim_shift == 0)) image.ec_info
@@ -98,7 +102,7 @@ frame_size picture h = option_map_or (λ c. record { width = c.width; height = c
 -- What a frame has that is not supported, the first that holds: one that is shown covers the picture, and is the last;
 -- one that only others use may have sides of its own, but none of 0, and is saved before its colours are transformed.
 abbrev pub frame_refusal : Image → Frame → Option Refusal
-frame_refusal image h = option_or (coding_refusal (not (image.bit_depth.exp_bits == 0)) (has_shifts image) h.coding) (
+frame_refusal image h = option_or (coding_refusal (has_floats image) (has_shifts image) h.coding) (
     if list_any (λ f. not (f == 1)) h.ec_upsampling then Some refusals.ExtraUpsampling else
     if is_some h.place.crop && not (is_saved h) then Some refusals.Crop else
     if option_map_or (λ c. (c.width == 0) || (c.height == 0)) h.place.crop false then Some refusals.EmptyFrame else

@@ -1,5 +1,5 @@
 -- The image header (ISO/IEC 18181-1, image header: ImageMetadata and what is before and after it).
-use Rattle.std.specs.Prelude.{ℕ, ◌+◌, ◌/◌, ◌%◌, ◌==◌, ◌&&◌, not, nat_lt, List, [], ◌∷◌, Bool, true, false, if◌then◌else◌, Option, Some, None, is_some, codes}
+use Rattle.std.specs.Prelude.{ℕ, ◌+◌, ◌/◌, ◌%◌, ◌==◌, ◌&&◌, nat_lt, List, [], ◌∷◌, Bool, true, false, if◌then◌else◌, Option, Some, None, is_some, codes}
 use Rattle.std.specs.Option.{option_or}
 use Rattle.jxlm_bits.specs.Grammar.{Grammar, number, flag, u32, give, repeated, ◌>>=◌}
 use Rattle.jxlm_bits.specs.declared.bits.U32Spec.TheVariants.{Const, Offset}
@@ -15,7 +15,7 @@ use Rattle.jxl_image_header.specs.declared.colour.ToneMapping.{ToneMapping}
 use Rattle.jxl_image_header.specs.declared.image.Animation.{Animation}
 use Rattle.jxl_image_header.specs.declared.image.ImageHeader.{ImageHeader}
 use Rattle.jxl_image_header.specs.declared.refusal.Refusal.{Refusal}
-use Rattle.jxl_image_header.specs.declared.refusal.Refusal.TheVariants.{Preview, Animation as Animated, FloatDepth, ExtraFloats, ExtraSize, Xyb}
+use Rattle.jxl_image_header.specs.declared.refusal.Refusal.TheVariants.{Preview, Animation as Animated, ExtraSize, Xyb}
 
 -- an image header, seen without its memory
 pub record Image : Type 0 where
@@ -105,13 +105,11 @@ image_header = do
 -- what extra channels have that is not supported, by the first that has something
 abbrev pub channels_refusal : List ExtraChannel → Option Refusal
 channels_refusal [] = None
-channels_refusal (c ∷ cs) =
-    if not (c.bit_depth.exp_bits == 0) then Some ExtraFloats else if nat_lt 3 c.dim_shift then Some ExtraSize else channels_refusal cs
+channels_refusal (c ∷ cs) = if nat_lt 3 c.dim_shift then Some ExtraSize else channels_refusal cs
 
 -- what an image has that is not supported, by the first of its fields that says so
 abbrev pub image_refusal : Image → Option Refusal
 image_refusal h =
     if is_some h.preview then Some Preview else
     if is_some h.animation then Some Animated else
-    if not (h.bit_depth.exp_bits == 0) && not ((h.bit_depth.exp_bits == 8) && (h.bit_depth.bits_per_sample == 32)) then Some FloatDepth else
     option_or (channels_refusal h.ec_info) (if h.xyb_encoded then Some Xyb else None)

@@ -96,13 +96,6 @@ fn sample_bits(bits: &mut Bitstream<'_>, float: bool) -> Result<u32>
     }
 }
 
-fn fits_float(bits: u32, exponent: u32) -> bool
-    requires small { exponent ≤ 16 }
-    ensures { result ≡ the_fits_float bits exponent }
-{
-    2 <= exponent && exponent <= 8 && exponent + 3 <= bits && bits <= exponent + 24
-}
-
 // How many of this number of bits are an exponent: none of a whole number.
 fn exponent_bits(bits: &mut Bitstream<'_>, float: bool, all: u32) -> Result<u32>
     ensures { HasRead Reads (λ v. v) result bits.old bits.new
@@ -112,7 +105,11 @@ fn exponent_bits(bits: &mut Bitstream<'_>, float: bool, all: u32) -> Result<u32>
         return Ok(0);
     }
     let value = 1 + number(bits, 4)?;
-    if fits_float(all, value) {
+    let depth = BitDepth {
+        bits_per_sample: all,
+        exp_bits: value,
+    };
+    if depth.is_float() {
         Ok(value)
     } else {
         let name = "exponent_bits";
@@ -121,6 +118,14 @@ fn exponent_bits(bits: &mut Bitstream<'_>, float: bool, all: u32) -> Result<u32>
 }
 
 impl BitDepth {
+    /// Whether samples are floats: they have 2 to 8 bits of exponent, and besides these and the sign 2 to 23 of mantissa.
+    pub fn is_float(self) -> bool
+        ensures { result ≡ the_fits_float self.bits_per_sample self.exp_bits }
+    {
+        let (bits, exponent) = (self.bits_per_sample, self.exp_bits);
+        2 <= exponent && exponent <= 8 && exponent + 3 <= bits && bits <= exponent + 24
+    }
+
     /// How samples are stored, as it stands at the reader's position. `InvalidEnum` for whole numbers of more than 31
     /// bits, and for floats whose exponent or mantissa has a size that none may have.
     #[tactic(auto, unfolding(crate::specs::Channels::bit_depth))]

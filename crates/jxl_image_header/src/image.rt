@@ -1,6 +1,6 @@
 //! The image header.
 
-ghost use Rattle.std.specs.Prelude.{◌≡◌, ◌==◌, ◌&&◌, not, if◌then◌else◌, Some, None, [], codes};
+ghost use Rattle.std.specs.Prelude.{◌≡◌, ◌==◌, ◌&&◌, if◌then◌else◌, Some, None, [], codes};
 ghost use Rattle.jxlm_bits.specs.Grammar.{Reads, number as the_number, repeated, HasRead, Parses};
 ghost use Rattle.jxl_image_header.specs.Channels.{extra_channel};
 ghost use Rattle.jxl_image_header.specs.Fields.{number_where, optional, when};
@@ -205,20 +205,10 @@ fn signature(bits: &mut Bitstream<'_>) -> Result<u32>
     }
 }
 
-// Whether a depth is of floats, and not of 32 bits with 8 of exponent.
-fn is_other_float(depth: BitDepth) -> bool
-    ensures { result ≡ not (depth.exp_bits == 0) && not ((depth.exp_bits == 8) && (depth.bits_per_sample == 32)) }
-{
-    depth.exp_bits != 0 && !(depth.exp_bits == 8 && depth.bits_per_sample == 32)
-}
-
 fn channels_refusal(channels: &[ExtraChannel]) -> Option<Refusal>
     ensures { result ≡ the_channels_refusal channels.now }
 {
     for channel in channels {
-        if channel.bit_depth.exp_bits != 0 {
-            return Some(Refusal::ExtraFloats);
-        }
         if channel.dim_shift > 3 {
             return Some(Refusal::ExtraSize);
         }
@@ -284,8 +274,6 @@ impl ImageHeader {
             Some(Refusal::Preview)
         } else if self.animation.is_some() {
             Some(Refusal::Animation)
-        } else if is_other_float(self.bit_depth) {
-            Some(Refusal::FloatDepth)
         } else {
             channels_refusal(&self.ec_info).or(xyb_refusal(self.xyb_encoded))
         }

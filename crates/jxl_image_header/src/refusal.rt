@@ -9,12 +9,6 @@ pub enum Refusal {
     /// The picture is animated.
     #[error("an animation")]
     Animation,
-    /// Colours are floats of other than 32 bits with 8 of exponent.
-    #[error("floats of other than 32 bits")]
-    FloatDepth,
-    /// An extra channel has floats.
-    #[error("an extra channel of floats")]
-    ExtraFloats,
     /// An extra channel has sides that are less than an eighth of the picture's.
     #[error("an extra channel with a shift above 3")]
     ExtraSize,

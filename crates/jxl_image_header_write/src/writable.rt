@@ -5,7 +5,6 @@ ghost use Rattle.std.specs.List.{list_all};
 ghost use Rattle.std.specs.Option.{option_map_or};
 ghost use Rattle.jxlm_bits.specs.declared.bits.U32Spec.TheVariants.{Const, Offset};
 ghost use Rattle.jxlm_bit_writer.specs.Fields.{is_spelled as is_spelled_by};
-ghost use Rattle.jxl_image_header.specs.Channels.{fits_float as the_fits_float};
 ghost use Rattle.jxl_image_header.specs.Images.{image_of};
 ghost use Rattle.jxl_image_header_write.specs.Writable.{is_size as the_is_size, is_animation as the_is_animation, is_coordinate as the_is_coordinate, is_chromaticity as the_is_chromaticity, is_depth as the_is_depth, is_channel as the_is_channel, is_white as known_white, is_usual_white as usual_white, are_primaries as known_primaries, is_usual_primaries as usual_primaries, is_function as known_function, is_usual_function as usual_function, is_usual_intent as usual_intent, is_unknown_space as unknown_space, is_colour as the_is_colour, is_tone as the_is_tone, is_writable as the_is_writable};
 
@@ -20,15 +19,6 @@ use jxl_image_header::image::{Animation, ImageHeader};
 use jxl_image_header::size::Size;
 use jxlm_bit_writer::spelled::is_spelled;
 use jxlm_bits::bits::U32Spec;
-
-fn fits_float(bits: u32, exponent: u32) -> bool
-    ensures { result ≡ the_fits_float bits exponent }
-{
-    2 <= exponent
-        && exponent <= 8
-        && u64::from(exponent) + 3 <= u64::from(bits)
-        && u64::from(bits) <= u64::from(exponent) + 24
-}
 
 fn is_depth(depth: BitDepth) -> bool
     ensures { result ≡ the_is_depth depth }
@@ -50,7 +40,7 @@ fn is_depth(depth: BitDepth) -> bool
         U32Spec::Offset(1, 6),
         depth.bits_per_sample,
     );
-    spelled && fits_float(depth.bits_per_sample, depth.exp_bits)
+    spelled && depth.is_float()
 }
 
 fn is_shift(shift: u32) -> bool

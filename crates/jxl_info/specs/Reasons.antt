@@ -11,8 +11,6 @@ use Rattle.jxl_codestream.specs.declared.error.FrontError.TheVariants as errors
 unfoldable pub image_reason : ImageRefusal → List ℕ
 image_reason images.Preview = codes "a preview"
 image_reason images.Animation = codes "an animation"
-image_reason images.FloatDepth = codes "floats of other than 32 bits"
-image_reason images.ExtraFloats = codes "an extra channel of floats"
 image_reason images.ExtraSize = codes "an extra channel with a shift above 3"
 image_reason images.Xyb = codes "a lossy picture (XYB)"
 

@@ -16,8 +16,6 @@ pub fn image_reason(refusal: ImageRefusal) -> &'static str
     match refusal {
         ImageRefusal::Preview => "a preview",
         ImageRefusal::Animation => "an animation",
-        ImageRefusal::FloatDepth => "floats of other than 32 bits",
-        ImageRefusal::ExtraFloats => "an extra channel of floats",
         ImageRefusal::ExtraSize => "an extra channel with a shift above 3",
         ImageRefusal::Xyb => "a lossy picture (XYB)",
     }

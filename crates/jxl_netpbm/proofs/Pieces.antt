@@ -7,16 +7,18 @@ use Rattle.std.proofs.lemmas.List.Edits.{get_or-between}
 use Rattle.std.proofs.lemmas.List.Folds.{flat_map-map}
 use Rattle.jxlm_base.specs.Grid.{Grid, at, cell, row}
 use Rattle.jxlm_base.proofs.GridLaws.{at_from_cell}
+use Rattle.jxl_image_header.specs.declared.channel.BitDepth.{BitDepth}
+use Rattle.jxl_picture.specs.Floats.{single_bits}
 use Rattle.jxl_netpbm.specs.Rasters.{level, rescaled_sample, number_text, sample_text, pixel_text, pixels_text, float_text}
 use Rattle.jxl_netpbm.specs.Layers.{layer_of, layers_of}
 use Rattle.jxl_netpbm.specs.declared.layers.Layer.{Layer as Held}
 use Rattle.jxl_netpbm.proofs.Growing.{below_more, take_piece}
 
-pub float_piece : (channels : List (Grid ℤ)) (i x y : ℕ) (item : Grid ℤ) (v : ℤ) → i < length channels → item ≡ get_or channels i item → cell item x y ≡ Some v →
-    flat_map (float_text x y) (take (i + 1) channels) ≡ flat_map (float_text x y) (take i channels) ++ to_le_bytes w32 (cast_unsigned w32 v)
-float_piece channels i x y item v within is here =
+pub float_piece : (depth : BitDepth) (channels : List (Grid ℤ)) (i x y : ℕ) (item : Grid ℤ) (v : ℤ) → i < length channels → item ≡ get_or channels i item → cell item x y ≡ Some v →
+    flat_map (float_text depth x y) (take (i + 1) channels) ≡ flat_map (float_text depth x y) (take i channels) ++ to_le_bytes w32 (single_bits depth (cast_unsigned w32 v))
+float_piece depth channels i x y item v within is here =
     let same : at (get_or channels i item) x y ≡ v = subst (λ (g : Grid ℤ). at g x y ≡ v) is (at_from_cell item x y v here) in
-    take_piece (float_text x y) channels i item within ∙ ap (λ n. flat_map (float_text x y) (take i channels) ++ to_le_bytes w32 (cast_unsigned w32 n)) same
+    take_piece (float_text depth x y) channels i item within ∙ ap (λ n. flat_map (float_text depth x y) (take i channels) ++ to_le_bytes w32 (single_bits depth (cast_unsigned w32 n))) same
 
 abbrev held_text : ℕ → ℕ → ℕ → Held → List ℕ
 held_text most x y l = sample_text most x y (layer_of l)

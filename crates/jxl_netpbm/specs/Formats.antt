@@ -4,6 +4,7 @@ use Rattle.std.specs.List.{list_all}
 use Rattle.std.specs.Fmt.{decimal}
 use Rattle.jxlm_base.specs.Grid.{Grid}
 use Rattle.jxl_text.specs.Printing.{image_text, line}
+use Rattle.jxl_image_header.specs.Channels.{fits_float}
 use Rattle.jxl_image_header.specs.Images.{Image}
 use Rattle.jxl_image_header.specs.declared.channel.BitDepth.{BitDepth}
 use Rattle.jxl_image_header.specs.declared.channel.ExtraChannel.{ExtraChannel}
@@ -25,7 +26,7 @@ abbrev pub suits : Format → Image → Bool
 suits Pgm image = is_grey image && is_whole 16 image.bit_depth
 suits Ppm image = is_whole 16 image.bit_depth
 suits Pam image = is_whole 16 image.bit_depth && list_all can_stand image.ec_info
-suits Pfm image = (image.bit_depth.exp_bits == 8) && (image.bit_depth.bits_per_sample == 32)
+suits Pfm image = fits_float image.bit_depth.bits_per_sample image.bit_depth.exp_bits
 suits Text image = true
 
 -- how many channels the format leaves out
@@ -106,5 +107,5 @@ text_of Pgm image channels = pnm_text (codes "P5") image channels
 text_of Ppm image channels = pnm_text (pnm_magic image) image channels
 text_of Pam image channels = pam_head image ++ raster_of image (pam_layers image channels)
 text_of Pfm image channels =
-    pfm_head image ++ float_rows (colours_of image channels) image.size.width image.size.height image.size.height
+    pfm_head image ++ float_rows image.bit_depth (colours_of image channels) image.size.width image.size.height image.size.height
 text_of Text image channels = image_text channels

@@ -3,6 +3,8 @@ use Rattle.std.specs.Prelude.{ℕ, ◌+◌, ◌-◌, ◌*◌, ◌/◌, ◌%◌, 
 use Rattle.std.specs.Int.{w32, cast_unsigned, to_le_bytes}
 use Rattle.std.specs.List.{flat_map}
 use Rattle.jxlm_base.specs.Grid.{Grid, below, at}
+use Rattle.jxl_image_header.specs.declared.channel.BitDepth.{BitDepth}
+use Rattle.jxl_picture.specs.Floats.{single_bits}
 
 -- the maximum of whole numbers of this number of bits
 abbrev pub maximum : ℕ → ℕ
@@ -43,13 +45,14 @@ module _ (most : ℕ) where
   abbrev pub raster_text : List Layer → ℕ → ℕ → List ℕ
   raster_text layers width n = flat_map (λ y. pixels_text layers y width) (below n)
 
--- floats: the bits of a sample as four bytes, the least significant first
-abbrev pub float_text : ℕ → ℕ → Grid ℤ → List ℕ
-float_text x y g = to_le_bytes w32 (cast_unsigned w32 (at g x y))
+module _ (depth : BitDepth) where
+  -- floats: the bits of a sample, as a float of 32 bits, as four bytes, the least significant first
+  abbrev pub float_text : ℕ → ℕ → Grid ℤ → List ℕ
+  float_text x y g = to_le_bytes w32 (single_bits depth (cast_unsigned w32 (at g x y)))
 
-abbrev pub float_pixels : List (Grid ℤ) → ℕ → ℕ → List ℕ
-float_pixels channels y n = flat_map (λ x. flat_map (float_text x y) channels) (below n)
+  abbrev pub float_pixels : List (Grid ℤ) → ℕ → ℕ → List ℕ
+  float_pixels channels y n = flat_map (λ x. flat_map (float_text x y) channels) (below n)
 
--- the last n rows of `height`, from bottom to top
-abbrev pub float_rows : List (Grid ℤ) → ℕ → ℕ → ℕ → List ℕ
-float_rows channels width height n = flat_map (λ k. float_pixels channels (height - 1 - k) width) (below n)
+  -- the last n rows of `height`, from bottom to top
+  abbrev pub float_rows : List (Grid ℤ) → ℕ → ℕ → ℕ → List ℕ
+  float_rows channels width height n = flat_map (λ k. float_pixels channels (height - 1 - k) width) (below n)

@@ -9,6 +9,8 @@ use Rattle.std.proofs.lemmas.List.{get_or-drop}
 use Rattle.std.proofs.lemmas.Nat.{from_le_bytes-to_le_bytes_4}
 use Rattle.std.proofs.lemmas.Option.{get_or_from_slice_get, slice_get_within}
 use Rattle.jxlm_base.specs.Grid.{Grid, at, cell}
+use Rattle.jxl_picture.specs.Floats.{single, single_bits}
+use Rattle.jxl_picture.proofs.Singles.{single_is}
 use Rattle.jxl_netpbm.specs.Rasters.{float_pixels, float_rows, float_text}
 use Rattle.jxl_netpbm_read.specs.Files.{IsNetpbmOf, image_by}
 use Rattle.jxl_netpbm_read.specs.Headers.{float_from, header_after, is_decimal, magic_of, scale_from}
@@ -77,17 +79,17 @@ float_read bytes p is_grey w h raster at wide high =
 -- ---- the samples
 
 module _ (gs : List (Grid ℤ)) (w h : ℕ) where
-  pixel : (y x : ℕ) → length (flat_map (float_text x y) gs) ≡ length gs * 4
-  pixel y x = length-pieces (float_text x y) 4 (λ g. refl) gs
+  pixel : (y x : ℕ) → length (flat_map (float_text single x y) gs) ≡ length gs * 4
+  pixel y x = length-pieces (float_text single x y) 4 (λ g. refl) gs
 
-  row : (y : ℕ) → length (float_pixels gs y w) ≡ w * (length gs * 4)
-  row y = length-numbers (λ x. flat_map (float_text x y) gs) (length gs * 4) w (pixel y)
+  row : (y : ℕ) → length (float_pixels single gs y w) ≡ w * (length gs * 4)
+  row y = length-numbers (λ x. flat_map (float_text single x y) gs) (length gs * 4) w (pixel y)
 
-  length-floats : length (float_rows gs w h h) ≡ h * (w * (length gs * 4))
-  length-floats = length-numbers (λ r. float_pixels gs (h - 1 - r) w) (w * (length gs * 4)) h (λ r. row (h - 1 - r))
+  length-floats : length (float_rows single gs w h h) ≡ h * (w * (length gs * 4))
+  length-floats = length-numbers (λ r. float_pixels single gs (h - 1 - r) w) (w * (length gs * 4)) h (λ r. row (h - 1 - r))
 
   float_byte : (x y k j : ℕ) (g : Grid ℤ) → slice_get gs k ≡ Some g → x < w → y < h → j < 4 →
-      get_or (float_rows gs w h h) ((((h - 1 - y) * w + x) * length gs + k) * 4 + j) 0 ≡ get_or (float_text x y g) j 0
+      get_or (float_rows single gs w h h) ((((h - 1 - y) * w + x) * length gs + k) * 4 + j) 0 ≡ get_or (float_text single x y g) j 0
   float_byte x y k j g is inside under within =
       let n = length gs in
       let r = h - 1 - y in
@@ -96,11 +98,11 @@ module _ (gs : List (Grid ℤ)) (w h : ℕ) where
       let second : x * (n * 4) + (k * 4 + j) < w * (n * 4) = piece_place x w (n * 4) (k * 4 + j) inside third in
       let below : r < h = omega (arith, under) in
       let back : h - 1 - r ≡ y = omega (arith, under) in
-      ap (λ i. get_or (float_rows gs w h h) i 0) (place_split r w x n k 4 j)
-      ∙ number_byte (λ i. float_pixels gs (h - 1 - i) w) (w * (n * 4)) h r (x * (n * 4) + (k * 4 + j)) (λ i. row (h - 1 - i)) below second
-      ∙ ap (λ i. get_or (float_pixels gs i w) (x * (n * 4) + (k * 4 + j)) 0) back
-      ∙ number_byte (λ i. flat_map (float_text i y) gs) (n * 4) w x (k * 4 + j) (pixel y) inside third
-      ∙ piece_byte (float_text x y) 4 (λ v. refl) gs k j g is within
+      ap (λ i. get_or (float_rows single gs w h h) i 0) (place_split r w x n k 4 j)
+      ∙ number_byte (λ i. float_pixels single gs (h - 1 - i) w) (w * (n * 4)) h r (x * (n * 4) + (k * 4 + j)) (λ i. row (h - 1 - i)) below second
+      ∙ ap (λ i. get_or (float_pixels single gs i w) (x * (n * 4) + (k * 4 + j)) 0) back
+      ∙ number_byte (λ i. flat_map (float_text single i y) gs) (n * 4) w x (k * 4 + j) (pixel y) inside third
+      ∙ piece_byte (float_text single x y) 4 (λ v. refl) gs k j g is within
 
 -- four bytes are those of a number
 four_bytes : (bytes : List ℕ) (p n : ℕ) → n < 2 ^ 32 → ((j : ℕ) → j < 4 → slice_index bytes (p + j) ≡ get_or (to_le_bytes w32 n) j 0) → little_32 bytes p ≡ n
@@ -117,7 +119,7 @@ four_bytes bytes p n small are =
 abbrev pub floats_header : ℕ → ℕ → Bool → Bool → ℕ → Header
 floats_header w h is_grey little start = record { width = w; height = h; grey = is_grey; alpha = false; storage = Floats little; start = start }
 
-module _ (text : List ℕ) (w h start other : ℕ) (is_grey little : Bool) (gs : List (Grid ℤ)) (placed : At text start (float_rows gs w h h)) (count : length gs ≡ colour_count is_grey) where
+module _ (text : List ℕ) (w h start other : ℕ) (is_grey little : Bool) (gs : List (Grid ℤ)) (placed : At text start (float_rows single gs w h h)) (count : length gs ≡ colour_count is_grey) where
   abbrev the_header : Header
   the_header = floats_header w h is_grey true start
 
@@ -131,11 +133,11 @@ module _ (text : List ℕ) (w h start other : ℕ) (is_grey little : Bool) (gs :
   float_placed x y k n g is inside below value small =
       let index = ((h - 1 - y) * w + x) * colour_count is_grey + k in
       let here : at g x y ≡ cast_signed w32 n = get_or_from_slice_get g.cells (y * g.width + x) (cast_signed w32 n) (pos 0) value in
-      let bits : cast_unsigned w32 (at g x y) ≡ n = ap (cast_unsigned w32) here ∙ of_z-to_z w32 n small in
+      let bits : single_bits single (cast_unsigned w32 (at g x y)) ≡ n = ap (λ v. single_bits single (cast_unsigned w32 v)) here ∙ ap (single_bits single) (of_z-to_z w32 n small) ∙ single_is n small in
       four_bytes text (start + index * 4) n small (λ j within.
       let place : start + index * 4 + j ≡ start + (index * 4 + j) = omega arith in
       ap (slice_index text) place ∙ sym (get_or-drop start text (index * 4 + j) 0) ∙ ap (λ (bs : List ℕ). get_or bs (index * 4 + j) 0) placed.is
-      ∙ ap (λ m. get_or (float_rows gs w h h) ((((h - 1 - y) * w + x) * m + k) * 4 + j) 0) (sym count)
+      ∙ ap (λ m. get_or (float_rows single gs w h h) ((((h - 1 - y) * w + x) * m + k) * 4 + j) 0) (sym count)
       ∙ float_byte gs w h x y k j g is inside below within
       ∙ ap (λ m. get_or (to_le_bytes w32 m) j 0) bits)
 
@@ -156,10 +158,10 @@ module _ (text : List ℕ) (w h start other : ℕ) (is_grey little : Bool) (gs :
 pub pfm_file : (m w h start : ℕ) (is_grey little : Bool) (gs : List (Grid ℤ)) → ((bytes : List ℕ) → header_after bytes (magic_of m) ≡ float_from bytes is_grey 2) →
     is_side w ≡ true → is_side h ≡ true → length gs ≡ colour_count is_grey →
     ((k : ℕ) (g : Grid ℤ) → slice_get gs k ≡ Some g → IsChannel (floats_header w h is_grey little start) g) →
-    IsNetpbmOf (80 ∷ m ∷ 10 ∷ (((((decimal w ++ 32 ∷ []) ++ decimal h) ++ 10 ∷ []) ++ (scale_word ++ 10 ∷ [])) ++ float_rows gs w h h))
+    IsNetpbmOf (80 ∷ m ∷ 10 ∷ (((((decimal w ++ 32 ∷ []) ++ decimal h) ++ 10 ∷ []) ++ (scale_word ++ 10 ∷ [])) ++ float_rows single gs w h h))
     (image_by (floats_header w h is_grey little start)) gs
 pfm_file m w h start is_grey little gs magic wide high count own =
-    let raster = float_rows gs w h h in
+    let raster = float_rows single gs w h h in
     let rest = ((((decimal w ++ 32 ∷ []) ++ decimal h) ++ 10 ∷ []) ++ (scale_word ++ 10 ∷ [])) ++ raster in
     let text = 80 ∷ m ∷ 10 ∷ rest in
     let at : At text 2 (10 ∷ (decimal w ++ 32 ∷ (decimal h ++ 10 ∷ (scale_word ++ 10 ∷ raster)))) =

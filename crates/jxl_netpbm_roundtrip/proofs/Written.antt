@@ -3,6 +3,7 @@ use Rattle.std.proofs.Common.{◌≡◌, ◌≢◌, ℕ, ℤ, List, [], ◌∷�
 use Rattle.std.specs.Prelude.{slice_get}
 use Rattle.jxlm_base.specs.Grid.{Grid}
 use Rattle.std.proofs.lemmas.Bool.{false≢true}
+use Rattle.jxl_picture.specs.Floats.{single}
 use Rattle.jxl_netpbm.specs.Formats.{left_out, pam_head, pfm_head, pnm_head, suits, text_of}
 use Rattle.jxl_netpbm.specs.Rasters.{Layer, float_rows, maximum, raster_text}
 use Rattle.jxl_netpbm.specs.declared.format.Format.{Format}
@@ -63,14 +64,14 @@ grey_floats : (w h start : ℕ) (little : Bool) (gs : List (Grid ℤ)) → IsRea
 grey_floats w h start little gs wide high stored suits out count own =
     let all : take 1 gs ≡ gs = take_all 1 gs (omega (arith, count)) in
     let image = image_by (floats_header w h true little start) in
-    let P : List (Grid ℤ) → Type 0 = λ (xs : List (Grid ℤ)). IsNetpbmOf (pfm_head image ++ float_rows xs w h h) image gs in
+    let P : List (Grid ℤ) → Type 0 = λ (xs : List (Grid ℤ)). IsNetpbmOf (pfm_head image ++ float_rows single xs w h h) image gs in
     subst P (sym all) (pfm_file 102 w h start true little gs (λ bytes. refl) wide high count own)
 
 colour_floats : (w h start : ℕ) (little : Bool) (gs : List (Grid ℤ)) → IsRead Pfm w h false false (Floats little) start gs
 colour_floats w h start little gs wide high stored suits out count own =
     let all : take 3 gs ≡ gs = take_all 3 gs (omega (arith, count)) in
     let image = image_by (floats_header w h false little start) in
-    let P : List (Grid ℤ) → Type 0 = λ (xs : List (Grid ℤ)). IsNetpbmOf (pfm_head image ++ float_rows xs w h h) image gs in
+    let P : List (Grid ℤ) → Type 0 = λ (xs : List (Grid ℤ)). IsNetpbmOf (pfm_head image ++ float_rows single xs w h h) image gs in
     subst P (sym all) (pfm_file 70 w h start false little gs (λ bytes. refl) wide high count own)
 
 by_cases : (format : Format) (w h : ℕ) (is_grey has_alpha : Bool) (s : Storage) (start : ℕ) (gs : List (Grid ℤ)) → format ≢ Text → IsRead format w h is_grey has_alpha s start gs

@@ -2,3 +2,4 @@ pub mod Shifts
 pub mod Channels
 pub mod Orienting
 pub mod Undoing
+pub mod Singles

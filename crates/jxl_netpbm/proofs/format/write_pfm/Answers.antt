@@ -19,7 +19,7 @@ returns-clause-ok g c =
     let head : c.as_str.result.now ≡ pfm_head image = search rules in
     let front : c.split_at.result.0.now ≡ colours_of image c.args.picture.now.channels.items = search rules in
     subst (λ (t : List ℕ). OnOk c.write_parts.result (Appends (g.W.Write.contents c.args.output.now) (g.W.Write.contents c.write_parts.new.output) t))
-    (ap (λ (t : List ℕ). t ++ float_rows c.split_at.result.0.now size.width size.height size.height) head ∙ ap (λ (gs : List (Grid ℤ)). pfm_head image ++ float_rows gs size.width size.height size.height) front)
+    (ap (λ (t : List ℕ). t ++ float_rows image.bit_depth c.split_at.result.0.now size.width size.height size.height) head ∙ ap (λ (gs : List (Grid ℤ)). pfm_head image ++ float_rows image.bit_depth gs size.width size.height size.height) front)
     c.write_parts.ensures.ok
 
 pub returns-clause-err : goal.returns-clause-err
@@ -29,5 +29,5 @@ returns-clause-err g c =
     let head : c.as_str.result.now ≡ pfm_head image = search rules in
     let front : c.split_at.result.0.now ≡ colours_of image c.args.picture.now.channels.items = search rules in
     subst (λ (t : List ℕ). OnErr c.write_parts.result (AppendsBeginning (g.W.Write.contents c.args.output.now) (g.W.Write.contents c.write_parts.new.output) t))
-    (ap (λ (t : List ℕ). t ++ float_rows c.split_at.result.0.now size.width size.height size.height) head ∙ ap (λ (gs : List (Grid ℤ)). pfm_head image ++ float_rows gs size.width size.height size.height) front)
+    (ap (λ (t : List ℕ). t ++ float_rows image.bit_depth c.split_at.result.0.now size.width size.height size.height) head ∙ ap (λ (gs : List (Grid ℤ)). pfm_head image ++ float_rows image.bit_depth gs size.width size.height size.height) front)
     c.write_parts.ensures.err

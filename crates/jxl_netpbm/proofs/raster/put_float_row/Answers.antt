@@ -12,5 +12,5 @@ put_floats-end-requires-clause-room c =
 pub loop-x-preserved : goal.loop-x-preserved
 loop-x-preserved c = record {
   place = place_next c.args.at c.loop-x.x (length c.args.channels.now * 4) c.loop-x.end c.put_floats-end.result c.loop-x.invariant.place c.put_floats-end.ensures.end;
-  text = joined _ _ _ _ _ _ c.loop-x.invariant.text c.put_floats-end.ensures.text (below_more (λ (x : ℕ). flat_map (float_text x c.args.y) c.args.channels.now) c.loop-x.x);
+  text = joined _ _ _ _ _ _ c.loop-x.invariant.text c.put_floats-end.ensures.text (below_more (λ (x : ℕ). flat_map (float_text c.args.depth x c.args.y) c.args.channels.now) c.loop-x.x);
 }

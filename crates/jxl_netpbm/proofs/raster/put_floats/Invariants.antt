@@ -6,5 +6,5 @@ use Rattle.jxl_netpbm.proofs.raster.put_floats.Given as goal
 abbrev pub invariant-loop-channel : goal.invariant-loop-channel
 invariant-loop-channel l = record {
   place : l.end ≡ l.at + l.channel-index * 4;
-  text : take l.end l.bytes ≡ take l.at l.initial.bytes ++ flat_map (float_text l.x l.y) (take l.channel-index l.channels);
+  text : take l.end l.bytes ≡ take l.at l.initial.bytes ++ flat_map (float_text l.depth l.x l.y) (take l.channel-index l.channels);
 }
