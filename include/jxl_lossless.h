@@ -83,8 +83,8 @@ typedef struct jxl_lossless_info {
     uint32_t width, height; /* of the picture as it is shown: already turned or mirrored as the file asks */
     uint32_t colours;       /* the number of channels of colours: 1, grey; 3, red, green and blue */
     uint32_t extra;         /* the number of extra channels; there are colours + extra channels */
-    uint32_t bits;          /* of a sample of colours: from 1 to 31, whole numbers from 0 to 2^bits - 1; or 32 */
-    uint32_t exponent_bits; /* 0, whole numbers; 8, the samples are the bits of floats */
+    uint32_t bits;          /* of a sample of colours: from 1 to 31, whole numbers from 0 to 2^bits - 1; of floats 5 to 32 */
+    uint32_t exponent_bits; /* 0, whole numbers; 2 to 8, the samples are the bits of floats with such an exponent */
     uint32_t alpha;         /* the number of the first alpha channel with the sides of the picture, or 0: none */
     uint32_t space;         /* of colours: 0, red, green and blue; 1, grey; 3, only the profile says it */
     uint32_t white;         /* the white point: 1, D65; 2, by coordinates; 10, E; 11, DCI */
@@ -117,8 +117,8 @@ typedef struct jxl_lossless_channel {
     uint32_t kind;          /* JXL_LOSSLESS_COLOUR, or the kind of an extra channel */
     uint32_t width, height; /* the sides of the picture by 2^shift, rounded up */
     uint32_t shift;
-    uint32_t bits;          /* of a sample: whole numbers from 0 to 2^bits - 1, or 32 */
-    uint32_t exponent_bits; /* 0, whole numbers; 8, the samples are the bits of floats */
+    uint32_t bits;          /* of a sample: whole numbers from 0 to 2^bits - 1; of floats 5 to 32 */
+    uint32_t exponent_bits; /* 0, whole numbers; 2 to 8, the samples are the bits of floats with such an exponent */
     uint32_t associated;    /* of alpha: 1, colours were multiplied by it; else 0 */
     uint32_t reserved;      /* 0 */
 } jxl_lossless_channel;
@@ -179,7 +179,7 @@ enum { JXL_LOSSLESS_FAST = 0, JXL_LOSSLESS_USUAL = 1, JXL_LOSSLESS_BEST = 2 };
  * JXL_LOSSLESS_NO_ROOM: `file_size` is below `*needed`, the size of such a file; only then, and with JXL_LOSSLESS_DONE, the
  * call writes `*needed`. JXL_LOSSLESS_WRONG_COUNT: `extra_count`, `profile_size` or `count` is not what `info` and `extra`
  * say. JXL_LOSSLESS_NOT_CODABLE: a side is 0 or above 2^30; info.colours does not suit info.space; a white point or primaries
- * by coordinates; spot colours, filter arrays, extra channels of floats; or another number that the fields above do not
+ * by coordinates; spot colours, filter arrays; or another number that the fields above do not
  * list. JXL_LOSSLESS_NO_MEMORY is also returned if a section of the file would have 2^30 bytes or more, and for 2^31 samples
  * or more. */
 jxl_lossless_status jxl_lossless_encode(const jxl_lossless_info *info, const jxl_lossless_channel *extra,

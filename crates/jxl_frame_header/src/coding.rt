@@ -178,8 +178,8 @@ impl FrameCoding {
         }
     }
 
-    /// What of it is not supported, of an image whose samples are floats or not, and which has extra channels of other
-    /// sizes or not: the first in the order of the bits, or none.
+    /// What of it is not supported, of an image that has channels of floats or not, and extra channels of other sizes or
+    /// not: the first in the order of the bits, or none.
     pub fn refused(&self, floats: bool, shifts: bool) -> Option<Refusal>
         ensures { result ≡ coding_refusal floats shifts self.now }
     {

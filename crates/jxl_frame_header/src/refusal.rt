@@ -15,7 +15,7 @@ pub enum Refusal {
     /// Noise is added.
     #[error("noise")]
     Noise,
-    /// Parts of other frames are put into it, and samples are floats.
+    /// Parts of other frames are put into it, and samples of colours or of an extra channel are floats.
     #[error("patches on floats")]
     FloatPatches,
     /// Parts of other frames are put into it, and an extra channel has a size of its own.

@@ -135,8 +135,11 @@ module _ (exp e m : ℕ) (some : 2 ≤ exp) (few : exp ≤ 8) (less : e < 2 ^ ex
         below = omega (arith, up);
         small = small;
         infinite = λ t. absurd (other t);
-        finite = λ o. (up, ap (λ (p : ℕ). p * 2 ^ bias exp) wide ∙ two_powers (2 ^ 23 + m) (e + (127 - bias exp)) (bias exp) ∙ ap (λ (n : ℕ). (2 ^ 23 + m) * 2 ^ n) sum
-            ∙ sym (two_powers (2 ^ 23 + m) e 127) ∙ ap (λ (p : ℕ). p * 2 ^ 127) (sym (amount_normal e m positive)));
+        finite = λ o. (
+          up,
+          ap (λ (p : ℕ). p * 2 ^ bias exp) wide ∙ two_powers (2 ^ 23 + m) (e + (127 - bias exp)) (bias exp) ∙ ap (λ (n : ℕ). (2 ^ 23 + m) * 2 ^ n) sum
+              ∙ sym (two_powers (2 ^ 23 + m) e 127) ∙ ap (λ (p : ℕ). p * 2 ^ 127) (sym (amount_normal e m positive)),
+        );
       }
 
   same_exponent : e ≢ 2 ^ exp - 1 → e ≡ 0 → exp ≡ 8 → IsWide exp e m (magnitude 0 m)
@@ -216,10 +219,13 @@ has_parts false e m le lm =
 module _ (d : BitDepth) (n : ℕ) (fit : fits_float d.bits_per_sample d.exp_bits ≡ true) where
   abbrev places : ℕ
   places = mantissa_bits d
+
   abbrev rest : ℕ
   rest = 23 - places
+
   abbrev f : Float
   f = float_of d n
+
   is_fit : Fits d.bits_per_sample d.exp_bits
   is_fit = fits d.bits_per_sample d.exp_bits fit
 
@@ -290,6 +296,7 @@ module _ (d : BitDepth) (n : ℕ) (fit : fits_float d.bits_per_sample d.exp_bits
       finite_by false e =
           let l = (is.finite (eqb-false f.exponent (2 ^ d.exp_bits - 1) e)).0 in
           ap not (ap (λ (k : ℕ). k == 255) parts.exponent ∙ ne_eqb is.exponent 255 (λ t. let bad : ⊥ = omega (arith, l, t) in bad)) ∙ ap not (sym e)
+
       amount_by : is_finite d f ≡ true → numerator single (float_of single (single_bits d n)) * denominator d ≡ numerator d f * denominator single
       amount_by t =
           let e = eqb-false f.exponent (2 ^ d.exp_bits - 1) (not-true (f.exponent == 2 ^ d.exp_bits - 1) t) in
@@ -298,6 +305,7 @@ module _ (d : BitDepth) (n : ℕ) (fit : fits_float d.bits_per_sample d.exp_bits
           let sum : rest + 127 + places ≡ 150 = omega (arith, few_places) in
           ap (λ (a : ℕ). a * 2 ^ (bias d.exp_bits + places)) w ∙ sym (two_powers (amount is.exponent is.mantissa) (bias d.exp_bits) places) ∙ ap (λ (a : ℕ). a * 2 ^ places) k
           ∙ ap (λ (a : ℕ). a * 2 ^ 127 * 2 ^ places) longer ∙ three_powers (numerator d f) rest 127 places ∙ ap (λ (a : ℕ). numerator d f * 2 ^ a) sum
+
       other_by : is_finite d f ≡ false → (float_of single (single_bits d n)).mantissa ≡ m
       other_by t = parts.mantissa ∙ (is.infinite (eqb-true f.exponent (2 ^ d.exp_bits - 1) (not-false (f.exponent == 2 ^ d.exp_bits - 1) t))).1
 

@@ -39,7 +39,10 @@ fn subnormal_magnitude(exp_bits: u32, mantissa: u32) -> u32
     ensures small { result < 2 ^ 31 }
 {
     let shift = mantissa.leading_zeros() - 8;
-    magnitude(128 - bias(exp_bits) - shift, (mantissa << shift) - (1 << 23))
+    magnitude(
+        128 - bias(exp_bits) - shift,
+        (mantissa << shift) - (1 << 23),
+    )
 }
 
 // The bits of a float with an exponent of this number of bits, and a mantissa that was shifted to 23.

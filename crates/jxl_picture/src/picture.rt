@@ -23,7 +23,7 @@ pub struct Picture {
     /// Its channels: of colours one where they are grey, else red, green and blue, each with the sides of the picture;
     /// then the extra channels in the header's order, each with these sides divided by 2 to the power of its shift and
     /// rounded up. A sample is the whole number that was coded, which may lie outside the range of its depth; of a
-    /// float it is the number of its bits.
+    /// float it is the number of its bits, in the format of its depth ([`single_bits`](crate::floats::single_bits)).
     pub channels: Vec<AlignedGrid<i32>>,
     /// The ICC profile that says what colours mean, if the header says that there is one.
     pub profile: Option<Vec<u8>>,
