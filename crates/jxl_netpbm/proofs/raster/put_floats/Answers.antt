@@ -1,4 +1,4 @@
-use Rattle.std.proofs.Common.{◌≡◌, ◌++◌, ℤ, ap, ◌∙◌, take, w32, to_z, of_z, rules}
+use Rattle.std.proofs.Common.{◌≡◌, ◌++◌, ℕ, ℤ, ap, ◌∙◌, take, w32, to_z, of_z, rules}
 use Rattle.std.specs.Int.{cast_unsigned, to_le_bytes}
 use Rattle.std.proofs.lemmas.Int.{to_z-of_z}
 use Rattle.jxl_picture.specs.Floats.{single_bits}
@@ -13,5 +13,6 @@ loop-channel-preserved c =
     let back : to_z w32 (of_z w32 c.get.result) ≡ c.get.result = to_z-of_z w32 c.get.result (search rules) in
     record {
       place = place_next c.args.at c.loop-channel.channel-index 4 c.loop-channel.end c.put_float-end.result c.loop-channel.invariant.place c.put_float-end.ensures.end;
-      text = joined _ _ _ _ _ _ c.loop-channel.invariant.text (c.put_float-end.ensures.text ∙ ap (λ (v : ℤ). take c.loop-channel.end c.loop-channel.bytes ++ to_le_bytes w32 (single_bits c.args.depth (cast_unsigned w32 v))) back) piece;
+      text = joined _ _ _ _ _ _ c.loop-channel.invariant.text (c.put_float-end.ensures.text ∙ ap (λ (n : ℕ). take c.loop-channel.end c.loop-channel.bytes ++ to_le_bytes w32 n)
+          (c.single_bits.ensures ∙ ap (λ (v : ℤ). single_bits c.args.depth (cast_unsigned w32 v)) back)) piece;
     }
