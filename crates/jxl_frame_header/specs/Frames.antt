@@ -84,9 +84,12 @@ frame_header image = do
     extensions = extensions;
   })
 
--- samples of colours or of an extra channel are floats
+-- samples of an extra channel are floats; those of colours or of an extra channel
+abbrev pub has_extra_floats : Image → Bool
+has_extra_floats image = list_any (λ c. not (c.bit_depth.exp_bits == 0)) image.ec_info
+
 abbrev pub has_floats : Image → Bool
-has_floats image = not (image.bit_depth.exp_bits == 0) || list_any (λ c. not (c.bit_depth.exp_bits == 0)) image.ec_info
+has_floats image = not (image.bit_depth.exp_bits == 0) || has_extra_floats image
 
 -- an extra channel has a size of its own
 abbrev pub has_shifts : Image → Bool

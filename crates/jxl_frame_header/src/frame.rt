@@ -7,7 +7,7 @@ ghost use Rattle.jxl_image_header.specs.Fields.{when};
 ghost use Rattle.jxl_image_header.specs.Images.{image_of};
 ghost use Rattle.jxl_frame_header.specs.Passes.{IsPassCount};
 ghost use Rattle.jxl_frame_header.specs.Codings.{factor};
-ghost use Rattle.jxl_frame_header.specs.Frames.{frame_of, frame_header, has_floats as the_has_floats, has_shifts as the_has_shifts, frame_refusal, is_saved as the_is_saved, frame_size};
+ghost use Rattle.jxl_frame_header.specs.Frames.{frame_of, frame_header, has_extra_floats as the_has_extra_floats, has_floats as the_has_floats, has_shifts as the_has_shifts, frame_refusal, is_saved as the_is_saved, frame_size};
 ghost use Rattle.jxl_frame_header.specs.declared.refusal.Refusal.TheVariants as refusals;
 
 use crate::blending::{BlendingInfo, FrameBlending, FrameUse, read_infos_if};
@@ -76,15 +76,21 @@ fn factors_refused(factors: &[u32]) -> Option<Refusal>
     }
 }
 
+// Whether samples of an extra channel are floats.
+fn has_extra_floats(image: &ImageHeader) -> bool
+    ensures { result ≡ the_has_extra_floats (image_of image.now) }
+{
+    image
+        .ec_info
+        .iter()
+        .any(|channel| channel.bit_depth.exp_bits != 0)
+}
+
 // Whether samples of colours or of an extra channel are floats.
 fn has_floats(image: &ImageHeader) -> bool
     ensures { result ≡ the_has_floats (image_of image.now) }
 {
-    image.bit_depth.exp_bits != 0
-        || image
-            .ec_info
-            .iter()
-            .any(|channel| channel.bit_depth.exp_bits != 0)
+    image.bit_depth.exp_bits != 0 || has_extra_floats(image)
 }
 
 // Whether an extra channel has a size of its own.
