@@ -5,6 +5,7 @@ pub mod Codewords
 pub mod Stills
 pub mod Frames
 pub mod Saved
+pub mod Inputs
 pub mod Pictures
 pub mod Files
 pub mod Inner

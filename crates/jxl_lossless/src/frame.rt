@@ -91,7 +91,7 @@ pub struct FrameInput<'a> {
 }
 
 impl FrameInput<'_> {
-    ghost use Rattle.jxl_lossless.specs.Inner.Inputs.{IsReadyInput, image_in, size_of, slots_in};
+    ghost use Rattle.jxl_lossless.specs.Inputs.{IsReadyInput, image_in, size_of, slots_in};
 
     // How large the frame is.
     fn size(self) -> Size
@@ -139,7 +139,8 @@ struct SectionsInput<'a, 't> {
 }
 
 impl<'a> SectionsInput<'a, '_> {
-    ghost use Rattle.jxl_lossless.specs.Inner.Inputs.{CodedOf, CodedOfFails, IsReadyCut, given_of, image_in, size_of, slots_in};
+    ghost use Rattle.jxl_lossless.specs.Inputs.{image_in, size_of, slots_in};
+    ghost use Rattle.jxl_lossless.specs.Inner.Inputs.{CodedOf, CodedOfFails, IsReadyCut, given_of};
 
     // The channels of the frame, with its patches.
     fn decode_patched<D: Decoder, P: Progress>(

@@ -4,7 +4,7 @@
 mod codestream;
 pub mod error;
 mod file;
-mod frame;
+pub mod frame;
 mod picture;
 mod sections;
 pub mod still;

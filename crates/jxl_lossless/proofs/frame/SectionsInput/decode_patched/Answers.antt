@@ -1,6 +1,7 @@
 use Rattle.std.specs.Int.{w32}
 use Rattle.jxl_lossless.specs.Frames.{channels_given}
-use Rattle.jxl_lossless.specs.Inner.Inputs.{CodedOf, CodedOfFails, size_of}
+use Rattle.jxl_lossless.specs.Inputs.{size_of}
+use Rattle.jxl_lossless.specs.Inner.Inputs.{CodedOf, CodedOfFails}
 use Rattle.jxlm_transform.specs.Channels.{AreGridsOf}
 use Rattle.std.proofs.Common.{ℕ, ℤ, ◌≡◌, ◌∙◌, List, length, refl, subst, sym, true, rules}
 use Rattle.std.specs.Option.{option_map}
