@@ -8,18 +8,17 @@ ghost use Rattle.jxl_image_header.specs.Images.{image_of};
 ghost use Rattle.jxl_lossless.specs.Frames.{channels_given};
 
 use crate::effort::Effort;
-use crate::trees::grid_of;
-use jxl_encode_advice::axis::Axis;
 use jxl_encode_advice::residuals::{Care, scheme_by_residuals};
-use jxl_encode_advice::scheme::Scheme;
 use jxl_encode_advice::values::scheme_by_values;
 use jxl_encode_colours::shades::scheme_by_colours;
+use jxl_encode_learn::axis::Axis;
+use jxl_encode_learn::scheme::Scheme;
+use jxl_encode_properties::learn::scheme_by_errors;
 use jxl_image_header::channel::BitDepth;
 use jxl_image_header::image::ImageHeader;
 use jxl_picture::picture::{Picture, is_grey};
 use jxlm_base::grid::{AlignedGrid, OutOfMemory};
 use jxlm_encode_write::tree::EncodeNode;
-use jxlm_predictor::predictor::Predictor;
 use jxlm_transform::transform::Rct;
 use std::alloc::Global;
 
@@ -30,6 +29,17 @@ pub(crate) struct Advice {
     pub(crate) nodes: Vec<EncodeNode>,
     pub(crate) clusters: Vec<u8>,
     pub(crate) colour: Option<u32>,
+    /// Whether groups may have trees of their own.
+    pub(crate) own: bool,
+}
+
+/// The cheapest way to code a picture, as far as is known: its scheme, its colour transform, and whether groups may have
+/// trees of their own.
+#[derive(Drop)]
+struct Way {
+    scheme: Scheme,
+    colour: Option<u32>,
+    own: bool,
 }
 
 impl Advice {
@@ -41,20 +51,11 @@ impl Advice {
     }
 }
 
-/// The most leaves of a tree, since each has a cluster of its own.
-const MAX_LEAVES: usize = 256;
-
 /// The cuts between differences of two neighbours of eight bits.
 const NEAR_CUTS: [i32; 6] = [-40, -12, -3, 2, 11, 39];
 
 /// The cuts between differences of two neighbours of few colours.
 const SHADE_CUTS: [i32; 8] = [-40, -12, -3, -1, 0, 2, 11, 39];
-
-/// The cuts between true errors of the weighted predictor, of samples of eight bits.
-const ERROR_CUTS: [i32; 33] = [
-    -500, -392, -255, -191, -127, -95, -63, -47, -31, -23, -15, -11, -7, -4, -3, -1, 0, 1, 3, 5, 7,
-    11, 15, 23, 31, 47, 63, 95, 127, 191, 255, 392, 500,
-];
 
 /// The cuts between the colours of a picture, by the number of their channel.
 const CHANNEL_CUTS: [i32; 3] = [0, 1, 2];
@@ -65,14 +66,14 @@ const CHANNEL: u32 = 0;
 /// The properties that are the slopes from above left to the left and above, and from above right to above.
 const SLOPES: [u32; 3] = [10, 11, 12];
 
-/// The property that is the greatest error of the weighted predictor nearby.
-const MAX_ERROR: u32 = 15;
-
 /// The kind of colour transform that is luma and two differences.
 const LUMA: u32 = 6;
 
+/// The kind of colour transform that is green and the differences of red and blue to it.
+const GREEN: u32 = 10;
+
 /// The kinds of colour transform that are green, red or blue, and the differences of the others to it.
-const SHADES: [u32; 3] = [10, 3, 17];
+const SHADES: [u32; 3] = [GREEN, 3, 17];
 
 /// All efforts.
 const EFFORTS: [Effort; 3] = [Effort::Fast, Effort::Usual, Effort::Best];
@@ -135,16 +136,6 @@ fn slope_axes(alloc: Global, depth: BitDepth, slopes: usize) -> Result<Vec<Axis>
     Ok(axes)
 }
 
-/// The greatest error of the weighted predictor nearby, and the channel, if `channels` says so.
-fn error_axes(alloc: Global, depth: BitDepth, channels: bool) -> Result<Vec<Axis>, OutOfMemory> {
-    let mut axes = Vec::new(alloc);
-    if channels {
-        axes.push(Axis::new(alloc, CHANNEL, &CHANNEL_CUTS)?)?;
-    }
-    axes.push(scaled_axis(alloc, MAX_ERROR, &ERROR_CUTS, scale_of(depth))?)?;
-    Ok(axes)
-}
-
 /// Slopes, flat ones apart.
 fn shade_axes(alloc: Global) -> Result<Vec<Axis>, OutOfMemory> {
     let mut axes = Vec::new(alloc);
@@ -154,51 +145,11 @@ fn shade_axes(alloc: Global) -> Result<Vec<Axis>, OutOfMemory> {
     Ok(axes)
 }
 
-/// A cluster for each leaf.
-fn clusters_of(alloc: Global, nodes: &[EncodeNode]) -> Result<Vec<u8>, OutOfMemory> {
-    let leaves = nodes
-        .iter()
-        .filter(|node| matches!(node, EncodeNode::Leaf { .. }))
-        .count();
-    let mut clusters = Vec::new(alloc);
-    for cluster in 0..leaves.min(MAX_LEAVES) {
-        clusters.push(cluster as u8)?;
-    }
-    Ok(clusters)
-}
-
-/// A way to code a picture of this depth by the errors of the weighted predictor.
-fn advice_by_errors(
-    alloc: Global,
-    depth: BitDepth,
-    channels: bool,
-    colour: Option<u32>,
-) -> Result<Advice, OutOfMemory> {
-    let axes = error_axes(alloc, depth, channels)?;
-    let nodes = grid_of(alloc, &axes, Predictor::SelfCorrecting)?;
-    let clusters = clusters_of(alloc, &nodes)?;
-    Ok(Advice {
-        nodes,
-        clusters,
-        colour,
-    })
-}
-
 /// The cheaper of two ways, the first of which may be absent.
-fn cheaper(
-    best: Option<(Scheme, Option<u32>)>,
-    other: Scheme,
-    colour: Option<u32>,
-) -> Option<(Scheme, Option<u32>)> {
+fn cheaper(best: Option<Way>, other: Way) -> Option<Way> {
     match best {
-        Some(old) => {
-            if old.0.cost <= other.cost {
-                Some(old)
-            } else {
-                Some((other, colour))
-            }
-        }
-        None => Some((other, colour)),
+        Some(old) if old.scheme.cost <= other.scheme.cost => Some(old),
+        _ => Some(other),
     }
 }
 
@@ -261,11 +212,18 @@ fn or_by_colours(
     picture: &Picture,
     care: Care,
     colour: Option<u32>,
-    best: Option<(Scheme, Option<u32>)>,
-) -> Result<Option<(Scheme, Option<u32>)>, OutOfMemory> {
+    best: Option<Way>,
+) -> Result<Option<Way>, OutOfMemory> {
     let axes = shade_axes(alloc)?;
     match scheme_by_colours(alloc, &picture.channels, colour, axes, care, MAX_NODES)? {
-        Some(scheme) => Ok(cheaper(best, scheme, colour)),
+        Some(scheme) => Ok(cheaper(
+            best,
+            Way {
+                scheme,
+                colour,
+                own: true,
+            },
+        )),
         None => Ok(best),
     }
 }
@@ -277,7 +235,7 @@ fn by_colours(
     picture: &Picture,
     effort: Effort,
     transforms: bool,
-) -> Result<Option<(Scheme, Option<u32>)>, OutOfMemory> {
+) -> Result<Option<Way>, OutOfMemory> {
     let care = care_of(effort).1;
     if !transforms {
         return or_by_colours(alloc, picture, care, None, None);
@@ -296,14 +254,21 @@ fn by_slopes(
     picture: &Picture,
     effort: Effort,
     colours: &[Option<u32>],
-    best: Option<(Scheme, Option<u32>)>,
-) -> Result<Option<(Scheme, Option<u32>)>, OutOfMemory> {
+    best: Option<Way>,
+) -> Result<Option<Way>, OutOfMemory> {
     let (slopes, care) = care_of(effort);
     let mut best = best;
     for colour in colours {
         let axes = slope_axes(alloc, picture.header.bit_depth, slopes)?;
         let scheme = scheme_by_residuals(alloc, &picture.channels, *colour, axes, care)?;
-        best = cheaper(best, scheme, *colour);
+        best = cheaper(
+            best,
+            Way {
+                scheme,
+                colour: *colour,
+                own: true,
+            },
+        );
     }
     Ok(best)
 }
@@ -314,17 +279,55 @@ fn learnt(
     picture: &Picture,
     effort: Effort,
     colours: &[Option<u32>],
-) -> Result<Option<(Scheme, Option<u32>)>, OutOfMemory> {
+) -> Result<Option<Way>, OutOfMemory> {
     let best = by_colours(alloc, picture, effort, colours.len() > 1)?;
     by_slopes(alloc, picture, effort, colours, best)
 }
 
-/// Adds a way, if it is not among them.
-fn add_way(list: &mut Vec<Advice>, scheme: Scheme, colour: Option<u32>) -> Result<(), OutOfMemory> {
+/// The cheapest way to code a picture by the errors of the weighted predictor and one of these colour transforms; none, if
+/// there is none of them.
+fn by_errors(
+    alloc: Global,
+    picture: &Picture,
+    care: Care,
+    colours: &[Option<u32>],
+) -> Result<Option<Way>, OutOfMemory> {
+    let shift = picture.header.bit_depth.bits_per_sample.saturating_sub(8);
+    let mut best = None;
+    for colour in colours {
+        let scheme = scheme_by_errors(alloc, &picture.channels, *colour, shift, care)?;
+        best = cheaper(
+            best,
+            Way {
+                scheme,
+                colour: *colour,
+                own: false,
+            },
+        );
+    }
+    Ok(best)
+}
+
+/// The colour transforms that are tried with the errors of the weighted predictor, where these are with slopes.
+fn colours_by_errors(effort: Effort, colours: &[Option<u32>]) -> &[Option<u32>] {
+    match effort {
+        Effort::Fast => &[],
+        Effort::Usual if colours.len() > 1 => &[Some(LUMA)],
+        Effort::Best if colours.len() > 1 => &[None, Some(LUMA), Some(GREEN)],
+        _ => &[None],
+    }
+}
+
+/// Adds a way, if there is one that is not among them.
+fn add_way(list: &mut Vec<Advice>, way: Option<Way>) -> Result<(), OutOfMemory> {
+    let Some(way) = way else {
+        return Ok(());
+    };
     let advice = Advice {
-        nodes: scheme.nodes,
-        clusters: scheme.clusters,
-        colour,
+        nodes: way.scheme.nodes,
+        clusters: way.scheme.clusters,
+        colour: way.colour,
+        own: way.own,
     };
     if !list.iter().any(|other| other.is_same(&advice)) {
         list.push(advice)?;
@@ -332,30 +335,40 @@ fn add_way(list: &mut Vec<Advice>, scheme: Scheme, colour: Option<u32>) -> Resul
     Ok(())
 }
 
-/// Adds the cheapest way of each of the first efforts, of this number, by values, colours or slopes.
-fn add_learnt(
+/// The cheaper of this way and that by the values of the picture, if they are few.
+fn or_by_values(
+    alloc: Global,
+    picture: &Picture,
+    best: Option<Way>,
+) -> Result<Option<Way>, OutOfMemory> {
+    match scheme_by_values(alloc, &picture.channels)? {
+        Some(scheme) => Ok(cheaper(
+            best,
+            Way {
+                scheme,
+                colour: None,
+                own: true,
+            },
+        )),
+        None => Ok(best),
+    }
+}
+
+/// Adds the ways of one effort: the cheapest by values, colours or slopes, and that by the errors of the weighted predictor.
+fn add_ways_of(
     alloc: Global,
     list: &mut Vec<Advice>,
     picture: &Picture,
-    efforts: usize,
+    effort: Effort,
     colours: &[Option<u32>],
 ) -> Result<(), OutOfMemory> {
-    let values = scheme_by_values(alloc, &picture.channels)?;
-    let most = match &values {
-        Some(scheme) => scheme.cost,
-        None => u64::MAX,
-    };
-    let mut by_values = false;
-    for effort in EFFORTS.iter().take(efforts) {
-        match learnt(alloc, picture, *effort, colours)? {
-            Some((scheme, colour)) if scheme.cost < most => add_way(list, scheme, colour)?,
-            _ => by_values = true,
-        }
+    let best = learnt(alloc, picture, effort, colours)?;
+    add_way(list, or_by_values(alloc, picture, best)?)?;
+    if picture.header.bit_depth.exp_bits != 0 {
+        return Ok(());
     }
-    match values {
-        Some(scheme) if by_values => add_way(list, scheme, None),
-        _ => Ok(()),
-    }
+    let tried = colours_by_errors(effort, colours);
+    add_way(list, by_errors(alloc, picture, care_of(effort).1, tried)?)
 }
 
 /// The number of efforts up to this one: a greater effort tries what a lower one does.
@@ -375,23 +388,17 @@ pub(crate) fn advices_for(
 ) -> Result<Vec<Advice>, OutOfMemory> {
     let header = &picture.header;
     let depth = header.bit_depth;
-    let floats = depth.exp_bits != 0;
     let mut list = Vec::new(alloc);
-    let colours: &[Option<u32>] = if is_grey(header) || floats || depth.bits_per_sample > 24 {
+    let colours: &[Option<u32>] = if is_grey(header)
+        || depth.exp_bits != 0
+        || depth.bits_per_sample > 24
+    {
         &[None]
     } else {
         &[None, Some(LUMA)]
     };
-    add_learnt(alloc, &mut list, picture, efforts_to(effort), colours)?;
-    if floats || matches!(effort, Effort::Fast) {
-        return Ok(list);
-    }
-    let colour = colours.last().copied().unwrap_or(None);
-    list.push(advice_by_errors(alloc, depth, false, colour)?)?;
-    if matches!(effort, Effort::Best) {
-        for colour in colours {
-            list.push(advice_by_errors(alloc, depth, true, *colour)?)?;
-        }
+    for effort in EFFORTS.iter().take(efforts_to(effort)) {
+        add_ways_of(alloc, &mut list, picture, *effort, colours)?;
     }
     Ok(list)
 }

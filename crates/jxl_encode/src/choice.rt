@@ -46,7 +46,7 @@ fn shortest<P: Progress>(
 {
     let mut best = None;
     for advice in advices {
-        let bytes = codestream_by(alloc, picture, advice, own.by(advice.colour))?;
+        let bytes = codestream_by(alloc, picture, advice, own.by(advice))?;
         best = Some(shorter(best, bytes));
         progress.way_tried(advices.len());
     }
@@ -74,6 +74,7 @@ pub(crate) fn encode_codestream<P: Progress>(
         nodes: Vec::new(alloc),
         clusters: Vec::new(alloc),
         colour: None,
+        own: false,
     };
     codestream_by(alloc, picture, &plain, &[])
 }

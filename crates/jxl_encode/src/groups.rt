@@ -26,10 +26,10 @@ pub(crate) struct OwnTrees {
 }
 
 impl OwnTrees {
-    /// Those of groups that are coded by this colour transform.
-    pub(crate) fn by(&self, colour: Option<u32>) -> &[GroupTree] {
+    /// Those of groups that are coded in this way.
+    pub(crate) fn by(&self, advice: &Advice) -> &[GroupTree] {
         for set in &self.sets {
-            if set.colour == colour {
+            if advice.own && set.colour == advice.colour {
                 return &set.trees;
             }
         }
@@ -156,7 +156,7 @@ pub(crate) fn own_trees(
     }
     for advice in advices {
         let colour = advice.colour;
-        if !own.sets.iter().any(|set| set.colour == colour) {
+        if advice.own && !own.sets.iter().any(|set| set.colour == colour) {
             let trees = trees_by(alloc, picture, effort, colour)?;
             own.sets.push(ColourTrees { colour, trees })?;
         }

@@ -15,4 +15,3 @@ pub mod orientation;
 pub mod profile;
 pub mod progress;
 mod sizes;
-mod trees;

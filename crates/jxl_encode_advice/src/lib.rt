@@ -2,14 +2,8 @@
 //! is a heuristic: no sample depends on it.
 #![tactic(auto)]
 
-pub mod axis;
-pub mod clusters;
-pub mod costs;
-mod learn;
 mod near;
 pub mod residuals;
 pub mod rows;
-pub mod scheme;
-pub mod symbols;
-pub mod table;
+mod table;
 pub mod values;

@@ -1,7 +1,7 @@
 //! The neighbours of a sample (ISO/IEC 18181-1, Modular: neighbours and properties).
 
-use crate::axis::Axis;
 use crate::rows::Rows;
+use jxl_encode_learn::axis::Axis;
 use jxlm_predictor::predictor::Predictor;
 
 /// The side of a group, at which neighbours end.

@@ -1,12 +1,12 @@
 //! Trees that choose a predictor and a code by the slopes of the samples nearby.
 
-use crate::axis::Axis;
-use crate::costs::Prices;
 use crate::near::{Near, PREDICTORS};
 use crate::rows::{Rows, Source};
-use crate::scheme::{Scheme, scheme_of};
-use crate::symbols::{SYMBOLS, symbol_of};
 use crate::table::Table;
+use jxl_encode_learn::axis::Axis;
+use jxl_encode_learn::costs::Prices;
+use jxl_encode_learn::scheme::{Scheme, scheme_of};
+use jxl_encode_learn::symbols::{SYMBOLS, symbol_of};
 use jxlm_base::grid::{AlignedGrid, OutOfMemory};
 use std::alloc::Global;
 
@@ -38,6 +38,11 @@ fn add_row(table: &mut Table, channel: i32, rows: &Rows) {
     }
 }
 
+/// Whether a row is one that is looked at, of which there is one in `step`: evenly spread, and at no period.
+pub fn is_taken(y: usize, step: usize) -> bool {
+    y.wrapping_mul(40503).wrapping_add(10000) % 65536 < 65536 / step.max(1)
+}
+
 /// Counts the residuals of a channel, in one row of `step`.
 fn add_channel(
     table: &mut Table,
@@ -47,7 +52,7 @@ fn add_channel(
     step: usize,
 ) -> Result<(), OutOfMemory> {
     for y in 0..source.height(channel) {
-        if y.wrapping_mul(40503) / 16 % step.max(1) == 0 {
+        if is_taken(y, step) {
             rows.go(source, channel, y)?;
             add_row(table, channel.min(255) as i32, rows);
         }

@@ -1,12 +1,13 @@
 //! How many samples of each class have each symbol.
 
-use crate::axis::Axis;
-use crate::symbols::SYMBOLS;
+use crate::near::PREDICTORS;
+use jxl_encode_learn::axis::Axis;
+use jxl_encode_learn::counted::Counted;
+use jxl_encode_learn::counts::MAX_COUNTS;
+use jxl_encode_learn::symbols::SYMBOLS;
 use jxlm_base::grid::OutOfMemory;
+use jxlm_predictor::predictor::Predictor;
 use std::alloc::Global;
-
-/// The most counts of a table.
-const MAX_COUNTS: usize = 1 << 22;
 
 /// How many samples of each class have each symbol, by each of some predictors.
 #[derive(Drop)]
@@ -82,20 +83,6 @@ impl Table {
         }
     }
 
-    /// Where a class is on an axis.
-    pub(crate) fn place(&self, class: usize, axis: usize) -> usize {
-        let stride = self.strides.get(axis).copied().unwrap_or(1);
-        class / stride.max(1) % self.size(axis).max(1)
-    }
-
-    /// The number of classes on an axis.
-    pub(crate) fn size(&self, axis: usize) -> usize {
-        match self.axes.get(axis) {
-            Some(axis) => axis.size(),
-            None => 1,
-        }
-    }
-
     /// Whether a sample of a class is counted.
     fn occurs(&self, class: usize) -> bool {
         let start = self.start(class, 0);
@@ -113,8 +100,36 @@ impl Table {
         false
     }
 
-    /// The classes of which samples are counted.
-    pub(crate) fn occurring(&self, alloc: Global) -> Result<Vec<usize>, OutOfMemory> {
+    /// Adds the counts of a class, from this place on.
+    fn add_class(&self, sums: &mut [u32], from: usize, class: usize, kind: usize) {
+        let start = self.start(class, kind);
+        for symbol in 0..self.symbols {
+            let count = self
+                .counts
+                .get(start.wrapping_add(symbol))
+                .copied()
+                .unwrap_or(0);
+            if let Some(sum) = sums.get_mut(from.wrapping_add(symbol)) {
+                *sum = sum.saturating_add(count);
+            }
+        }
+    }
+}
+
+impl Counted for Table {
+    fn axes(&self) -> &[Axis] {
+        &self.axes
+    }
+
+    fn kinds(&self) -> usize {
+        self.kinds
+    }
+
+    fn predictor(&self, kind: usize) -> Predictor {
+        PREDICTORS.get(kind).copied().unwrap_or(Predictor::Zero)
+    }
+
+    fn occurring(&self, alloc: Global) -> Result<Vec<usize>, OutOfMemory> {
         let mut classes = Vec::new(alloc);
         for class in 0..self.classes() {
             if self.occurs(class) {
@@ -124,31 +139,25 @@ impl Table {
         Ok(classes)
     }
 
-    /// Adds the counts of a class, from this place on.
-    pub(crate) fn add_counts(&self, into: &mut [u32], from: usize, class: usize, kind: usize) {
-        let start = self.start(class, kind);
-        for symbol in 0..self.symbols {
-            let count = self
-                .counts
-                .get(start.wrapping_add(symbol))
-                .copied()
-                .unwrap_or(0);
-            if let Some(sum) = into.get_mut(from.wrapping_add(symbol)) {
-                *sum = sum.saturating_add(count);
-            }
+    fn place(&self, class: usize, axis: usize) -> usize {
+        let stride = self.strides.get(axis).copied().unwrap_or(1);
+        let size = match self.axes.get(axis) {
+            Some(axis) => axis.size(),
+            None => 1,
+        };
+        class / stride.max(1) % size.max(1)
+    }
+
+    fn add_all(&self, sums: &mut [u32], classes: &[usize], kind: usize) {
+        for class in classes {
+            self.add_class(sums, 0, *class, kind);
         }
     }
-}
 
-/// Sets all counts to 0.
-pub fn clear(counts: &mut [u32]) {
-    for count in counts.iter_mut() {
-        *count = 0;
+    fn add_places(&self, sums: &mut [u32], classes: &[usize], kind: usize, axis: usize) {
+        for class in classes {
+            let from = self.place(*class, axis).wrapping_mul(SYMBOLS);
+            self.add_class(sums, from, *class, kind);
+        }
     }
-}
-
-/// A list of zeros, one for each symbol of this number of lists.
-pub fn zeros(alloc: Global, lists: usize) -> Result<Vec<u32>, OutOfMemory> {
-    let list = vec![in alloc; 0; lists.saturating_mul(SYMBOLS).min(MAX_COUNTS)]?;
-    Ok(list)
 }

@@ -1,12 +1,12 @@
 //! Trees for pictures of few values, as tiles, letters and masks are: each leaf has the value that most samples with
 //! its neighbours have. Where the neighbours decide, no bit is written.
 
-use crate::axis::Axis;
-use crate::costs::Prices;
 use crate::near::Near;
 use crate::rows::{Rows, Source};
-use crate::scheme::{Scheme, scheme_of};
 use crate::table::Table;
+use jxl_encode_learn::axis::Axis;
+use jxl_encode_learn::costs::Prices;
+use jxl_encode_learn::scheme::{Scheme, scheme_of};
 use jxlm_base::grid::{AlignedGrid, OutOfMemory};
 use std::alloc::Global;
 

@@ -2,15 +2,15 @@
 //! by the samples of the channels before it, as a palette would have them.
 
 use crate::colours::{Colour, Colours, colours_of};
-use jxl_encode_advice::axis::Axis;
-use jxl_encode_advice::clusters::Clusters;
-use jxl_encode_advice::costs::BIT;
 use jxl_encode_advice::residuals::{Care, samples_in, scheme_of_first};
 use jxl_encode_advice::rows::Source;
-use jxl_encode_advice::scheme::Scheme;
-use jxl_encode_advice::symbols::symbol_of;
-use jxl_encode_advice::table::{clear, zeros};
 use jxl_encode_advice::values::scheme_of_values;
+use jxl_encode_learn::axis::Axis;
+use jxl_encode_learn::clusters::Clusters;
+use jxl_encode_learn::costs::BIT;
+use jxl_encode_learn::counts::{clear, zeros};
+use jxl_encode_learn::scheme::Scheme;
+use jxl_encode_learn::symbols::symbol_of;
 use jxlm_base::grid::{AlignedGrid, OutOfMemory};
 use jxlm_encode_write::tree::EncodeNode;
 use jxlm_predictor::predictor::Predictor;

@@ -2,8 +2,11 @@
 
 use crate::axis::Axis;
 use crate::costs::{BIT, Prices, cost_of, cost_of_rest};
-use crate::table::{Table, clear, zeros};
+use crate::counted::Counted;
+use crate::counts::{clear, zeros};
+use crate::symbols::SYMBOLS;
 use jxlm_base::grid::OutOfMemory;
+use jxlm_predictor::predictor::Predictor;
 use std::alloc::Global;
 
 /// The most nodes of a tree, without the last two.
@@ -38,14 +41,16 @@ pub(crate) enum Learnt {
 
 /// A tree that is being learnt.
 #[derive(Drop)]
-pub(crate) struct Learner<'a> {
-    table: &'a Table,
+pub(crate) struct Learner<'a, C> {
+    table: &'a C,
     prices: Prices,
     classes: Vec<usize>,
     // The counts of a span, of the classes at each place of an axis, and of those up to a cut.
     whole: Vec<u32>,
     places: Vec<u32>,
     below: Vec<u32>,
+    // The number of symbols up to the greatest of the span.
+    symbols: usize,
 }
 
 /// The most classes on an axis.
@@ -57,11 +62,43 @@ fn widest(axes: &[Axis]) -> usize {
     most
 }
 
-/// Adds counts to others.
-fn add_all(sums: &mut [u32], counts: &[u32], from: usize) {
-    for symbol in 0..sums.len() {
+/// Adds counts, those from a place on, to the first of others, of this number. Returns whether one is not 0.
+fn add_from(sums: &mut [u32], counts: &[u32], from: usize, symbols: usize) -> bool {
+    let mut any = 0;
+    for symbol in 0..symbols.min(sums.len()) {
         let count = counts.get(from.wrapping_add(symbol)).copied().unwrap_or(0);
+        any |= count;
         sums[symbol] = sums[symbol].saturating_add(count);
+    }
+    any != 0
+}
+
+/// The number of symbols up to the greatest that occurs.
+fn symbols_in(counts: &[u32]) -> usize {
+    let mut symbols: usize = 0;
+    for symbol in 0..counts.len() {
+        if counts[symbol] > 0 {
+            symbols = symbol + 1;
+        }
+    }
+    symbols
+}
+
+/// The counts of the first symbols, of this number.
+fn first_of(counts: &[u32], symbols: usize) -> &[u32] {
+    if symbols <= counts.len() {
+        &counts[..symbols]
+    } else {
+        counts
+    }
+}
+
+/// The classes of a span.
+fn classes_of(classes: &[usize], span: Span) -> &[usize] {
+    if span.start <= span.end && span.end <= classes.len() {
+        &classes[span.start..span.end]
+    } else {
+        &[]
     }
 }
 
@@ -73,22 +110,31 @@ fn cheaper(best: Option<Cut>, cut: Cut) -> Option<Cut> {
     }
 }
 
-impl Learner<'_> {
+impl<C: Counted> Learner<'_, C> {
     /// Nothing learnt of this table.
     pub(crate) fn new<'a>(
         alloc: Global,
-        table: &'a Table,
+        table: &'a C,
         prices: Prices,
-    ) -> Result<Learner<'a>, OutOfMemory> {
+    ) -> Result<Learner<'a, C>, OutOfMemory> {
         let classes = table.occurring(alloc)?;
         Ok(Learner {
             table,
             prices,
             classes,
             whole: zeros(alloc, 1)?,
-            places: zeros(alloc, widest(&table.axes))?,
+            places: zeros(alloc, widest(table.axes()))?,
             below: zeros(alloc, 1)?,
+            symbols: 0,
         })
+    }
+
+    /// The number of classes on an axis.
+    fn size(&self, axis: usize) -> usize {
+        match self.table.axes().get(axis) {
+            Some(axis) => axis.size(),
+            None => 1,
+        }
     }
 
     /// The class of this number in the list.
@@ -99,10 +145,26 @@ impl Learner<'_> {
     /// Counts the samples of a span by a predictor.
     fn count(&mut self, span: Span, kind: usize) {
         clear(&mut self.whole);
-        for at in span.start..span.end {
-            let class = self.class(at);
-            self.table.add_counts(&mut self.whole, 0, class, kind);
-        }
+        let classes = classes_of(&self.classes, span);
+        self.table.add_all(&mut self.whole, classes, kind);
+        self.symbols = symbols_in(&self.whole);
+    }
+
+    /// What the samples cost that are counted.
+    fn cost(&self) -> u64 {
+        cost_of(self.prices, first_of(&self.whole, self.symbols))
+    }
+
+    /// What the samples cost on both sides of a cut, of which those below are counted.
+    fn cut_cost(&self) -> u64 {
+        let whole = first_of(&self.whole, self.symbols);
+        let below = first_of(&self.below, self.symbols);
+        cost_of(self.prices, below).saturating_add(cost_of_rest(self.prices, whole, below))
+    }
+
+    /// The predictor of a leaf.
+    pub(crate) fn predictor(&self, span: Span) -> Predictor {
+        self.table.predictor(span.kind)
     }
 
     /// The counts of the samples of a leaf.
@@ -114,9 +176,9 @@ impl Learner<'_> {
     /// The same classes by their best predictor.
     fn settled(&mut self, span: Span) -> Span {
         let mut best = span;
-        for kind in 0..self.table.kinds {
+        for kind in 0..self.table.kinds() {
             self.count(span, kind);
-            let cost = cost_of(self.prices, &self.whole);
+            let cost = self.cost();
             if kind == 0 || cost < best.cost {
                 best = Span {
                     start: span.start,
@@ -133,12 +195,9 @@ impl Learner<'_> {
     fn count_places(&mut self, span: Span, axis: usize) {
         clear(&mut self.places);
         clear(&mut self.below);
-        for at in span.start..span.end {
-            let class = self.class(at);
-            let from = self.table.place(class, axis).wrapping_mul(self.whole.len());
-            self.table
-                .add_counts(&mut self.places, from, class, span.kind);
-        }
+        let classes = classes_of(&self.classes, span);
+        self.table
+            .add_places(&mut self.places, classes, span.kind, axis);
     }
 
     /// The cheaper of this cut and the best on an axis. The samples of the span are counted.
@@ -146,14 +205,11 @@ impl Learner<'_> {
         self.count_places(span, axis);
         let mut best = best;
         for place in 0..size.saturating_sub(1) {
-            let from = place.wrapping_mul(self.whole.len());
-            add_all(&mut self.below, &self.places, from);
-            let cost = cost_of(self.prices, &self.below).saturating_add(cost_of_rest(
-                self.prices,
-                &self.whole,
-                &self.below,
-            ));
-            best = cheaper(best, Cut { axis, place, cost });
+            let from = place.wrapping_mul(SYMBOLS);
+            if add_from(&mut self.below, &self.places, from, self.symbols) {
+                let cost = self.cut_cost();
+                best = cheaper(best, Cut { axis, place, cost });
+            }
         }
         best
     }
@@ -162,8 +218,8 @@ impl Learner<'_> {
     fn best_cut(&mut self, span: Span) -> Option<Cut> {
         self.count(span, span.kind);
         let mut best = None;
-        for axis in 0..self.table.axes.len() {
-            let size = self.table.size(axis);
+        for axis in 0..self.table.axes().len() {
+            let size = self.size(axis);
             best = self.best_on(span, axis, size, best);
         }
         best
@@ -196,7 +252,7 @@ impl Learner<'_> {
 
     /// The node of a cut.
     fn decision(&self, cut: Cut) -> Learnt {
-        match self.table.axes.get(cut.axis) {
+        match self.table.axes().get(cut.axis) {
             Some(axis) => Learnt::Decision {
                 property: axis.property,
                 value: axis.cuts.get(cut.place).copied().unwrap_or(0),

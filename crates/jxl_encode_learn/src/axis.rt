@@ -21,12 +21,12 @@ impl Axis {
     }
 
     /// The number of classes.
-    pub(crate) fn size(&self) -> usize {
+    pub fn size(&self) -> usize {
         self.cuts.len().saturating_add(1)
     }
 
     /// The class of a value.
-    pub(crate) fn place(&self, value: i32) -> usize {
+    pub fn place(&self, value: i32) -> usize {
         self.cuts.iter().filter(|cut| value > **cut).count()
     }
 }

@@ -3,7 +3,7 @@
 use jxlm_encode_write::tree::pack;
 
 /// The number of symbols.
-pub(crate) const SYMBOLS: usize = 72;
+pub const SYMBOLS: usize = 72;
 
 /// The residuals that have a symbol of their own.
 const DIRECT: u32 = 16;

@@ -2,10 +2,10 @@
 
 use crate::clusters::Clusters;
 use crate::costs::{BIT, Prices};
+use crate::counted::Counted;
+use crate::counts::{clear, zeros};
 use crate::learn::{Learner, Learnt};
-use crate::near::PREDICTORS;
 use crate::symbols::symbol_of;
-use crate::table::{Table, clear, zeros};
 use jxlm_base::grid::OutOfMemory;
 use jxlm_encode_write::tree::EncodeNode;
 use jxlm_predictor::predictor::Predictor;
@@ -65,8 +65,8 @@ struct Maker<'a> {
 
 impl Maker<'_> {
     /// Adds a leaf of which samples have these counts.
-    fn add_leaf(&mut self, kind: usize, counts: &[u32]) -> Result<(), OutOfMemory> {
-        let mut predictor = PREDICTORS.get(kind).copied().unwrap_or(Predictor::Zero);
+    fn add_leaf(&mut self, predictor: Predictor, counts: &[u32]) -> Result<(), OutOfMemory> {
+        let mut predictor = predictor;
         let mut offset = 0;
         if self.values.is_empty() {
             let cluster = self.clusters.put(counts)?;
@@ -85,7 +85,11 @@ impl Maker<'_> {
     }
 
     /// Adds a node.
-    fn add(&mut self, learner: &mut Learner<'_>, node: Learnt) -> Result<(), OutOfMemory> {
+    fn add<C: Counted>(
+        &mut self,
+        learner: &mut Learner<'_, C>,
+        node: Learnt,
+    ) -> Result<(), OutOfMemory> {
         match node {
             Learnt::Decision { property, value } => {
                 self.scheme
@@ -93,19 +97,20 @@ impl Maker<'_> {
                     .push(EncodeNode::Decision { property, value })?;
             }
             Learnt::Leaf(span) => {
+                let predictor = learner.predictor(span);
                 let counts = learner.counts(span);
-                self.add_leaf(span.kind, counts)?;
+                self.add_leaf(predictor, counts)?;
             }
         }
         Ok(())
     }
 }
 
-/// The scheme that is learnt from this table, of residuals, or of samples of these values, with at
+/// The scheme that is learnt from what was counted of residuals, or of samples of these values, with at
 /// most this number of clusters.
-pub(crate) fn scheme_of(
+pub fn scheme_of<C: Counted>(
     alloc: Global,
-    table: &Table,
+    table: &C,
     prices: Prices,
     values: &[i32],
     most: usize,

@@ -7,17 +7,17 @@ pub const BIT: u64 = 65536;
 
 /// What a code and a tree cost beside the samples.
 #[derive(Clone, Copy)]
-pub(crate) struct Prices {
+pub struct Prices {
     /// The number of samples for each that is counted.
-    pub(crate) scale: u64,
+    pub scale: u64,
     /// The price of a decision and one more leaf, in bits.
-    pub(crate) decision: u64,
+    pub decision: u64,
     /// The price of a leaf of more symbols than one, in bits.
-    pub(crate) leaf: u64,
+    pub leaf: u64,
     /// The price of each of its symbols, in bits.
-    pub(crate) symbol: u64,
+    pub symbol: u64,
     /// The price of each sample that has not the most frequent symbol, in bits.
-    pub(crate) other: u64,
+    pub other: u64,
 }
 
 /// The binary logarithm of a number above 0, nearly.

@@ -1,0 +1,30 @@
+//! What a tree is learnt from.
+
+use crate::axis::Axis;
+use jxlm_base::grid::OutOfMemory;
+use jxlm_predictor::predictor::Predictor;
+use std::alloc::Global;
+
+/// Samples that were counted: in classes, or one by one, where each is a class.
+pub trait Counted {
+    /// What the classes are told apart by.
+    fn axes(&self) -> &[Axis];
+
+    /// The number of predictors by which residuals were counted.
+    fn kinds(&self) -> usize;
+
+    /// The predictor of this number.
+    fn predictor(&self, kind: usize) -> Predictor;
+
+    /// The classes of which samples were counted.
+    fn occurring(&self, alloc: Global) -> Result<Vec<usize>, OutOfMemory>;
+
+    /// Where a class is on an axis.
+    fn place(&self, class: usize, axis: usize) -> usize;
+
+    /// Adds the counts of the symbols of these classes by a predictor.
+    fn add_all(&self, sums: &mut [u32], classes: &[usize], kind: usize);
+
+    /// Adds the counts of the symbols of these classes by a predictor, those at each place of an axis apart.
+    fn add_places(&self, sums: &mut [u32], classes: &[usize], kind: usize, axis: usize);
+}

@@ -1,0 +1,63 @@
+//! Levels of differences: fine near 0, two for each doubling farther away.
+
+use jxlm_base::grid::OutOfMemory;
+use std::alloc::Global;
+
+/// The level of 0.
+const ZERO: usize = 15;
+
+/// The number of cuts between levels.
+const CUTS: usize = 30;
+
+/// The level of the size of a difference.
+fn level_of_size(size: u32) -> usize {
+    if size < 4 {
+        return size as usize;
+    }
+    let width = 31u32.saturating_sub(size.leading_zeros());
+    let half = size.wrapping_shr(width.saturating_sub(1)) & 1;
+    (width.saturating_mul(2).saturating_add(half) as usize).min(ZERO)
+}
+
+/// The level of a difference in units of 2 to the power of `shift`.
+pub(crate) fn level_of(difference: i32, shift: u32) -> usize {
+    let level = level_of_size(difference.unsigned_abs().wrapping_shr(shift));
+    if difference < 0 {
+        ZERO.saturating_sub(level)
+    } else {
+        ZERO.saturating_add(level)
+    }
+}
+
+/// The least size at a level.
+fn least_size(level: u32) -> u32 {
+    if level < 2 {
+        return level;
+    }
+    let half = 2u32.saturating_add(level % 2);
+    half.wrapping_shl((level / 2).saturating_sub(1))
+}
+
+/// The greatest difference at a level.
+fn greatest_at(level: usize, shift: u32) -> i32 {
+    let size = if level < ZERO {
+        least_size(ZERO.saturating_sub(level).min(31) as u32)
+    } else {
+        least_size(level.saturating_sub(ZERO).saturating_add(1).min(31) as u32)
+    };
+    let size = size.wrapping_shl(shift).min(1 << 30) as i32;
+    if level < ZERO {
+        size.wrapping_neg()
+    } else {
+        size.saturating_sub(1)
+    }
+}
+
+/// The cuts between levels.
+pub(crate) fn cuts_of(alloc: Global, shift: u32) -> Result<Vec<i32>, OutOfMemory> {
+    let mut cuts = Vec::new(alloc);
+    for level in 0..CUTS {
+        cuts.push(greatest_at(level, shift))?;
+    }
+    Ok(cuts)
+}
