@@ -65,6 +65,25 @@ impl<'s, S: Sample> EarlierRow<'s, S> {
         }
     }
 
+    // The same of the region's row, where it is not at hand. The call takes values alone.
+    #[inline(never)]
+    pub(crate) fn property_in(
+        store: &'s [AlignedGrid<S>],
+        region: Region,
+        x: usize,
+        y: usize,
+        which: usize,
+    ) -> i32
+        requires lies { Lies region store.now }
+        requires in_rows { y < region.height }
+        requires column { x < region.width }
+        requires few { which < 4 }
+        ensures { result ≡ int_wrap w32 (slice_index_or
+            (earlier_properties (grid_of (store_meanings S.to_int store.now) region) x y) which (pos 0)) }
+    {
+        EarlierRow::of(store, region, y).property(x, y, which)
+    }
+
     #[inline(always)]
     fn expected(self, x: usize, y: usize) -> i32
         requires column { x < length self.row.now }

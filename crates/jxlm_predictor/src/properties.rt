@@ -201,7 +201,7 @@ impl<'p, S: Sample> Properties<'p, S> {
 }
 
 // A property of an earlier channel of which no row is at hand, or 0 where there is none.
-#[inline(never)]
+#[inline(always)]
 fn farther_property<S: Sample>(
     state: &PredictorState<S>,
     store: &[AlignedGrid<S>],
@@ -216,7 +216,7 @@ fn farther_property<S: Sample>(
     if nearer < earlier.len() {
         let (x, y) = (state.x as usize, state.y as usize);
         let region = earlier[earlier.len() - 1 - nearer];
-        EarlierRow::of(store, region, y).property(x, y, number % 4)
+        EarlierRow::property_in(store, region, x, y, number % 4)
     } else {
         0
     }

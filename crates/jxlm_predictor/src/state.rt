@@ -279,6 +279,15 @@ impl<S> PredictorState<S> {
         self.earlier.push_reserved(region);
     }
 
+    /// The state, in whose place one is left that is at no cell.
+    #[inline(always)]
+    pub fn take(&mut self) -> PredictorState<S>
+        ensures { result ≡ self.old }
+    {
+        let alloc = self.alloc;
+        mem::replace(self, PredictorState::new(alloc))
+    }
+
     /// Whether weights are used in this channel.
     #[inline(always)]
     pub fn is_weighted(&self) -> bool

@@ -8,9 +8,9 @@ ghost use Rattle.jxlm_tree.specs.Paths.{Gives};
 ghost use Rattle.jxlm_tree.specs.SumTrees.{GoesBySum};
 ghost use Rattle.jxlm_predictor.specs.Holding.{IsCurrent};
 ghost use Rattle.jxlm_predictor.specs.Standing.{used_weights};
-ghost use Rattle.jxlm_samples.specs.Inner.Cells.{SampleGives};
+ghost use Rattle.jxlm_samples.specs.Inner.Cells.{SampleGives, source_of};
 ghost use Rattle.jxlm_samples.specs.Inner.Paths.{is_walked};
-ghost use Rattle.jxlm_samples.specs.Inner.Rows.{CellGives, CellsGive, IsAtCell, IsLine, IsWalked, RowGives};
+ghost use Rattle.jxlm_samples.specs.Inner.Rows.{CellGives, CellsGive, IsAtCell, IsLine, IsWalked, RowGives, walk_of};
 ghost use Rattle.jxlm_samples.specs.CellLeaves.{steps_walked};
 ghost use Rattle.jxlm_samples.specs.ChannelSettings.{weights_at};
 ghost use Rattle.jxlm_samples.specs.Lines.{AreAway, IsAway, region_on};
@@ -19,9 +19,10 @@ use crate::leaf::leaf_of;
 use crate::rows::{Line, RowError, inner_columns};
 use crate::source::{Source, Walk};
 use jxlm_base::sample::{Sample, Sealed};
+use jxlm_bits::bits::Bitstream;
 use jxlm_bits::decoder::{Decoder, DecoderError};
 use jxlm_predictor::earlier::{EarlierRow, EarlierRows};
-use jxlm_predictor::predictor::Properties;
+use jxlm_predictor::predictor::{PredictorState, Properties};
 use jxlm_tree::flat::{FlatMaTree, Leaf};
 use jxlm_tree::paths::Path;
 
@@ -40,6 +41,7 @@ pub(crate) fn sample_from<S: Sample>(token: u32, leaf: Leaf, predicted: i32) -> 
 #[inline(always)]
 fn next_sample<S: Sample, D: Decoder>(
     source: &mut Source<'_, D>,
+    bits: &mut Bitstream<'_>,
     properties: &Properties<'_, S>,
     flat: &FlatMaTree,
     path: Path<'_>,
@@ -51,19 +53,21 @@ fn next_sample<S: Sample, D: Decoder>(
     requires current { IsCurrent properties.now }
     requires clusters { ClustersStandIn (D.meaning.cluster_map source.old.decoder) flat.now.tree }
     ensures { SampleGives D.meaning S.to_int clamped flat.now widest properties.now
-        source.old source.new S.width S.from_int (steps_walked path.entry flat.now.tree) result }
+        (source_of source.old bits.old) (source_of source.new bits.new) S.width S.from_int
+        (steps_walked path.entry flat.now.tree) result }
 {
     let leaf = leaf_of(flat, path, clamped, properties, &mut source.steps);
     let token = source
         .decoder
-        .read_varint_with_multiplier_clustered(&mut source.bits, leaf.cluster, widest)?;
+        .read_varint_with_multiplier_clustered(bits, leaf.cluster, widest)?;
     let predicted = leaf.predictor.predict(properties);
     Ok(sample_from(token, leaf, predicted))
 }
 
-/// Reads the cell in column `x` into `row`; `rows` are those of the nearest earlier channels. The walk must be at this
-/// cell, and is at the next one afterwards. Without `EDGE` the cell is two or more columns and rows away from every edge
-/// but the last row; without `WEIGHTED` no weights are used in the channel. With `CLAMPED` property 9 is clamped.
+/// Reads the cell in column `x` into `row`; `rows` are those of the nearest earlier channels. The walk of these parts
+/// must be at this cell, and is at the next one afterwards. Without `EDGE` the cell is two or more columns and rows away
+/// from every edge but the last row; without `WEIGHTED` no weights are used in the channel. With `CLAMPED` property 9 is
+/// clamped.
 #[inline(always)]
 fn decode_cell_by<
     's,
@@ -73,7 +77,9 @@ fn decode_cell_by<
     const WEIGHTED: bool,
     const CLAMPED: bool,
 >(
-    walk: &mut Walk<'_, S, D>,
+    source: &mut Source<'_, D>,
+    bits: &mut Bitstream<'_>,
+    state: &mut PredictorState<S>,
     line: &Line<'_, 's, S, D>,
     rows: &'s [EarlierRow<'s, S>],
     row: &mut [S],
@@ -82,17 +88,18 @@ fn decode_cell_by<
     requires line { IsWalked line.now rows.now }
     requires column { x < (region_on line.now).width }
     requires inner { EDGE ≡ false → IsAway x line.now.y (region_on line.now).width }
-    requires without { WEIGHTED ≡ false → used_weights walk.old.state ≡ None }
+    requires without { WEIGHTED ≡ false → used_weights state.old ≡ None }
     requires clamped { line.now.clamped ≡ CLAMPED }
-    requires at { IsAtCell line.now D.meaning S.to_int S.width x row.old walk.old }
-    ensures { CellGives line.now D.meaning S.to_int S.width x row.old row.new walk.old walk.new result }
+    requires at { IsAtCell line.now D.meaning S.to_int S.width x row.old
+        (walk_of source.old bits.old state.old) }
+    ensures { CellGives line.now D.meaning S.to_int S.width x row.old row.new
+        (walk_of source.old bits.old state.old) (walk_of source.new bits.new state.new) result }
 {
-    let properties = walk
-        .state
-        .properties_in_row::<EDGE, WEIGHTED>(line.store, rows);
+    let properties = state.properties_in_row::<EDGE, WEIGHTED>(line.store, rows);
     let flat = &line.coding.flats[line.i].flat;
     let sample = next_sample(
-        &mut walk.source,
+        source,
+        bits,
         &properties,
         flat,
         line.path,
@@ -104,9 +111,10 @@ fn decode_cell_by<
     Ok(())
 }
 
-/// Reads the cell in column `x` into `row`; `rows` are those of the nearest earlier channels. The walk must be at this
-/// cell, and is at the next one afterwards. Without `EDGE` the cell is two or more columns and rows away from every edge
-/// but the last row; without `WEIGHTED` no weights are used in the channel. With `CLAMPED` property 9 is clamped.
+/// Reads the cell in column `x` into `row`; `rows` are those of the nearest earlier channels. The walk of these parts
+/// must be at this cell, and is at the next one afterwards. Without `EDGE` the cell is two or more columns and rows away
+/// from every edge but the last row; without `WEIGHTED` no weights are used in the channel. With `CLAMPED` property 9 is
+/// clamped.
 #[inline(always)]
 fn decode_cell<
     's,
@@ -116,7 +124,9 @@ fn decode_cell<
     const WEIGHTED: bool,
     const CLAMPED: bool,
 >(
-    walk: &mut Walk<'_, S, D>,
+    source: &mut Source<'_, D>,
+    bits: &mut Bitstream<'_>,
+    state: &mut PredictorState<S>,
     line: &Line<'_, 's, S, D>,
     rows: &'s [EarlierRow<'s, S>],
     row: &mut [S],
@@ -125,21 +135,24 @@ fn decode_cell<
     requires line { IsWalked line.now rows.now }
     requires column { x < (region_on line.now).width }
     requires inner { EDGE ≡ false → IsAway x line.now.y (region_on line.now).width }
-    requires without { WEIGHTED ≡ false → used_weights walk.old.state ≡ None }
+    requires without { WEIGHTED ≡ false → used_weights state.old ≡ None }
     requires clamped { line.now.clamped ≡ CLAMPED }
-    requires at { IsAtCell line.now D.meaning S.to_int S.width x row.old walk.old }
-    ensures { CellGives line.now D.meaning S.to_int S.width x row.old row.new walk.old walk.new result }
+    requires at { IsAtCell line.now D.meaning S.to_int S.width x row.old
+        (walk_of source.old bits.old state.old) }
+    ensures { CellGives line.now D.meaning S.to_int S.width x row.old row.new
+        (walk_of source.old bits.old state.old) (walk_of source.new bits.new state.new) result }
 {
-    if WEIGHTED && walk.state.is_weighted() {
-        decode_cell_by::<S, D, EDGE, true, CLAMPED>(walk, line, rows, row, x)
+    if WEIGHTED && state.is_weighted() {
+        decode_cell_by::<S, D, EDGE, true, CLAMPED>(source, bits, state, line, rows, row, x)
     } else {
-        decode_cell_by::<S, D, EDGE, false, CLAMPED>(walk, line, rows, row, x)
+        decode_cell_by::<S, D, EDGE, false, CLAMPED>(source, bits, state, line, rows, row, x)
     }
 }
 
 /// Reads the cells from column `from` to before column `to` into `row`; the walk must be at the first of them, and is
 /// after the last one then. Without `EDGE` they are two or more columns and rows away from every edge but the last row;
-/// without `WEIGHTED` no weights are used in the channel. With `CLAMPED` property 9 is clamped.
+/// without `WEIGHTED` no weights are used in the channel. With `CLAMPED` property 9 is clamped. The loop keeps the state
+/// and the reader in local variables.
 ///
 /// # Errors
 ///
@@ -170,12 +183,28 @@ fn read_cells<
     ensures { CellsGive line.now D.meaning S.to_int S.width from to row.old row.new walk.old walk.new result }
 {
     let here = Line { ..*line };
+    let mut state = walk.state.take();
+    let mut bits = walk.source.bits;
     for x in from..to {
-        match decode_cell::<S, D, EDGE, WEIGHTED, CLAMPED>(walk, &here, rows, row, x) {
+        match decode_cell::<S, D, EDGE, WEIGHTED, CLAMPED>(
+            &mut walk.source,
+            &mut bits,
+            &mut state,
+            &here,
+            rows,
+            row,
+            x,
+        ) {
             Ok(()) => (),
-            Err(error) => return Err(RowError { column: x, error }),
+            Err(error) => {
+                walk.state = state;
+                walk.source.bits = bits;
+                return Err(RowError { column: x, error });
+            }
         }
     }
+    walk.state = state;
+    walk.source.bits = bits;
     Ok(())
 }
 

@@ -5,6 +5,7 @@ use Rattle.jxlm_bits.specs.Bits.{bytes_of, position_of}
 use Rattle.jxlm_bits.specs.Decoding.{Meaning, Taken}
 use Rattle.jxlm_base.specs.Grid.{Grid}
 use Rattle.jxlm_base.specs.Regions.{store_meanings}
+use Rattle.jxlm_bits.specs.declared.bits.Bitstream.{Bitstream}
 use Rattle.jxlm_bits.specs.declared.decoder.DecoderError.{DecoderError}
 use Rattle.jxlm_bits.specs.declared.decoder.DecoderError.TheVariants.{OutOfMemory}
 use Rattle.jxlm_tree.specs.FlatTree.{FlatTree}
@@ -16,6 +17,10 @@ use Rattle.jxlm_predictor.specs.declared.properties.Properties.{Properties}
 use Rattle.jxlm_samples.specs.CellLeaves.{leaf_at}
 use Rattle.jxlm_samples.specs.Coded.{sample_of}
 use Rattle.jxlm_samples.specs.declared.source.Source.{Source}
+
+-- what tokens are taken from, with another reader
+abbrev pub source_of : {D : Type 0} → Source D → Bitstream → Source D
+source_of source bits = record { decoder = source.decoder; bits = bits; steps = source.steps }
 
 -- a sample was read at this leaf, over this prediction, from this reading; it left state t and position q
 pub record ReadsNext {S X : Type 0} (w : Width) (from_int : ℤ → X) (l : Leaf) (predicted : ℤ) (sample : X)

@@ -6,6 +6,7 @@ use Rattle.jxlm_bits.specs.Decoding.{Meaning}
 use Rattle.jxlm_base.specs.Grid.{Grid}
 use Rattle.jxlm_base.specs.Outside.{SetsRow}
 use Rattle.jxlm_base.specs.Regions.{AllLie, LieApart, grid_of, grids_in, region, store_meanings}
+use Rattle.jxlm_bits.specs.declared.bits.Bitstream.{Bitstream}
 use Rattle.jxlm_bits.specs.declared.decoder.DecoderError.{DecoderError}
 use Rattle.jxlm_bits.specs.declared.decoder.DecoderError.TheVariants.{OutOfMemory}
 use Rattle.jxlm_base.specs.declared.subgrid.Region.{Region}
@@ -18,6 +19,7 @@ use Rattle.jxlm_predictor.specs.Standing.{StandsAt}
 use Rattle.jxlm_predictor.specs.declared.earlier.EarlierRow.{EarlierRow}
 use Rattle.jxlm_predictor.specs.declared.state.PredictorState.{PredictorState}
 use Rattle.jxlm_samples.specs.CellLeaves.{steps_walked}
+use Rattle.jxlm_samples.specs.Inner.Cells.{source_of}
 use Rattle.jxlm_samples.specs.ChannelSettings.{region_at, setting_of}
 use Rattle.jxlm_samples.specs.Coded.{part_rule, sample_of}
 use Rattle.jxlm_samples.specs.Lines.{region_on}
@@ -159,6 +161,10 @@ abbrev pub StandsInRow : {D X : Type 0} → PartCoding D → (X → ℤ) → Lis
 StandsInRow c to_int store i y row state =
     let r : Region = region_at (regions_of c) i in
     StandsAt state (setting_of c i) (take (y * r.width) (grid_of (store_meanings to_int store) r).cells ++ row)
+
+-- a walk, by its parts
+abbrev pub walk_of : {D X : Type 0} → Source D → Bitstream → PredictorState X → Walk X D
+walk_of source bits state = record { source = source_of source bits; state = state }
 
 module _ {D X : Type 0} (l : Line X D) where
   -- the path of its channel gives what the tree gives

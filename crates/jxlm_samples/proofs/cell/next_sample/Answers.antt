@@ -3,6 +3,7 @@ use Rattle.std.proofs.lemmas.Result.{err_from_is_err_and}
 use Rattle.jxlm_bits.specs.Bits.{bytes_of, position_of}
 use Rattle.jxlm_tree.specs.declared.flat.Leaf.{Leaf}
 use Rattle.jxlm_tree.proofs.FlatTrees.{standing_leaf}
+use Rattle.jxlm_samples.specs.Inner.Cells.{source_of}
 use Rattle.jxlm_samples.proofs.cell.next_sample.Goals as goal
 
 pub read_varint_with_multiplier_clustered-requires : goal.read_varint_with_multiplier_clustered-requires
@@ -12,7 +13,7 @@ read_varint_with_multiplier_clustered-requires g c =
 pub returns-in_err-token : goal.returns-in_err-token
 returns-in_err-token g c =
     let d = g.D.Decoder.meaning in
-    let old = c.args.source.now in
+    let old = source_of c.args.source.now c.args.bits.now in
     let p = err_from_is_err_and c.from_residual.result c.from_residual.ensures.1 in
     let known = standing_leaf (λ l. Contains (d.cluster_map old.decoder) l.cluster) c.args.flat.now.tree c.leaf_of-leaf.result c.requires.clusters c.leaf_of-leaf.ensures.stands in
     let gives = c.in_err-token.ensures.gives in
@@ -27,7 +28,7 @@ returns-in_err-token g c =
 
 pub returns : goal.returns
 returns g c =
-    let old = c.args.source.now in
+    let old = source_of c.args.source.now c.args.bits.now in
     let known = standing_leaf (λ l. Contains (g.D.Decoder.meaning.cluster_map old.decoder) l.cluster) c.args.flat.now.tree c.leaf_of-leaf.result c.requires.clusters c.leaf_of-leaf.ensures.stands in
     record {
       reads = λ s samples stands. search rules;
