@@ -1,5 +1,5 @@
 -- The head of a decoder that was written is read.
-use Rattle.std.proofs.Common.{◌≡◌, ℕ, zero, suc, ◌+◌, ◌-◌, ◌^◌, ◌<◌, ◌≤◌, List, [], ◌∷◌, ◌++◌, length, take, get_or, map, replicate, None, Bool, true, false, Ok, refl, sym, ap, ◌∙◌, subst, arith}
+use Rattle.std.proofs.Common.{◌≡◌, ℕ, zero, suc, ◌+◌, ◌-◌, ◌^◌, ◌<◌, ◌≤◌, List, [], ◌∷◌, ◌++◌, length, take, get_or, map, replicate, Option, None, Bool, true, false, Ok, refl, sym, ap, ◌∙◌, subst, arith}
 use Rattle.std.specs.Prelude.{nat_lt}
 use Rattle.std.specs.List.{All}
 use Rattle.std.proofs.lemmas.Bool.{lt-ltb, le-ltb}
@@ -15,7 +15,8 @@ use Rattle.jxl_coding_codes.specs.Reading.{steps, list_and_one}
 use Rattle.jxl_coding_codes.specs.declared.config.IntegerConfig.{IntegerConfig}
 use Rattle.jxl_coding.specs.Clusters.{plain_clusters_at}
 use Rattle.jxl_coding.specs.Parse.{Coded, nothing_coded, with_distribution, config_of, distribution_step, log_at, ans_codes_at, clusters_codes_at, codes_at, clusters_at, clusters_or_one, lz77_at, decoder_codes_at, decoder_at, start_of}
-use Rattle.jxl_coding_stream_write.specs.Codes.{with_code, coded_after, codes_of}
+use Rattle.jxl_coding.specs.declared.codes.Lz77.{Lz77}
+use Rattle.jxl_coding_stream_write.specs.Codes.{with_code, coded_after, codes_among, codes_of}
 use Rattle.jxl_coding_stream_write.specs.Heads.{IsHead}
 use Rattle.jxl_coding_stream_write.specs.declared.cluster.ClusterWriter.{ClusterWriter}
 use Rattle.jxl_coding_stream_write.specs.declared.stream.StreamWriter.{StreamWriter}
@@ -122,19 +123,23 @@ log_written log a b least most e =
     let back : log - 5 + 5 ≡ log = omega (arith, least) in
     becomes (number_writes 2 (log - 5) a b (omega (arith, most)) e) (λ bytes p q read. rw (read, back) refl)
 
-module _ (w : StreamWriter) (h : IsHead w) (b c d e : List ℕ) (log : c ≡ b ++ digits 2 (w.log - 5))
+module _ (w : StreamWriter) (least : 5 ≤ w.log) (a b c d e : List ℕ) (by_slots : b ≡ a ++ digits 1 0) (log : c ≡ b ++ digits 2 (w.log - 5))
     (configured : Writes c d (steps (list_and_one (λ all q. config_at all w.log q)) (length w.codes.items) []) (map (λ (x : ClusterWriter). x.config) w.codes.items))
-    (distributed : Writes d e (steps (distribution_step (map (λ (x : ClusterWriter). x.config) w.codes.items) w.log) (length w.codes.items) nothing_coded) (coded_after w.log nothing_coded w.codes.items)) where
-  ans_written : Writes b e (ans_codes_at w.clusters.items None (length w.codes.items)) (codes_of w)
+    (distributed : Writes d e (steps (distribution_step (map (λ (x : ClusterWriter). x.config) w.codes.items) w.log) (length w.codes.items) nothing_coded) (coded_after w.log nothing_coded w.codes.items))
+    (clusters : List ℕ) (copies : Option Lz77) where
+  ans_written : Writes b e (ans_codes_at clusters copies (length w.codes.items)) (codes_among clusters copies w)
   unfolding ans_codes_at
-  ans_written = becomes (after (log_written w.log b c h.logs w.log_few log) (after configured distributed)) (λ bytes p q s. rw (s.1, s.2.1, s.2.2) refl)
+  ans_written = becomes (after (log_written w.log b c least w.log_few log) (after configured distributed)) (λ bytes p q s. rw (s.1, s.2.1, s.2.2) refl)
 
-pub codes_written : (w : StreamWriter) (h : IsHead w) (a b c d e : List ℕ) → b ≡ a ++ digits 1 0 → c ≡ b ++ digits 2 (w.log - 5) →
-    Writes c d (steps (list_and_one (λ all q. config_at all w.log q)) (length w.codes.items) []) (map (λ (x : ClusterWriter). x.config) w.codes.items) →
-    Writes d e (steps (distribution_step (map (λ (x : ClusterWriter). x.config) w.codes.items) w.log) (length w.codes.items) nothing_coded) (coded_after w.log nothing_coded w.codes.items) →
-    Writes a e (codes_at None w.clusters.items) (codes_of w)
-unfolding codes_at clusters_codes_at
-codes_written w h a b c d e e1 e2 v x = becomes (after (number_writes 1 0 a b (omega arith) e1) (ans_written w h b c d e e2 v x)) (λ bytes p q s. rw (h.used, s.1, s.2) refl)
+  -- whatever contexts have these codes
+  pub codes_written : Writes a e (clusters_codes_at clusters copies (length w.codes.items)) (codes_among clusters copies w)
+  unfolding clusters_codes_at
+  codes_written = becomes (after (number_writes 1 0 a b (omega arith) by_slots) ans_written) (λ bytes p q s. rw (s.1, s.2) refl)
+
+-- without copies
+pub own_written : (w : StreamWriter) (h : IsHead w) (a b : List ℕ) → Writes a b (clusters_codes_at w.clusters.items None (length w.codes.items)) (codes_of w) → Writes a b (codes_at None w.clusters.items) (codes_of w)
+unfolding codes_at
+own_written w h a b u = becomes u (λ bytes p q s. rw (h.used, s) refl)
 
 pub head_written : (w : StreamWriter) (a b c d : List ℕ) → b ≡ a ++ digits 1 0 → Writes b c (clusters_or_one (clusters_at (length w.clusters.items)) (length w.clusters.items)) w.clusters.items →
     Writes c d (codes_at None w.clusters.items) (codes_of w) → Writes a d (λ bytes p. decoder_at bytes p (length w.clusters.items)) (start_of (codes_of w))

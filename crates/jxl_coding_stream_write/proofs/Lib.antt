@@ -10,3 +10,10 @@ pub mod HeadReads
 pub mod OneContext
 pub mod CodedClusters
 pub mod WrittenStreams
+pub mod CopyReads
+pub mod CopyPlaces
+pub mod CopyFirst
+pub mod CopyLengths
+pub mod CopySame
+pub mod CopyRuns
+pub mod CopyHeads

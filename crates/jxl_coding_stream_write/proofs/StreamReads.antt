@@ -1,16 +1,16 @@
 -- A stream that is written is read, token by token.
-use Rattle.std.proofs.Common.{◌≡◌, ℕ, ◌+◌, ◌-◌, ◌^◌, ◌<◌, ◌≤◌, List, [], ◌∷◌, ◌++◌, length, map, get_or, drop, Ok, refl, sym, ap, ◌∙◌, subst, false, arith}
+use Rattle.std.proofs.Common.{◌≡◌, ℕ, ◌+◌, ◌-◌, ◌^◌, ◌<◌, ◌≤◌, List, [], ◌∷◌, ◌++◌, append_assoc, length, map, get_or, drop, None, Ok, refl, sym, ap, ◌∙◌, subst, false, arith}
 use Rattle.std.specs.Prelude.{nat_lt}
 use Rattle.std.proofs.lemmas.Bool.{le-ltb}
-use Rattle.std.proofs.lemmas.List.{length-append, drop_all, drop_more}
+use Rattle.std.proofs.lemmas.List.{append-nil, length-append, drop_all, drop_more}
 use Rattle.jxlm_bits.specs.Decoding.{Asked}
 use Rattle.jxlm_bit_writer.specs.Written.{digits, HasBits}
 use Rattle.jxlm_bit_writer.proofs.BitLists.{has_first, has_rest, length-digits, has_moved}
 use Rattle.jxl_coding_write.proofs.NumberReads.{number_read}
 use Rattle.jxl_coding.specs.Symbols.{Codes}
-use Rattle.jxl_coding.specs.Tokens.{Entropy, begin_at, end_state, read_at}
+use Rattle.jxl_coding.specs.Tokens.{Entropy, begin_at, end_state, plain_token, read_at, token_with}
 use Rattle.jxl_coding_stream_write.specs.Codes.{codes_of}
-use Rattle.jxl_coding_stream_write.specs.Inner.Backward.{words_back}
+use Rattle.jxl_coding_stream_write.specs.Inner.TokenBits.{AreWritten, IsWritten, TokenStands, TokensStand}
 use Rattle.jxl_coding_stream_write.specs.Streams.{in_stream, AreAsked, Reads, IsStream, StreamsAreRead}
 use Rattle.jxl_coding_stream_write.specs.declared.stream.StreamWriter.{StreamWriter}
 use Rattle.jxlm_bit_writer.specs.declared.token.Token.{Token}
@@ -23,10 +23,10 @@ pub none_read : (codes : Codes) → Reads codes end_state [] []
 none_read codes bytes p [] same has = let q : p ≡ p + 0 = omega arith in ap (λ (r : ℕ). Ok (record { value = []; state = in_stream codes end_state; position = r })) q
 none_read codes bytes p (a ∷ asked) same has = absurd (cc)
 
-head_same : (a : Asked) (asked : List Asked) (t : Token) (tokens : List Token) → AreAsked (a ∷ asked) (t ∷ tokens) → a.cluster ≡ t.cluster
+pub head_same : (a : Asked) (asked : List Asked) (t : Token) (tokens : List Token) → AreAsked (a ∷ asked) (t ∷ tokens) → a.cluster ≡ t.cluster
 head_same a asked t tokens same = cc
 
-tail_same : (a : Asked) (asked : List Asked) (t : Token) (tokens : List Token) → AreAsked (a ∷ asked) (t ∷ tokens) → AreAsked asked tokens
+pub tail_same : (a : Asked) (asked : List Asked) (t : Token) (tokens : List Token) → AreAsked (a ∷ asked) (t ∷ tokens) → AreAsked asked tokens
 tail_same a asked t tokens same = cc
 
 -- one token before others
@@ -64,26 +64,51 @@ module _ (w : StreamWriter) (first : ℕ) (tokens : List Token) (bits : List ℕ
     ends = refl;
   }
 
--- before any token
-pub start_read : (codes : Codes) (tokens : List Token) (words : List ℕ) → words ≡ [] → Reads codes end_state (drop (length tokens - 0) tokens) (words_back words)
-start_read codes tokens words none =
-    subst (λ (xs : List ℕ). Reads codes end_state (drop (length tokens - 0) tokens) (words_back xs)) (sym none)
-    (subst (λ (xs : List Token). Reads codes end_state xs []) (sym (drop_all (length tokens - 0) tokens (omega arith))) (none_read codes))
+-- a token that is written is read, if none are copied
+plain_read : (w : StreamWriter) (t : Token) (before after : ℕ) (one : List ℕ) → TokenStands w t before after one → (bytes : List ℕ) (p m : ℕ) → HasBits bytes p one →
+    read_at (in_stream (codes_of w) before) bytes p t.cluster m ≡ Ok (record { value = t.value; state = in_stream (codes_of w) after; position = p + length one })
+unfolding token_with plain_token
+plain_read w t before after one stands bytes p m has = let s = stands None bytes p has in rw (s.1, s.2) refl
 
--- from the end on
-pub stepped : (codes : Codes) (tokens : List Token) (i before : ℕ) (bits : List ℕ) (d : Token) → i < length tokens →
-    Reads codes before (get_or tokens (length tokens - 1 - i) d ∷ drop (length tokens - i) tokens) bits → Reads codes before (drop (length tokens - (i + 1)) tokens) bits
-stepped codes tokens i before bits d lt read =
+-- tokens before others
+run_reads : (w : StreamWriter) (tokens : List Token) (before after : ℕ) (bits : List ℕ) → TokensStand w tokens before after bits → (rest : List Token) (old : List ℕ) → Reads (codes_of w) after rest old →
+    Reads (codes_of w) before (tokens ++ rest) (bits ++ old)
+run_reads w [] before after bits s rest old reads = rw (s.0, s.1) reads
+run_reads w (t ∷ tokens) before after bits (middle, one, others, e, stands, more) rest old reads =
+    subst (λ (xs : List ℕ). Reads (codes_of w) before (t ∷ (tokens ++ rest)) xs) (sym (ap (λ (xs : List ℕ). xs ++ old) e ∙ append_assoc one others old))
+    (one_more (codes_of w) before middle t (tokens ++ rest) one (others ++ old) (plain_read w t before middle one stands) (run_reads w tokens middle after others more rest old reads))
+
+-- all tokens of a stream
+pub stream_read : (w : StreamWriter) (tokens : List Token) (before state : ℕ) (new old : List ℕ) → AreWritten w tokens before state new old → state ≡ end_state → old ≡ [] → Reads (codes_of w) before tokens new
+stream_read w tokens before state new old written e none =
+    let r = run_reads w tokens before state written.0 written.2 [] [] (subst (λ (x : ℕ). Reads (codes_of w) x [] []) (sym e) (none_read (codes_of w))) in
+    subst (λ (xs : List Token). Reads (codes_of w) before xs new) (append-nil tokens)
+    (subst (λ (xs : List ℕ). Reads (codes_of w) before (tokens ++ []) xs) (sym (written.1 ∙ ap (λ (xs : List ℕ). written.0 ++ xs) none)) r)
+
+-- Tokens written from the last to the first.
+
+pub run_start : (w : StreamWriter) (tokens : List Token) (state : ℕ) (old : List ℕ) → AreWritten w (drop (length tokens - 0) tokens) state state old old
+run_start w tokens state old =
+    subst (λ (xs : List Token). AreWritten w xs state state old old) (sym (drop_all (length tokens - 0) tokens (omega arith))) ([], refl, (refl, refl))
+
+one_before : (w : StreamWriter) (t : Token) (tokens : List Token) (before middle after : ℕ) (new mid old : List ℕ) → IsWritten w t before middle new mid → AreWritten w tokens middle after mid old → AreWritten w (t ∷ tokens) before after new old
+one_before w t tokens before middle after new mid old (one, e, stands) (bits, f, all) =
+    (one ++ bits, e ∙ ap (λ (xs : List ℕ). one ++ xs) f ∙ sym (append_assoc one bits old), (middle, one, bits, refl, stands, all))
+
+pub run_stepped : (w : StreamWriter) (tokens : List Token) (i : ℕ) (d : Token) (before middle after : ℕ) (new mid old : List ℕ) → i < length tokens →
+    IsWritten w (get_or tokens (length tokens - 1 - i) d) before middle new mid → AreWritten w (drop (length tokens - i) tokens) middle after mid old →
+    AreWritten w (drop (length tokens - (i + 1)) tokens) before after new old
+run_stepped w tokens i d before middle after new mid old lt one all =
     let k : length tokens - 1 - i + 1 ≡ length tokens - i = omega (arith, lt) in
     let m : length tokens - 1 - i ≡ length tokens - (i + 1) = omega arith in
     let e : drop (length tokens - (i + 1)) tokens ≡ get_or tokens (length tokens - 1 - i) d ∷ drop (length tokens - i) tokens =
     ap (λ (n : ℕ). drop n tokens) (sym m) ∙ drop_more tokens (length tokens - 1 - i) d (omega (arith, lt)) ∙ ap (λ (n : ℕ). get_or tokens (length tokens - 1 - i) d ∷ drop n tokens) k in
-    subst (λ (xs : List Token). Reads codes before xs bits) (sym e) read
+    subst (λ (xs : List Token). AreWritten w xs before after new old) (sym e) (one_before w (get_or tokens (length tokens - 1 - i) d) (drop (length tokens - i) tokens) before middle after new mid old one all)
 
-pub all_read : (codes : Codes) (tokens : List Token) (i before : ℕ) (bits : List ℕ) → length tokens ≤ i → Reads codes before (drop (length tokens - i) tokens) bits → Reads codes before tokens bits
-all_read codes tokens i before bits le read =
+pub run_all : (w : StreamWriter) (tokens : List Token) (i before after : ℕ) (new old : List ℕ) → length tokens ≤ i → AreWritten w (drop (length tokens - i) tokens) before after new old → AreWritten w tokens before after new old
+run_all w tokens i before after new old le all =
     let z : length tokens - i ≡ 0 = omega (arith, le) in
-    subst (λ (n : ℕ). Reads codes before (drop n tokens) bits) z read
+    subst (λ (n : ℕ). AreWritten w (drop n tokens) before after new old) z all
 
 pub streams_read : StreamsAreRead
 streams_read codes tokens bits s bytes p asked stream e same has = record {

@@ -1,1 +1,5 @@
 pub mod Backward
+pub mod Copying
+pub mod Rules
+pub mod SymbolBits
+pub mod TokenBits

@@ -2,4 +2,5 @@ pub mod Inner
 pub mod Tokens
 pub mod Codes
 pub mod Streams
+pub mod CopiedStreams
 pub mod Heads

@@ -1,14 +1,14 @@
 //! The head of a decoder, written: the clusters of contexts and their codes.
 
-ghost use Rattle.std.specs.Prelude.{◌≡◌, ◌<◌, ◌≤◌, ◌^◌, ◌↔◌, [], ◌∷◌, None, length, map, IfOk, IsTrue};
+ghost use Rattle.std.specs.Prelude.{◌≡◌, ◌<◌, ◌≤◌, ◌^◌, ◌↔◌, [], ◌∷◌, List, Option, None, length, map, IfOk, IsTrue};
 ghost use Rattle.std.specs.List.{All};
 ghost use Rattle.jxl_coding_codes.specs.Fields.{number_at};
 ghost use Rattle.jxl_coding_codes.specs.IntegerConfigs.{config_at};
 ghost use Rattle.jxl_coding_codes.specs.Reading.{steps, list_and_one};
-ghost use Rattle.jxl_coding.specs.Parse.{codes_at, clusters_or_one, clusters_at, decoder_at, distribution_step, nothing_coded, start_of};
+ghost use Rattle.jxl_coding.specs.Parse.{codes_at, clusters_codes_at, clusters_or_one, clusters_at, decoder_at, distribution_step, nothing_coded, start_of};
 ghost use Rattle.jxlm_bit_writer.specs.Writes.{Writes};
 ghost use Rattle.jxl_coding_codes.specs.Distributions.{distribution_at};
-ghost use Rattle.jxl_coding_stream_write.specs.Codes.{coded_after, codes_of};
+ghost use Rattle.jxl_coding_stream_write.specs.Codes.{coded_after, codes_among, codes_of};
 ghost use Rattle.jxl_coding_stream_write.specs.Tokens.{HasSlot};
 ghost use Rattle.jxl_coding_stream_write.specs.Heads.{IsHead, FitsCluster, FitsCounts, map_token};
 
@@ -59,7 +59,7 @@ fn write_numbers(bits: &mut BitWriter, clusters: &[u8], width: u32) -> Result<()
 }
 
 /// Adds the cluster of each context; one context alone has cluster 0.
-fn write_clusters(bits: &mut BitWriter, clusters: &[u8]) -> Result<(), AllocError>
+pub(crate) fn write_clusters(bits: &mut BitWriter, clusters: &[u8]) -> Result<(), AllocError>
     requires few { All (λ c. c < 8) clusters.now }
     requires one { length clusters.now ≤ 1 → All (λ c. c ≡ 0) clusters.now }
     ensures { IfOk result (λ _. Writes bits.old bits.new (clusters_or_one (clusters_at (length clusters.now))
@@ -118,15 +118,26 @@ fn write_distributions(
 }
 
 /// Adds the codes of clusters: ANS, with a configuration and a distribution for each.
-fn write_codes(bits: &mut BitWriter, writer: &StreamWriter) -> Result<(), AllocError>
-    requires { IsHead writer.now }
-    ensures { IfOk result (λ _. Writes bits.old bits.new (codes_at None writer.now.clusters.items)
-        (codes_of writer.now)) }
+pub(crate) fn write_codes(bits: &mut BitWriter, writer: &StreamWriter) -> Result<(), AllocError>
+    requires log { 5 ≤ writer.now.log }
+    requires each { All (FitsCluster writer.now.log) writer.now.codes.items }
+    ensures { IfOk result (λ _. (clusters : List _) (copies : Option _) → Writes bits.old bits.new
+        (clusters_codes_at clusters copies (length writer.now.codes.items)) (codes_among clusters copies writer.now)) }
 {
     bits.put(0, 1)?;
     bits.put(writer.log - 5, 2)?;
     write_configs(bits, &writer.codes, writer.log)?;
     write_distributions(bits, &writer.codes, writer.log)?;
+    Ok(())
+}
+
+/// Adds the codes of clusters, without copies.
+fn write_own_codes(bits: &mut BitWriter, writer: &StreamWriter) -> Result<(), AllocError>
+    requires { IsHead writer.now }
+    ensures { IfOk result (λ _. Writes bits.old bits.new (codes_at None writer.now.clusters.items)
+        (codes_of writer.now)) }
+{
+    write_codes(bits, writer)?;
     Ok(())
 }
 
@@ -143,7 +154,7 @@ pub fn write_head(bits: &mut BitWriter, writer: &StreamWriter) -> Result<(), All
 {
     bits.put(0, 1)?;
     write_clusters(bits, &writer.clusters)?;
-    write_codes(bits, writer)?;
+    write_own_codes(bits, writer)?;
     Ok(())
 }
 
@@ -162,7 +173,7 @@ pub fn map_tokens(alloc: Global, clusters: &[u8]) -> Result<Vec<Token>, AllocErr
 }
 
 /// Adds the cluster of each of two contexts and more, as tokens of a decoder of its own.
-fn write_coded_clusters(
+pub(crate) fn write_coded_clusters(
     alloc: Global,
     bits: &mut BitWriter,
     clusters: &[u8],
@@ -176,7 +187,7 @@ fn write_coded_clusters(
         (length clusters.now)) clusters.now) }
 {
     bits.put(0, 3)?;
-    write_codes(bits, own)?;
+    write_own_codes(bits, own)?;
     let tokens = map_tokens(alloc, clusters)?;
     own.write_tokens(alloc, bits, &tokens)?;
     Ok(())
@@ -204,6 +215,6 @@ pub fn write_mapped_head(
 {
     bits.put(0, 1)?;
     write_coded_clusters(alloc, bits, &writer.clusters, own)?;
-    write_codes(bits, writer)?;
+    write_own_codes(bits, writer)?;
     Ok(())
 }

@@ -4,6 +4,8 @@
 
 mod back;
 pub mod cluster;
+pub mod copies;
+pub mod copy_head;
 mod first_bits;
 pub mod head;
 pub mod head_limits;

@@ -8,9 +8,9 @@ use Rattle.jxl_coding_stream_write.proofs.head.write_head.Goals as goal
 
 pub returns : goal.returns
 returns c =
-    head_written c.args.writer.now c.args.bits.now c.put.new.self c.write_clusters.new.bits c.write_codes.new.bits c.in_ok-put.ensures
+    head_written c.args.writer.now c.args.bits.now c.put.new.self c.write_clusters.new.bits c.write_own_codes.new.bits c.in_ok-put.ensures
     (subst (λ (xs : List ℕ). Writes c.put.new.self c.write_clusters.new.bits (clusters_or_one (clusters_at (length xs)) (length xs)) xs) c.deref.ensures.value c.in_ok-write_clusters.ensures)
-    c.in_ok-write_codes.ensures
+    c.in_ok-write_own_codes.ensures
 
 pub write_clusters-requires-clause-one : goal.write_clusters-requires-clause-one
 write_clusters-requires-clause-one c =

@@ -35,15 +35,15 @@ write_symbol-requires-clause-occurs c =
     (sym (upper_symbol c.args.code.now.config c.args.code.now.rule c.log_of-n.result c.args.token.value c.args.code.now.steps c.log_of-n.ensures.few c.log_of-n.ensures.least c.log_of-n.ensures.most c.requires.beyond c.args.code.now.steps_is c.requires.none c.power-high.result c.power-wide.result c.power-high.ensures c.power-wide.ensures c.log_of-n.ensures.log))
     (occurs c.args.self.now c.args.token c.requires.slot c.args.code.now c.requires.code)
 
-pub returns-then-is_some-clause-reads : goal.returns-then-is_some-clause-reads
-returns-then-is_some-clause-reads c = λ tokens reads.
+pub returns-then-is_some-clause-written : goal.returns-then-is_some-clause-written
+returns-then-is_some-clause-written c =
     only_rest_read c.args.self.now c.args.token c.requires.slot c.args.code.now c.requires.code
     c.args.after.state (bits_back c.args.after.first c.args.words.now.items) _ _
     (upper_spelled c.args.code.now.config c.args.code.now.rule c.log_of-n.result c.args.token.value c.log_of-n.ensures.few c.log_of-n.ensures.least c.log_of-n.ensures.most c.requires.beyond c.log_of-n.ensures.log c.requires.none)
-    (bits_back c.in_ok-first.first c.prepend_lowest.new.words.items) c.in_ok-first.ensures (sym c.is_some.ensures ∙ c.if-is_some.true) tokens reads
+    (bits_back c.in_ok-first.first c.prepend_lowest.new.words.items) c.in_ok-first.ensures (sym c.is_some.ensures ∙ c.if-is_some.true)
 
-pub returns-clause-reads : goal.returns-clause-reads
-returns-clause-reads c = λ tokens reads.
+pub returns-clause-written : goal.returns-clause-written
+returns-clause-written c =
     let m = c.in_ok-before.ensures in
     rest_read c.args.self.now c.args.token c.requires.slot c.args.code.now c.requires.code
     c.args.after.state (bits_back c.args.after.first c.args.words.now.items) _ _
@@ -51,4 +51,4 @@ returns-clause-reads c = λ tokens reads.
     (bits_back c.in_ok-first.first c.prepend_lowest.new.words.items) c.in_ok-first.ensures (sym c.is_some.ensures ∙ c.if-is_some.false)
     _ c.in_ok-before.before.state m.0 m.1
     (upper_symbol c.args.code.now.config c.args.code.now.rule c.log_of-n.result c.args.token.value c.args.code.now.steps c.log_of-n.ensures.few c.log_of-n.ensures.least c.log_of-n.ensures.most c.requires.beyond c.args.code.now.steps_is c.requires.none c.power-high.result c.power-wide.result c.power-high.ensures c.power-wide.ensures c.log_of-n.ensures.log)
-    m.2 (bits_back c.in_ok-before.before.first c.write_symbol.new.words.items) m.3 tokens reads
+    m.2 (bits_back c.in_ok-before.before.first c.write_symbol.new.words.items) m.3
