@@ -13,7 +13,7 @@ use std::alloc::{AllocError, Global};
 
 /// A token below 16 is its own symbol; another has its leading one and the two bits below it in the symbol. All symbols
 /// are below 128.
-const USUAL: IntegerConfig = IntegerConfig {
+pub(crate) const USUAL: IntegerConfig = IntegerConfig {
     split_exponent: 4,
     msb_in_token: 2,
     lsb_in_token: 0,
@@ -138,7 +138,7 @@ fn is_beyond(config: &IntegerConfig, cluster: u8, token: Token) -> bool
 }
 
 /// Whether the tokens of a cluster have symbols below 256.
-fn all_fit(config: &IntegerConfig, cluster: u8, tokens: &[Token]) -> bool
+pub(crate) fn all_fit(config: &IntegerConfig, cluster: u8, tokens: &[Token]) -> bool
     requires { IsConfig config.now }
     ensures { result ≡ true → All (HasSymbol config.now cluster) tokens.now }
 {

@@ -1,7 +1,7 @@
 //! What a code costs, in bits times 65,536.
 
 /// One bit.
-pub(crate) const BIT: u64 = 65536;
+pub const BIT: u64 = 65536;
 
 /// The bits of the head of a code of one symbol.
 const ONLY_HEAD: u64 = 21;
@@ -16,7 +16,7 @@ const ABSENT: u64 = 5;
 const PRESENT: u64 = 9;
 
 /// The binary logarithm of a number above 0, nearly, times 65,536.
-fn log2(number: u32) -> u64 {
+pub fn log2(number: u32) -> u64 {
     let width = 31u32.saturating_sub(number.leading_zeros());
     let rest = u64::from(number.wrapping_shl(32u32.saturating_sub(width)) / 65536);
     let part = if width == 0 { 0 } else { rest };

@@ -9,6 +9,7 @@ ghost use Rattle.jxl_coding_write.specs.HybridIntegers.{symbol_of, symbol_count}
 ghost use Rattle.jxl_coding_stream_write.specs.Heads.{FitsCounts, FitsCluster};
 ghost use Rattle.jxl_coding_build.specs.Histograms.{AllOccur, HasSymbol, HaveSymbols};
 
+use crate::configs::all_fit;
 use crate::normalise::{normalise, total_of};
 use jxl_coding_codes::alias::only;
 use jxl_coding_codes::config::IntegerConfig;
@@ -19,6 +20,13 @@ use std::alloc::{AllocError, Global};
 
 /// The logarithm of the size of the alphabets.
 const LOG: u32 = 8;
+
+/// A number below 256 is its own symbol.
+const ITSELF: IntegerConfig = IntegerConfig {
+    split_exponent: 8,
+    msb_in_token: 0,
+    lsb_in_token: 0,
+};
 
 /// Adds counts of 0 up to a number of counts.
 fn grow(counts: &mut Vec<u32>, many: usize) -> Result<(), AllocError>
@@ -170,6 +178,48 @@ pub fn cluster_for(
     ensures head { IfOk result (λ c. FitsCluster 8 c) }
 {
     let mut counts = counts_of(alloc, &config, cluster, tokens)?;
+    add_if_none(&mut counts);
+    let shares = distribution_of(alloc, &counts)?;
+    let code = ClusterWriter::new(alloc, config, shares, LOG)?;
+    Ok(code)
+}
+
+/// The histogram of the symbols of a cluster, each given by its number: at least three counts. Where a number is 256 or
+/// more, no symbol is counted.
+fn counts_in(alloc: Global, cluster: u8, symbols: &[Token]) -> Result<Vec<u32>, AllocError>
+    requires { length symbols.now < 2 ^ 31 }
+    ensures few { IfOk result (λ v. length v.items ≤ 256) }
+    ensures some { IfOk result (λ v. 3 ≤ length v.items) }
+    ensures fits { IfOk result (λ v. sum v.items < 2 ^ 31) }
+{
+    if all_fit(&ITSELF, cluster, symbols) {
+        let counts = counts_of(alloc, &ITSELF, cluster, symbols)?;
+        return Ok(counts);
+    }
+    let mut none = Vec::new(alloc);
+    grow(&mut none, 3)?;
+    Ok(none)
+}
+
+/// Makes a code of this configuration for the symbols of a cluster, each given by its number. If there is none, the symbol 0
+/// occurs.
+///
+/// # Errors
+///
+/// Out of memory alone.
+pub(crate) fn code_of_symbols(
+    alloc: Global,
+    config: IntegerConfig,
+    cluster: u8,
+    symbols: &[Token],
+) -> Result<ClusterWriter, AllocError>
+    requires config { IsConfig config }
+    requires split { config.split_exponent < 8 }
+    requires fits { length symbols.now < 2 ^ 31 }
+    ensures log { IfOk result (λ c. c.slots.log ≡ 8) }
+    ensures head { IfOk result (λ c. FitsCluster 8 c) }
+{
+    let mut counts = counts_in(alloc, cluster, symbols)?;
     add_if_none(&mut counts);
     let shares = distribution_of(alloc, &counts)?;
     let code = ClusterWriter::new(alloc, config, shares, LOG)?;

@@ -20,7 +20,10 @@ use jxlm_bit_writer::writer::BitWriter;
 use std::alloc::{AllocError, Global};
 
 /// Adds a code.
-fn push_code(codes: &mut Vec<ClusterWriter>, code: ClusterWriter) -> Result<(), AllocError>
+pub(crate) fn push_code(
+    codes: &mut Vec<ClusterWriter>,
+    code: ClusterWriter,
+) -> Result<(), AllocError>
     ensures { IfOk result (λ _. codes.new.items ≡ codes.old.items ++ code ∷ []) }
 {
     codes.push(code)?;
@@ -71,7 +74,7 @@ fn one_context(alloc: Global) -> Result<Vec<u8>, AllocError>
 }
 
 /// Makes the codes for a map of clusters.
-fn map_writer(alloc: Global, clusters: &[u8]) -> Result<StreamWriter, AllocError>
+pub(crate) fn map_writer(alloc: Global, clusters: &[u8]) -> Result<StreamWriter, AllocError>
     requires { length clusters.now < 2 ^ 31 }
     ensures head { IfOk result (λ w. IsHead w) }
     ensures one { IfOk result (λ w. w.clusters.items ≡ 0 ∷ []) }
@@ -84,7 +87,7 @@ fn map_writer(alloc: Global, clusters: &[u8]) -> Result<StreamWriter, AllocError
 }
 
 /// Whether the clusters are written as numbers of at most 3 bits: if there is one cluster, or at most 32 contexts.
-fn is_plain(clusters: &[u8]) -> bool
+pub(crate) fn is_plain(clusters: &[u8]) -> bool
     ensures few { IsTrue result → All (λ c. c < 8) clusters.now }
     ensures one { All (λ c. c < 1) clusters.now → IsTrue result }
 {
