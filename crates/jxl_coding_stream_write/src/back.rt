@@ -7,7 +7,8 @@ ghost use Rattle.jxl_coding_stream_write.specs.Inner.Backward.{bits_back, words_
 use crate::first_bits::FirstBits;
 use jxl_coding_write::piece::BitPiece;
 use jxlm_bit_writer::writer::BitWriter;
-use std::alloc::AllocError;
+use std::alloc::{AllocError, Global};
+use std::mem;
 
 /// Writes the lowest bits of a number before the other bits; `lead` is the number without them. If there are 64 bits and
 /// more, the last of them are a word.
@@ -56,14 +57,16 @@ pub(crate) fn prepend(
     Ok(first)
 }
 
-/// Adds the bits of words, the last word first.
-fn put_words(bits: &mut BitWriter, words: &[u64]) -> Result<(), AllocError>
+/// Adds the bits of words, the last word first. The writer is a local value while they are added, so it is in registers.
+fn put_words(alloc: Global, bits: &mut BitWriter, words: &[u64]) -> Result<(), AllocError>
     ensures { IfOk result (λ _. bits.new ≡ bits.old ++ words_back words.now) }
 {
+    let mut writer = mem::replace(bits, BitWriter::new(alloc));
     let n = words.len();
     for i in 0..n {
-        bits.put_word(words[n - 1 - i])?;
+        writer.put_word(words[n - 1 - i])?;
     }
+    *bits = writer;
     Ok(())
 }
 
@@ -83,6 +86,7 @@ fn put_first(bits: &mut BitWriter, first: FirstBits) -> Result<(), AllocError>
 
 /// Adds all bits.
 pub(crate) fn put_back(
+    alloc: Global,
     bits: &mut BitWriter,
     first: FirstBits,
     words: &[u64],
@@ -90,6 +94,6 @@ pub(crate) fn put_back(
     ensures { IfOk result (λ _. bits.new ≡ bits.old ++ bits_back first words.now) }
 {
     put_first(bits, first)?;
-    put_words(bits, words)?;
+    put_words(alloc, bits, words)?;
     Ok(())
 }
