@@ -1,6 +1,6 @@
 -- What reading the front of a codestream gives.
-use Rattle.std.proofs.Common.{◌≡◌, ℕ, ◌+◌, ◌<◌, ◌≤◌, ◌^◌, ◌/◌, Bool, true, false, List, [], ◌∷◌, ◌++◌, length, drop, Option, Ok, Some, None, ap, subst, sym, refl, ◌∙◌, inl, inr, arith}
-use Rattle.std.specs.Prelude.{if◌then◌else◌, is_some, nat_le, not, ◌&&◌, ◌==◌}
+use Rattle.std.proofs.Common.{◌≡◌, ℕ, ◌+◌, ◌<◌, ◌≤◌, ◌^◌, ◌/◌, Bool, true, false, List, [], ◌∷◌, ◌++◌, length, drop, Option, Result, Ok, Err, Some, None, ap, subst, sym, refl, ◌∙◌, inl, inr, arith}
+use Rattle.std.specs.Prelude.{IfErr, IfOk, if◌then◌else◌, is_some, nat_le, not, ◌&&◌, ◌==◌}
 use Rattle.std.specs.List.{list_all, list_any}
 use Rattle.std.specs.Option.{option_map_or, option_or}
 use Rattle.std.proofs.Math.Nat.{max-le}
@@ -16,7 +16,8 @@ use Rattle.jxl_image_header.specs.Images.{Image, image_header, image_refusal}
 use Rattle.jxl_image_header.specs.declared.refusal.Refusal.{Refusal as ImageRefusal}
 use Rattle.jxl_image_header.specs.declared.size.Size.{Size}
 use Rattle.jxl_frame_header.specs.Codings.{coding_refusal, is_modular, type_refusal}
-use Rattle.jxl_frame_header.specs.Frames.{Frame, frame_header, frame_refusal, frame_size, has_floats, has_shifts, is_saved}
+use Rattle.jxl_frame_header.specs.Frames.{Frame, frame_header, frame_of, frame_refusal, frame_size, has_floats, has_shifts, is_saved}
+use Rattle.jxl_frame_header.specs.declared.coding.FrameCoding.{FrameCoding}
 use Rattle.jxl_frame_header.specs.declared.place.Crop.{Crop}
 use Rattle.jxl_frame_header.specs.declared.refusal.Refusal.{Refusal as FrameRefusal}
 use Rattle.jxl_frame_header.specs.declared.refusal.Refusal.TheVariants as refusals
@@ -25,9 +26,11 @@ use Rattle.jxl_codestream.specs.Tocs.{IsFirstTruncated, IsToc, Table, is_within,
 use Rattle.jxl_codestream.specs.declared.toc.TocEntry.{TocEntry}
 use Rattle.jxl_picture.specs.Limits.{Allow, AllowFrame, cells_of}
 use Rattle.jxl_picture.specs.declared.limits.Limits.{Limits}
-use Rattle.jxl_codestream.specs.Fronts.{AreBefore, NoFrame, OneMore, ContentsStand, FailsAt, FrameAt, FrameGoesOn, FrameStands, FrontFails, HasProfile, ImageStands, Next, StandsAt, between, end_of, layout_in}
-use Rattle.jxl_codestream.specs.FrontParts.{HasLowShifts, IsNext}
+use Rattle.jxl_codestream.specs.Fronts.{AreBefore, NoFrame, OneMore, FailsAt, FrameAt, FrameStands, FrontFails, HasProfile, ImageStands, Next, PartsFail, PartsStand, StandsAt, TableStands, between, end_of, layout_in}
+use Rattle.jxl_codestream.specs.FrontParts.{HasLowShifts, IsNext, frame_at}
+use Rattle.jxl_codestream.specs.declared.error.FrontError.{FrontError}
 use Rattle.jxl_codestream.specs.declared.error.FrontError.TheVariants as errors
+use Rattle.jxl_codestream.specs.declared.frame.FrameFront.{FrameFront}
 
 -- a call without a decoder failed at a position that is this one
 pub fails_at : {X : Type 0} (field : Grammar X) (bytes : List ℕ) (p p' q : ℕ) (e : ErrorKind) → p ≡ p' → UnlessNoMemory e (IsErrorAt (field.read bytes p) e q) → UnlessMemory e (FailsAt field bytes p' e)
@@ -73,58 +76,44 @@ module _ {D : Type 0} (d : Meaning D) (limits : Limits) (bytes : List ℕ) where
       frame_refusal image frame ≡ Some r → FrontFails d limits bytes (errors.Frame r)
   frame_refused image start used q frame r next header refused = (next_of image start used next, frame, q, header, refused)
 
-  pub frames_too_large : (image : Image) (start used q : ℕ) (frame : Frame) → IsNext d limits bytes image start used → StandsAt (frame_header image) (drop start bytes) 0 frame q →
-      frame_refusal image frame ≡ None → ¬ (AllowFrame limits image used (frame_size image.size frame)) → FrontFails d limits bytes errors.FramesTooLarge
-  frames_too_large image start used q frame next header supported beyond = (next_of image start used next, frame, q, header, supported, beyond)
-
-  pub goes_on : (image : Image) (start used q : ℕ) (frame : Frame) → StandsAt (frame_header image) (drop start bytes) 0 frame q → frame_refusal image frame ≡ None →
-      AllowFrame limits image used (frame_size image.size frame) → FrameGoesOn d limits bytes image start used frame q
-  goes_on image start used q frame header supported allowed = (header, supported, allowed)
-
-  pub contents_fail : (image : Image) (start used : ℕ) (frame : Frame) (here : List ℕ) (n p q : ℕ) (e : Error) → IsNext d limits bytes image start used →
-      FrameGoesOn d limits bytes image start used frame p → here ≡ drop start bytes → n ≡ section_count_of (layout_in image frame) → n ≤ 2 ^ 24 →
-      UnlessMemory (kind_of e) (IsErrorAt ((toc d n).read here p) (kind_of e) q) → FrontFails d limits bytes (errors.Contents e)
-  contents_fail image start used frame here n p q e next goes lies count few h =
-      unless_so (kind_of e) (λ f. (
-        next_of image start used next,
-        frame,
-        p,
-        goes,
-        subst (λ m. m ≤ max_sections) count few,
-        subst (λ m. FailsAt (toc d m) (drop start bytes) p (kind_of e)) count (q, f),
-      ))
-      (subst (λ (b : List ℕ). UnlessMemory (kind_of e) (IsErrorAt ((toc d n).read b p) (kind_of e) q)) lies h)
-
-  pub contents_stand : (image : Image) (start used : ℕ) (frame : Frame) (here : List ℕ) (n p q : ℕ) (entries : List TocEntry) → FrameGoesOn d limits bytes image start used frame p → here ≡ drop start bytes →
-      n ≡ section_count_of (layout_in image frame) → n ≤ 2 ^ 24 → ((table : Table) × ((toc d n).read here p ≡ Ok (record { value = table; position = q })) × IsToc table entries) →
-      ContentsStand d limits bytes image start used frame entries
-  contents_stand image start used frame here n p q entries goes lies count few h = record {
-    end = p;
-    goes = goes;
-    few = subst (λ m. m ≤ max_sections) count few;
-    contents = (h.0, q, subst (λ m. StandsAt (toc d m) (drop start bytes) p h.0 q) count (subst (λ (b : List ℕ). StandsAt (toc d n) b p h.0 q) lies h.1), h.2);
-  }
-
-  pub too_many : (image : Image) (start used : ℕ) (frame : Frame) (p : ℕ) (size : Size) → IsNext d limits bytes image start used → FrameGoesOn d limits bytes image start used frame p → size ≡ frame_size image.size frame →
-      None ≡ layout_if (layout_of size frame.group_dim frame.passes.num_passes) → FrontFails d limits bytes errors.TooManySections
-  too_many image start used frame p size next goes is none = (
+  -- what fails after the header of a frame that is supported
+  pub parts_fail : (image : Image) (start used q : ℕ) (frame : Frame) → IsNext d limits bytes image start used → StandsAt (frame_header image) (drop start bytes) 0 frame q →
+      frame_refusal image frame ≡ None → (e : FrontError) → PartsFail d limits (drop start bytes) image used frame q e → FrontFails d limits bytes e
+  parts_fail image start used q frame next header supported errors.FramesTooLarge beyond = (next_of image start used next, frame, q, header, supported, beyond)
+  parts_fail image start used q frame next header supported errors.TooManySections h = (next_of image start used next, frame, q, (header, supported, h.0), h.1)
+  parts_fail image start used q frame next header supported (errors.Contents e) h = unless_so (kind_of e) (λ f. (next_of image start used next, frame, q, (header, supported, f.0), f.1, f.2)) h
+  parts_fail image start used q frame next header supported (errors.TruncatedSection number) h = (
     next_of image start used next,
     frame,
-    p,
-    goes,
-    beyond (section_count_of (layout_in image frame)) (layout_in image frame) (sym (none ∙ ap (λ (s : Size). layout_if (layout_of s frame.group_dim frame.passes.num_passes)) is)),
-  ) where
-    beyond : (n : ℕ) (l : Layout) → (if nat_le n max_sections then Some l else None) ≡ None → max_sections < n
-    beyond n l e = elim (cases_lt max_sections n) [
-      | inl lt ↦ lt
-      | inr le ↦ absurd (some_none (sym (ap (λ b. if b then Some l else None) (le-leb n max_sections le)) ∙ e))
-    ] where
-      some_none : {X : Type 0} {a : X} → ◌≡◌ {A = Option X} (Some a) None → ⊥
-      some_none e = cc
+    h.1,
+    record { end = q; goes = (header, supported, h.0); few = h.2.few; contents = h.2.contents },
+    h.3,
+  )
+  parts_fail image start used q frame next header supported e h = absurd h
 
-  pub truncated : (image : Image) (start used : ℕ) (frame : Frame) (entries : List TocEntry) (number : ℕ) → IsNext d limits bytes image start used → ContentsStand d limits bytes image start used frame entries →
-      IsFirstTruncated (length (drop start bytes)) entries number → FrontFails d limits bytes (errors.TruncatedSection number)
-  truncated image start used frame entries number next contents first = (next_of image start used next, frame, entries, contents, first)
+  pub parts_fail_if : (image : Image) (start used q : ℕ) (frame : Frame) → IsNext d limits bytes image start used → StandsAt (frame_header image) (drop start bytes) 0 frame q →
+      frame_refusal image frame ≡ None → (r : Result FrameFront FrontError) → IfErr r (PartsFail d limits (drop start bytes) image used frame q) → IfErr r (FrontFails d limits bytes)
+  parts_fail_if image start used q frame next header supported (Ok f) h = tt
+  parts_fail_if image start used q frame next header supported (Err e) h = parts_fail image start used q frame next header supported e h
+
+  -- a frame that is supported, with what follows its header
+  pub frame_stands : (image : Image) (start used q : ℕ) (frame : Frame) → StandsAt (frame_header image) (drop start bytes) 0 frame q → frame_refusal image frame ≡ None → (r : Result FrameFront FrontError) →
+      IfOk r (λ f. f.start ≡ start) → IfOk r (λ f. frame_of f.header ≡ frame) → IfOk r (λ f. PartsStand d limits bytes image used (frame_at f) q) → IfOk r (λ f. FrameStands d limits bytes image used (frame_at f))
+  frame_stands image start used q frame header supported (Ok f) at is parts = (
+    record {
+      end = q;
+      goes = (
+        subst (λ n. StandsAt (frame_header image) (drop n bytes) 0 (frame_of f.header) q) (sym at) (subst (λ (h : Frame). StandsAt (frame_header image) (drop start bytes) 0 h q) (sym is) header),
+        subst (λ (h : Frame). frame_refusal image h ≡ None) (sym is) supported,
+        parts.allowed,
+      );
+      few = parts.table.few;
+      contents = parts.table.contents;
+    },
+    parts.within,
+    parts.trees,
+  )
+  frame_stands image start used q frame header supported (Err e) at is parts = tt
 
   -- the first frame begins after the profile
   pub begins : (image : Image) (p q : ℕ) (icc : Option (List ℕ)) → ImageStands d limits bytes image p →
@@ -148,22 +137,52 @@ module _ {D : Type 0} (d : Meaning D) (limits : Limits) (bytes : List ℕ) where
   image_before (NoFrame end icc p stands passed) = (end, stands)
   image_before (OneMore fs n f before stands saved) = image_before before
 
+module _ {D : Type 0} (d : Meaning D) (limits : Limits) (here : List ℕ) (image : Image) (used : ℕ) (frame : Frame) where
+  pub contents_fail : (bytes : List ℕ) (n p q : ℕ) (e : Error) → AllowFrame limits image used (frame_size image.size frame) → bytes ≡ here → n ≡ section_count_of (layout_in image frame) → n ≤ 2 ^ 24 →
+      UnlessMemory (kind_of e) (IsErrorAt ((toc d n).read bytes p) (kind_of e) q) → PartsFail d limits here image used frame p (errors.Contents e)
+  contents_fail bytes n p q e allowed lies count few h =
+      unless_so (kind_of e) (λ f. (allowed, subst (λ m. m ≤ max_sections) count few, subst (λ m. FailsAt (toc d m) here p (kind_of e)) count (q, f)))
+      (subst (λ (b : List ℕ). UnlessMemory (kind_of e) (IsErrorAt ((toc d n).read b p) (kind_of e) q)) lies h)
+
+  pub contents_stand : (bytes : List ℕ) (n p q : ℕ) (entries : List TocEntry) → bytes ≡ here → n ≡ section_count_of (layout_in image frame) → n ≤ 2 ^ 24 →
+      ((table : Table) × ((toc d n).read bytes p ≡ Ok (record { value = table; position = q })) × IsToc table entries) → TableStands d here image frame p entries
+  contents_stand bytes n p q entries lies count few h = record {
+    few = subst (λ m. m ≤ max_sections) count few;
+    contents = (h.0, q, subst (λ m. StandsAt (toc d m) here p h.0 q) count (subst (λ (b : List ℕ). StandsAt (toc d n) b p h.0 q) lies h.1), h.2);
+  }
+
+  pub too_many : (p : ℕ) (size : Size) → AllowFrame limits image used (frame_size image.size frame) → size ≡ frame_size image.size frame → None ≡ layout_if (layout_of size frame.group_dim frame.passes.num_passes) →
+      PartsFail d limits here image used frame p errors.TooManySections
+  too_many p size allowed is none =
+      (allowed, beyond (section_count_of (layout_in image frame)) (layout_in image frame) (sym (none ∙ ap (λ (s : Size). layout_if (layout_of s frame.group_dim frame.passes.num_passes)) is))) where
+    beyond : (n : ℕ) (l : Layout) → (if nat_le n max_sections then Some l else None) ≡ None → max_sections < n
+    beyond n l e = elim (cases_lt max_sections n) [
+      | inl lt ↦ lt
+      | inr le ↦ absurd (some_none (sym (ap (λ b. if b then Some l else None) (le-leb n max_sections le)) ∙ e))
+    ] where
+      some_none : {X : Type 0} {a : X} → ◌≡◌ {A = Option X} (Some a) None → ⊥
+      some_none e = cc
+
+  pub truncated : (p : ℕ) (entries : List TocEntry) (number : ℕ) → AllowFrame limits image used (frame_size image.size frame) → TableStands d here image frame p entries → IsFirstTruncated (length here) entries number →
+      PartsFail d limits here image used frame p (errors.TruncatedSection number)
+  truncated p entries number allowed table first = (allowed, entries, table, first)
+
 pub layout_is : (image : Image) (frame : Frame) (l : Layout) → Some l ≡ layout_if (layout_in image frame) → l ≡ layout_in image frame
 layout_is image frame l e = by (nat_le (section_count_of (layout_in image frame)) max_sections) e where
   by : (b : Bool) → Some l ≡ (if b then Some (layout_in image frame) else None) → l ≡ layout_in image frame
   by true e = cc
   by false e = cc
 
-first_none : {X : Type 0} (a b : Option X) → option_or a b ≡ None → a ≡ None
+pub first_none : {X : Type 0} (a b : Option X) → option_or a b ≡ None → a ≡ None
 first_none None b e = refl
 first_none (Some x) b e = cc
 
-second_none : {X : Type 0} (a b : Option X) → option_or a b ≡ None → b ≡ None
+pub second_none : {X : Type 0} (a b : Option X) → option_or a b ≡ None → b ≡ None
 second_none None b e = e
 second_none (Some x) b e = cc
 
 -- of reasons in a row of which none holds: this one does not, and none after it
-passed : {X : Type 0} (b : Bool) (x : X) (rest : Option X) → (if b then Some x else rest) ≡ None → (b ≡ false) × (rest ≡ None)
+pub passed : {X : Type 0} (b : Bool) (x : X) (rest : Option X) → (if b then Some x else rest) ≡ None → (b ≡ false) × (rest ≡ None)
 passed true x rest e = cc
 passed false x rest e = (refl, e)
 
@@ -179,17 +198,19 @@ covers image size frame supported shown =
     let after_factors = (passed (list_any (λ f. not (f == 1)) frame.ec_upsampling) refusals.ExtraUpsampling _ after_coding).1 in
     covers_by size frame.place.crop (is_saved frame) shown (passed (is_some frame.place.crop && not (is_saved frame)) refusals.Crop _ after_factors).0
 
--- a frame that is supported has no patches where an extra channel has a size of its own
-pub plain : (image : Image) (frame : Frame) → frame_refusal image frame ≡ None → (frame.coding.flags.patches && has_shifts image) ≡ false
-plain image frame supported =
-    let f = frame.coding.flags in
-    let floats = has_floats image in
-    let coded = first_none (coding_refusal floats (has_shifts image) frame.coding) _ supported in
-    let typed = second_none (type_refusal frame.coding.frame_type) _ coded in
-    let encoded = (passed (not (is_modular frame.coding.encoding)) refusals.VarDct _ typed).1 in
+-- a frame whose coding is supported has no patches where an extra channel has a size of its own
+pub plain_coding : (floats shifts : Bool) (coding : FrameCoding) → coding_refusal floats shifts coding ≡ None → (coding.flags.patches && shifts) ≡ false
+plain_coding floats shifts coding supported =
+    let f = coding.flags in
+    let typed = second_none (type_refusal coding.frame_type) _ supported in
+    let encoded = (passed (not (is_modular coding.encoding)) refusals.VarDct _ typed).1 in
     let quiet = (passed f.noise refusals.Noise _ encoded).1 in
     let whole = (passed (f.patches && floats) refusals.FloatPatches _ quiet).1 in
-    (passed (f.patches && has_shifts image) refusals.ShiftedPatches _ whole).0
+    (passed (f.patches && shifts) refusals.ShiftedPatches _ whole).0
+
+pub plain : (image : Image) (frame : Frame) → frame_refusal image frame ≡ None → (frame.coding.flags.patches && has_shifts image) ≡ false
+plain image frame supported =
+    plain_coding (has_floats image) (has_shifts image) frame.coding (first_none (coding_refusal (has_floats image) (has_shifts image) frame.coding) _ supported)
 
 -- in an image that is supported the shifts of extra channels are at most 3
 pub low : (image : Image) → image_refusal image ≡ None → HasLowShifts image

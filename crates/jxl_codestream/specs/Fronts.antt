@@ -51,6 +51,31 @@ abbrev pub end_of : List TocEntry → ℕ
 end_of [] = 0
 end_of (e ∷ es) = max (e.offset + e.size) (end_of es)
 
+-- The table of contents of a frame stands at bit p after the frame's first byte, of not too many sections: it says where each of
+-- them lies.
+pub record TableStands {D : Type 0} (d : Meaning D) (here : List ℕ) (image : Image) (frame : Frame) (p : ℕ) (entries : List TocEntry) : Type 0 where
+  pub few : section_count_of (layout_in image frame) ≤ max_sections
+  pub contents : (table : Table) × (q : ℕ) × StandsAt (toc d (section_count_of (layout_in image frame))) here p table q × IsToc table entries
+
+-- A frame of which the header ends at bit p after its first byte: after frames with this number of cells it is within the limits,
+-- and all its sections lie in the codestream; the limits on its trees are by those on the picture.
+pub record PartsStand {D : Type 0} (d : Meaning D) (limits : Limits) (bytes : List ℕ) (image : Image) (used : ℕ) (f : FrameAt) (p : ℕ) : Type 0 where
+  pub allowed : AllowFrame limits image used (frame_size image.size f.header)
+  pub table : TableStands d (drop f.start bytes) image f.header p f.entries
+  pub within : list_all (is_within (length (drop f.start bytes))) f.entries ≡ true
+  pub trees : f.trees ≡ tree_limits limits image used (frame_size image.size f.header)
+
+-- What each error says of what follows a frame header that ends at bit p after the frame's first byte, after frames with this
+-- number of cells.
+abbrev pub PartsFail : {D : Type 0} → Meaning D → Limits → List ℕ → Image → ℕ → Frame → ℕ → FrontError → Type 0
+PartsFail d limits here image used frame p errors.FramesTooLarge = ¬ (AllowFrame limits image used (frame_size image.size frame))
+PartsFail d limits here image used frame p errors.TooManySections = AllowFrame limits image used (frame_size image.size frame) × (max_sections < section_count_of (layout_in image frame))
+PartsFail d limits here image used frame p (errors.Contents e) = UnlessMemory (kind_of e) (AllowFrame limits image used (frame_size image.size frame)
+    × (section_count_of (layout_in image frame) ≤ max_sections) × FailsAt (toc d (section_count_of (layout_in image frame))) here p (kind_of e))
+PartsFail d limits here image used frame p (errors.TruncatedSection number) = AllowFrame limits image used (frame_size image.size frame)
+    × (entries : List TocEntry) × TableStands d here image frame p entries × IsFirstTruncated (length here) entries number
+PartsFail d limits here image used frame p e = ⊥
+
 module _ {D : Type 0} (d : Meaning D) (limits : Limits) (bytes : List ℕ) where
   -- The image header stands at the start, up to bit p: it says nothing that is not supported, of a picture within the limits.
   abbrev pub ImageStands : Image → ℕ → Type 0

@@ -58,8 +58,8 @@ fn read_profile_if<D: Decoder>(
     Ok(Some(icc))
 }
 
-// The profile, if there is one, after which the bits up to the next byte are passed.
-fn read_between<D: Decoder>(
+/// The profile, if there is one, after which the bits up to the next byte are passed.
+pub fn read_between<D: Decoder>(
     alloc: Global,
     bits: &mut Bitstream<'_>,
     there: bool,
@@ -106,8 +106,8 @@ fn read_to_frames<D: Decoder>(
     }
 }
 
-// The byte where the reader stands.
-fn byte_of(bits: &Bitstream<'_>) -> usize
+/// The byte where the reader stands.
+pub fn byte_of(bits: &Bitstream<'_>) -> usize
     requires short { 8 * length (bytes_of bits.now) < 2 ^ 64 }
     ensures is { result ≡ position_of bits.now / 8 }
     ensures inside { result ≤ length (bytes_of bits.now) }
