@@ -13,16 +13,15 @@ use Rattle.jxlm_encode.specs.declared.error.EncodeError.{EncodeError}
 use Rattle.jxlm_encode.specs.declared.error.EncodeError.TheVariants.{InvalidTransform, InvalidTree, OutOfMemory}
 use Rattle.jxl_coding.specs.Clusters.{count_of}
 use Rattle.jxl_coding.specs.Parse.{decoder_at, start_of}
+use Rattle.jxl_coding.specs.Symbols.{Codes}
 use Rattle.jxl_coding.specs.Tokens.{entropy}
-use Rattle.jxl_coding_stream_write.specs.Codes.{codes_of}
-use Rattle.jxl_coding_stream_write.specs.declared.stream.StreamWriter.{StreamWriter}
 
 -- The tree that these nodes list is at p, with the clusters and the decoder of these codes at its leaves, and ends at q:
 -- under all limits that allow it.
-abbrev pub IsWrittenTree : List EncodeNode → StreamWriter → List ℕ → ℕ → ℕ → Type 0
-IsWrittenTree nodes leaves bytes p q = (node_limit depth_limit : ℕ) (t : Shape Leaf) → levels t ≡ clustered_nodes nodes leaves.clusters.items →
+abbrev pub IsWrittenTree : List EncodeNode → Codes → List ℕ → ℕ → ℕ → Type 0
+IsWrittenTree nodes leaves bytes p q = (node_limit depth_limit : ℕ) (t : Shape Leaf) → levels t ≡ clustered_nodes nodes leaves.clusters →
     node_count t ≤ node_limit + 1 → depth t ≤ depth_limit →
-    IsTreeAt (entropy decoder_at) bytes node_limit depth_limit p (config_of t (start_of (codes_of leaves))) q
+    IsTreeAt (entropy decoder_at) bytes node_limit depth_limit p (config_of t (start_of leaves)) q
 
 -- The nodes list this tree, whose leaves have these clusters in their order, and it is within these limits. A property has a
 -- token, each leaf a cluster, and each cluster up to the greatest a leaf.
