@@ -155,13 +155,13 @@ module _ {D : Type 0} (d : Meaning D) (limits : Limits) (here : List ℕ) (image
       PartsFail d limits here image used frame p errors.TooManySections
   too_many p size allowed is none =
       (allowed, beyond (section_count_of (layout_in image frame)) (layout_in image frame) (sym (none ∙ ap (λ (s : Size). layout_if (layout_of s frame.group_dim frame.passes.num_passes)) is))) where
-    beyond : (n : ℕ) (l : Layout) → (if nat_le n max_sections then Some l else None) ≡ None → max_sections < n
-    beyond n l e = elim (cases_lt max_sections n) [
-      | inl lt ↦ lt
-      | inr le ↦ absurd (some_none (sym (ap (λ b. if b then Some l else None) (le-leb n max_sections le)) ∙ e))
-    ] where
-      some_none : {X : Type 0} {a : X} → ◌≡◌ {A = Option X} (Some a) None → ⊥
-      some_none e = cc
+        beyond : (n : ℕ) (l : Layout) → (if nat_le n max_sections then Some l else None) ≡ None → max_sections < n
+        beyond n l e = elim (cases_lt max_sections n) [
+          | inl lt ↦ lt
+          | inr le ↦ absurd (some_none (sym (ap (λ b. if b then Some l else None) (le-leb n max_sections le)) ∙ e))
+        ] where
+          some_none : {X : Type 0} {a : X} → ◌≡◌ {A = Option X} (Some a) None → ⊥
+          some_none e = cc
 
   pub truncated : (p : ℕ) (entries : List TocEntry) (number : ℕ) → AllowFrame limits image used (frame_size image.size frame) → TableStands d here image frame p entries → IsFirstTruncated (length here) entries number →
       PartsFail d limits here image used frame p (errors.TruncatedSection number)

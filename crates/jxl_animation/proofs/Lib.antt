@@ -1,0 +1,3 @@
+mod States
+mod Pictures
+mod Decoders

@@ -1,0 +1,4 @@
+pub mod States
+pub mod Files
+pub mod Decoders
+pub mod Inner

@@ -1,0 +1,4 @@
+pub mod Refusals
+pub mod Compositions
+pub mod Openings
+pub mod Inner
