@@ -2,6 +2,7 @@ pub mod OnlySymbols
 pub mod Bits
 pub mod CodesAt
 pub mod SymbolReads
+pub mod Reductions
 pub mod StreamReads
 pub mod TokenReads
 pub mod Rests

@@ -3,3 +3,4 @@ pub mod Copying
 pub mod Rules
 pub mod SymbolBits
 pub mod TokenBits
+pub mod TokenRests

@@ -3,11 +3,10 @@
 ghost use Rattle.std.specs.Prelude.{◌≡◌, ℕ, ◌+◌, ◌-◌, ◌<◌, ◌≤◌, ◌^◌, ◌++◌, ◌↔◌, Option, Some, None, IfOk, IsTrue, length, slice_index, sum};
 ghost use Rattle.jxl_coding_codes.specs.Alias.{only_from};
 ghost use Rattle.jxl_coding_codes.specs.IntegerConfigs.{IsConfig};
-ghost use Rattle.jxl_coding_write.specs.HybridIntegers.{IsSpelled, symbol_of};
-ghost use Rattle.jxlm_bit_writer.specs.Written.{digits};
+ghost use Rattle.jxl_coding_write.specs.HybridIntegers.{symbol_of};
 ghost use Rattle.jxl_coding_stream_write.specs.Inner.Backward.{bits_back};
 
-use crate::back::prepend_lowest;
+use crate::back::{prepend, prepend_lowest};
 use crate::first_bits::FirstBits;
 use jxl_coding_codes::alias::only;
 use jxl_coding_codes::config::IntegerConfig;
@@ -62,7 +61,15 @@ fn upper_from(low: u32, split: u32) -> u32
     if low == 0 { split - 1 } else { u32::MAX }
 }
 
+/// The first bits of a stream, and the symbol that comes before them, if it takes bits.
+#[derive(Clone, Copy)]
+pub(crate) struct Rest {
+    pub(crate) first: FirstBits,
+    pub(crate) symbol: Option<u32>,
+}
+
 impl ClusterWriter {
+    ghost use Rattle.jxl_coding_stream_write.specs.Inner.TokenRests.{HasRest, symbol_unless};
     ghost use Rattle.jxl_coding_stream_write.specs.Tokens.{Occurs};
 
     /// The code of this configuration, and a distribution of at most 2^log symbols.
@@ -102,44 +109,94 @@ impl ClusterWriter {
         self.slots.occurs(spell(&self.config, token).symbol)
     }
 
-    /// The symbol of a token that is not below the split.
+    /// Writes the bits after the symbol of a token that is not below the split, by which symbols have none of the lowest bits.
     #[inline(always)]
-    pub(crate) fn long_symbol(&self, token: u32) -> u32
-        requires { 2 ^ self.now.config.split_exponent ≤ token }
-        ensures { result ≡ symbol_of self.now.config token }
-    {
-        let config = &self.config;
-        let low = power(config.lsb_in_token);
-        let high = power(config.msb_in_token);
-        let n = log_of(token);
-        let wide = power(n - (config.msb_in_token + config.lsb_in_token));
-        let lead = token / low / wide;
-        let upper = (n - config.split_exponent + self.steps) * high + lead;
-        if config.lsb_in_token == 0 {
-            return upper;
-        }
-        upper * low + token % low
-    }
-
-    /// Writes the bits after the symbol of a token that is not below the split, before others.
-    #[inline(always)]
-    pub(crate) fn prepend_rest(
+    fn write_upper(
         &self,
         words: &mut Vec<u64>,
         first: FirstBits,
         token: u32,
-    ) -> Result<FirstBits, AllocError>
-        requires { 2 ^ self.now.config.split_exponent ≤ token }
-        ensures { IfOk result (λ f. (count : ℕ) × (value : ℕ)
-            × IsSpelled self.now.config token (symbol_of self.now.config token) count value
-            × (bits_back f words.new.items ≡ digits count value ++ bits_back first words.old.items)) }
+    ) -> Result<Rest, AllocError>
+        requires beyond { 2 ^ self.now.config.split_exponent ≤ token }
+        requires none { self.now.config.lsb_in_token ≡ 0 }
+        ensures bits { IfOk result (λ r. HasRest self.now.config token
+            (bits_back r.first words.new.items) (bits_back first words.old.items)) }
+        ensures symbol { IfOk result (λ r. r.symbol ≡ symbol_unless self.now.only (symbol_of self.now.config token)) }
     {
-        let config = &self.config;
-        let low = power(config.lsb_in_token);
-        let width = log_of(token) - (config.msb_in_token + config.lsb_in_token);
+        let n = log_of(token);
+        let width = n - self.config.msb_in_token;
         let wide = power(width);
-        let number = token / low;
-        let first = prepend_lowest(words, first, number, number / wide, width)?;
-        Ok(first)
+        let lead = token / wide;
+        let first = prepend_lowest(words, first, token, lead, width)?;
+        if self.only.is_some() {
+            return Ok(Rest {
+                first,
+                symbol: None,
+            });
+        }
+        let high = power(self.config.msb_in_token);
+        let symbol = (n - self.config.split_exponent + self.steps) * high + lead;
+        Ok(Rest {
+            first,
+            symbol: Some(symbol),
+        })
+    }
+
+    /// Writes the bits after the symbol of a token that is not below the split.
+    #[inline(always)]
+    fn write_long(
+        &self,
+        words: &mut Vec<u64>,
+        first: FirstBits,
+        token: u32,
+    ) -> Result<Rest, AllocError>
+        ensures bits { IfOk result (λ r. HasRest self.now.config token
+            (bits_back r.first words.new.items) (bits_back first words.old.items)) }
+        ensures symbol { IfOk result (λ r. r.symbol ≡ symbol_unless self.now.only (symbol_of self.now.config token)) }
+    {
+        let spelling = spell(&self.config, token);
+        let first = prepend(words, first, spelling.rest)?;
+        if self.only.is_some() {
+            return Ok(Rest {
+                first,
+                symbol: None,
+            });
+        }
+        Ok(Rest {
+            first,
+            symbol: Some(spelling.symbol),
+        })
+    }
+
+    /// Writes the bits after the symbol of a token, before others.
+    #[inline(always)]
+    pub(crate) fn write_rest(
+        &self,
+        words: &mut Vec<u64>,
+        first: FirstBits,
+        token: u32,
+    ) -> Result<Rest, AllocError>
+        ensures bits { IfOk result (λ r. HasRest self.now.config token
+            (bits_back r.first words.new.items) (bits_back first words.old.items)) }
+        ensures symbol { IfOk result (λ r. r.symbol ≡ symbol_unless self.now.only (symbol_of self.now.config token)) }
+    {
+        if token < self.coded {
+            return Ok(Rest {
+                first,
+                symbol: Some(token),
+            });
+        }
+        if token > self.upper {
+            let rest = self.write_upper(words, first, token)?;
+            return Ok(rest);
+        }
+        if token < self.split {
+            return Ok(Rest {
+                first,
+                symbol: None,
+            });
+        }
+        let rest = self.write_long(words, first, token)?;
+        Ok(rest)
     }
 }

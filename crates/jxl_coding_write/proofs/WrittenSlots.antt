@@ -1,7 +1,7 @@
 -- A symbol that is written_state by its slot is read.
-use Rattle.std.proofs.Common.{◌≡◌, ℕ, ◌+◌, ◌*◌, ◌/◌, ◌%◌, ◌^◌, ◌<◌, ◌≤◌, List, Bool, true, false, cond, Ok, refl, sym, ap, ◌∙◌, subst, arith}
+use Rattle.std.proofs.Common.{◌≡◌, ℕ, ◌+◌, ◌*◌, ◌/◌, ◌%◌, ◌^◌, ◌<◌, ◌≤◌, List, Bool, true, false, cond, Ok, refl, sym, ap, ◌∙◌, subst, inl, inr, arith}
 use Rattle.std.specs.List.{sum}
-use Rattle.std.proofs.lemmas.Bool.{false≢true, le-leb, lt-leb}
+use Rattle.std.proofs.lemmas.Bool.{cases_lt, false≢true, le-leb, lt-leb}
 use Rattle.std.proofs.lemmas.Nat.{div_below}
 use Rattle.std.proofs.Math.Nat.{mul_comm}
 use Rattle.std.specs.Prelude.{nat_le, slice_index}
@@ -12,7 +12,7 @@ use Rattle.jxl_coding_codes.specs.Distributions.{whole}
 use Rattle.jxl_coding_codes.specs.Slots.{slot_at}
 use Rattle.jxl_coding_codes.specs.Writing.{IsSlotFor, WordStands, is_large, reduced_state}
 use Rattle.jxl_coding_codes.proofs.AnsUndo.{fits, slot_is, undoes}
-use Rattle.jxl_coding_write.specs.Places.{IsPlaceOf, Leads}
+use Rattle.jxl_coding_write.specs.Places.{IsPlaceOf, IsReduced, Leads}
 use Rattle.jxl_coding_write.proofs.NumberReads.{number_read}
 use Rattle.jxl_coding_write.proofs.SumsBefore.{each_at_most}
 
@@ -81,7 +81,7 @@ written_leads counts log symbol state total occurs least below n r place count v
     (subst (λ (x : ℕ). Leads (buckets_of counts log) (whole / 2 ^ log) symbol (x / slice_index counts symbol * 4096 + place) state count value) (sym f') all)
 
 -- a state that is small enough for its symbol keeps its bits
-pub kept_leads : (counts : List ℕ) (log symbol state : ℕ) → sum counts ≡ 4096 → 0 < slice_index counts symbol → 2 ^ 16 ≤ state → state < 2 ^ 32 →
+kept_leads : (counts : List ℕ) (log symbol state : ℕ) → sum counts ≡ 4096 → 0 < slice_index counts symbol → 2 ^ 16 ≤ state → state < 2 ^ 32 →
     (n before place : ℕ) → n ≡ slice_index counts symbol → state / 1048576 < n → IsPlaceOf counts log symbol (state % n) place → before ≡ state / n * 4096 + place →
     Leads (buckets_of counts log) (whole / 2 ^ log) symbol before state 0 0
 kept_leads counts log symbol state total occurs least below n before place e few is b =
@@ -91,7 +91,7 @@ kept_leads counts log symbol state total occurs least below n before place e few
     (sym (ap (λ (x : Bool). cond x (state / 2 ^ 16) state) t)) (sym (ap word_count t)) (λ large. absurd (false≢true (sym t ∙ large))) is)
 
 -- the last 16 bits of a larger one are written
-pub reduced_leads : (counts : List ℕ) (log symbol state : ℕ) → sum counts ≡ 4096 → 0 < slice_index counts symbol → 2 ^ 16 ≤ state → state < 2 ^ 32 →
+reduced_leads : (counts : List ℕ) (log symbol state : ℕ) → sum counts ≡ 4096 → 0 < slice_index counts symbol → 2 ^ 16 ≤ state → state < 2 ^ 32 →
     (n before place : ℕ) → n ≡ slice_index counts symbol → n ≤ state / 1048576 → IsPlaceOf counts log symbol (state / 65536 % n) place → before ≡ state / 65536 / n * 4096 + place →
     Leads (buckets_of counts log) (whole / 2 ^ log) symbol before state 16 (state % 65536)
 reduced_leads counts log symbol state total occurs least below n before place e many is b =
@@ -99,6 +99,29 @@ reduced_leads counts log symbol state total occurs least below n before place e 
     subst (λ (x : ℕ). Leads (buckets_of counts log) (whole / 2 ^ log) symbol x state 16 (state % 65536)) (sym b)
     (written_leads counts log symbol state total occurs least below n (state / 65536) place 16 (state % 65536) e
     (sym (ap (λ (x : Bool). cond x (state / 2 ^ 16) state) t)) (sym (ap word_count t)) (λ large. refl) is)
+
+-- either way
+pub leads_by : (counts : List ℕ) (log symbol state : ℕ) → sum counts ≡ 4096 → 0 < slice_index counts symbol → 2 ^ 16 ≤ state → state < 2 ^ 32 →
+    (n before place reduced count value : ℕ) → n ≡ slice_index counts symbol → IsReduced n state reduced count value → IsPlaceOf counts log symbol (reduced % n) place → before ≡ reduced / n * 4096 + place →
+    Leads (buckets_of counts log) (whole / 2 ^ log) symbol before state count value
+leads_by counts log symbol state total occurs least below n before place reduced count value e is place_is b =
+    elim (cases_lt state (n * 2 ^ 20)) [
+      | inl few ↦
+          let k = is.keeps few in
+          same 0 0 k.1 k.2
+          (kept_leads counts log symbol state total occurs least below n before place e (omega (arith, few))
+          (subst (λ (r : ℕ). IsPlaceOf counts log symbol (r % n) place) k.0 place_is) (b ∙ ap (λ (r : ℕ). r / n * 4096 + place) k.0))
+      | inr many ↦
+          let g = is.gives many in
+          same 16 (state % 65536) g.1 g.2
+          (reduced_leads counts log symbol state total occurs least below n before place e (omega (arith, many))
+          (subst (λ (r : ℕ). IsPlaceOf counts log symbol (r % n) place) g.0 place_is) (b ∙ ap (λ (r : ℕ). r / n * 4096 + place) g.0))
+    ]
+  where
+    same : (k v : ℕ) → count ≡ k → value ≡ v → Leads (buckets_of counts log) (whole / 2 ^ log) symbol before state k v → Leads (buckets_of counts log) (whole / 2 ^ log) symbol before state count value
+    same k v x y l =
+        subst (λ (j : ℕ). Leads (buckets_of counts log) (whole / 2 ^ log) symbol before state j value) (sym x)
+        (subst (λ (j : ℕ). Leads (buckets_of counts log) (whole / 2 ^ log) symbol before state k j) (sym y) l)
 
 -- the state that is written_state is a number of 32 bits
 pub written_fits : (r n place : ℕ) → 0 < n → r < n * 2 ^ 20 → place < 4096 → r / n * 4096 + place < 2 ^ 32

@@ -1,6 +1,6 @@
 -- The slots of each symbol of a distribution, and the bits of a symbol (ISO/IEC 18181-1, entropy decoding: ANS symbol
 -- decoding, alias mapping, from a stream's end to its beginning).
-use Rattle.std.specs.Prelude.{◌≡◌, ℕ, ◌+◌, ◌/◌, ◌%◌, ◌^◌, ◌<◌, ◌≤◌, List, length, slice_index, Ok}
+use Rattle.std.specs.Prelude.{◌≡◌, ℕ, ◌+◌, ◌*◌, ◌/◌, ◌%◌, ◌^◌, ◌<◌, ◌≤◌, List, length, slice_index, Ok}
 use Rattle.jxlm_bit_writer.specs.Written.{digits, HasBits}
 use Rattle.jxl_coding_codes.specs.Alias.{buckets_of}
 use Rattle.jxl_coding_codes.specs.Ans.{after_slot, refilled_at}
@@ -22,6 +22,11 @@ HavePlaces counts log starts places =
 pub record AreWithin (counts starts places : List ℕ) : Type 0 where
   pub many : length starts ≡ length counts
   pub each : (symbol number : ℕ) → number < slice_index counts symbol → slice_index starts symbol + number < length places
+
+-- Before a symbol with this many slots, a state keeps its bits if it is small enough, and gives away its last 16 otherwise.
+pub record IsReduced (many state reduced count value : ℕ) : Type 0 where
+  pub keeps : state < many * 2 ^ 20 → (reduced ≡ state) × (count ≡ 0) × (value ≡ 0)
+  pub gives : many * 2 ^ 20 ≤ state → (reduced ≡ state / 65536) × (count ≡ 16) × (value ≡ state % 65536)
 
 -- From the state before, the decoder reads this symbol by these buckets, takes the bits that follow, and is in the state after.
 pub record Leads (buckets : List Bucket) (bucket_size symbol before after count value : ℕ) : Type 0 where

@@ -1,21 +1,35 @@
 //! The slots of each symbol of a distribution, and ANS symbols written by them.
 
-ghost use Rattle.std.specs.Prelude.{◌≡◌, ℕ, ◌+◌, ◌*◌, ◌/◌, ◌%◌, ◌<◌, ◌≤◌, ◌^◌, ◌↔◌, length, map, sum, take, IfOk, IsTrue, slice_index};
+ghost use Rattle.std.specs.Prelude.{◌≡◌, ℕ, ◌+◌, ◌*◌, ◌/◌, ◌%◌, ◌<◌, ◌≤◌, ◌^◌, ◌↔◌, length, map, sum, take, false, true, IfOk, IsTrue, slice_index};
 ghost use Rattle.jxl_coding_codes.specs.Alias.{buckets_of};
-ghost use Rattle.jxl_coding_write.specs.Places.{HavePlaces, AreWithin, IsPlaceOf, Leads};
+ghost use Rattle.jxl_coding_write.specs.Places.{HavePlaces, AreWithin, IsPlaceOf, IsReduced, Leads};
 
-use crate::piece::BitPiece;
 use jxl_coding_codes::alias::{bucket_shift_of, buckets};
 use jxl_coding_codes::ans::{Bucket, slot_of};
 use std::alloc::{AllocError, Global};
 
 /// The slots of a symbol, in a list of those of all symbols.
 #[derive(Clone, Copy)]
-pub(crate) struct SymbolSlots {
+pub struct SymbolSlots {
+    /// The greatest state that keeps its bits before the symbol.
+    last: u32,
     /// How many slots there are.
     count: u32,
     /// The number of slots of the symbols before it.
-    start: u32,
+    start: usize,
+    ghost last_is: { 0 < count → last + 1 ≡ count * 1048576 },
+}
+
+impl SymbolSlots {
+    /// Whether a state gives away its last 16 bits before the symbol.
+    #[inline(always)]
+    pub fn takes_bits(&self, state: u32) -> bool
+        requires { 0 < self.now.count }
+        ensures more { result ≡ true → self.now.count * 2 ^ 20 ≤ state }
+        ensures fewer { result ≡ false → state < self.now.count * 2 ^ 20 }
+    {
+        state > self.last
+    }
 }
 
 /// The slots of a distribution, by symbol and number.
@@ -38,19 +52,17 @@ pub struct SlotTable {
     ghost have: { HavePlaces counts.items log (map (λ s. s.start) symbols.items) places.items },
 }
 
-/// A written symbol: the state before it, and the bits that the decoder reads after it.
-#[derive(Clone, Copy)]
-pub struct SymbolBits {
-    pub state: u32,
-    pub bits: BitPiece,
-}
-
 /// The slots of a symbol, after those of the symbols before it.
-fn slots_after(start: u32, count: u32) -> SymbolSlots
+fn slots_after(start: usize, count: u32) -> SymbolSlots
+    requires { count ≤ 4096 }
     ensures count { result.count ≡ count }
     ensures start { result.start ≡ start }
 {
-    SymbolSlots { count, start }
+    SymbolSlots {
+        last: count.wrapping_mul(1048576).wrapping_sub(1),
+        count,
+        start,
+    }
 }
 
 /// The slots of each symbol.
@@ -61,10 +73,10 @@ fn symbols_of(alloc: Global, counts: &[u32]) -> Result<Vec<SymbolSlots>, AllocEr
         → slice_index (map (λ s. s.start) v.items) k ≡ sum (take k counts.now)) }
 {
     let mut symbols = Vec::new(alloc);
-    let mut before = 0;
+    let mut before: usize = 0;
     for count in counts {
         symbols.push(slots_after(before, *count))?;
-        before += *count;
+        before += *count as usize;
     }
     Ok(symbols)
 }
@@ -105,12 +117,14 @@ fn places_of(
     for place in 0..4096 {
         let slot = slot_of(&buckets, 0, shift, place);
         let start = symbols[slot.symbol as usize].start;
-        places[(start + slot.number) as usize] = place;
+        places[start + slot.number as usize] = place;
     }
     Ok(places)
 }
 
 impl SlotTable {
+    ghost use Rattle.jxl_coding_write.specs.SymbolSlots.{AreSlotsOf};
+
     /// The table of a distribution of at most 2^log symbols.
     pub fn new(alloc: Global, counts: Vec<u32>, log: u32) -> Result<SlotTable, AllocError>
         requires log { log ≤ 8 }
@@ -146,12 +160,21 @@ impl SlotTable {
         requires below { number < slice_index self.now.counts.items symbol }
         ensures { IsPlaceOf self.now.counts.items self.now.log symbol number result }
     {
-        self.places[(slots.start + number) as usize]
+        self.places[slots.start + number as usize]
     }
 
-    /// The state before a symbol that occurs, if the state after it, without the bits that follow, is not too large.
+    /// The slots of a symbol that occurs.
     #[inline(always)]
-    fn before(&self, reduced: u32, symbol: u32, slots: &SymbolSlots) -> u32
+    pub fn slots_of(&self, symbol: u32) -> &SymbolSlots
+        requires { 0 < slice_index self.now.counts.items symbol }
+        ensures { AreSlotsOf self.now symbol result.now }
+    {
+        &self.symbols[symbol as usize]
+    }
+
+    /// The state of a slot of a symbol that occurs.
+    #[inline(always)]
+    fn state_by(&self, reduced: u32, symbol: u32, slots: &SymbolSlots) -> u32
         requires occurs { 0 < slice_index self.now.counts.items symbol }
         requires count { slots.now.count ≡ slice_index self.now.counts.items symbol }
         requires start { slots.now.start ≡ slice_index (map (λ s. s.start) self.now.symbols.items) symbol }
@@ -163,27 +186,18 @@ impl SlotTable {
         reduced / slots.count * 4096 + place
     }
 
-    /// Writes a symbol that occurs: the decoder reads it from the state of the result, and goes on in `state`.
+    /// Writes a symbol that occurs, before a state without the bits that it gives away: the decoder reads the symbol from the
+    /// state of the result, takes these bits, and goes on.
     #[inline(always)]
-    pub fn write(&self, state: u32, symbol: u32) -> SymbolBits
+    pub fn state_before(&self, reduced: u32, symbol: u32, slots: &SymbolSlots) -> u32
         requires occurs { 0 < slice_index self.now.counts.items symbol }
-        requires least { 2 ^ 16 ≤ state }
-        ensures { Leads (buckets_of self.now.counts.items self.now.log) (4096 / 2 ^ self.now.log) symbol result.state
-            state result.bits.count result.bits.value }
+        requires slots { AreSlotsOf self.now symbol slots.now }
+        requires small { reduced < slots.now.count * 2 ^ 20 }
+        ensures { (state count value : ℕ) → 2 ^ 16 ≤ state → state < 2 ^ 32
+            → IsReduced slots.now.count state reduced count value
+            → Leads (buckets_of self.now.counts.items self.now.log) (4096 / 2 ^ self.now.log) symbol result
+            state count value }
     {
-        let slots = &self.symbols[symbol as usize];
-        if state / 1048576 < slots.count {
-            return SymbolBits {
-                state: self.before(state, symbol, slots),
-                bits: BitPiece { value: 0, count: 0 },
-            };
-        }
-        SymbolBits {
-            state: self.before(state / 65536, symbol, slots),
-            bits: BitPiece {
-                value: state % 65536,
-                count: 16,
-            },
-        }
+        self.state_by(reduced, symbol, slots)
     }
 }

@@ -14,6 +14,13 @@ bounds-symbols-slot c =
     let m = length-map c.args.symbols.now (λ (x : SymbolSlots). x.start) in
     omega (arith, i, m)
 
+pub bounds-symbols-slot-in-loop-place : goal.bounds-symbols-slot-in-loop-place
+bounds-symbols-slot-in-loop-place c =
+    let i = symbol_in c.args.counts.now c.args.log c.requires.whole (alias_slots c.args.counts.now c.args.log c.requires.log c.requires.short c.requires.whole) c.loop-place.place c.loop-place-test.true
+    c.slot_of-slot.result c.deref.result.now _ c.slot_of-slot.ensures c.bucket_shift_of-shift.ensures.size (c.deref.ensures.value ∙ c.in_ok-buckets.ensures.ok) (starts_in c.args.symbols.now) (starts_many c.args.counts.now c.args.symbols.now c.requires.many) c.requires.starts in
+    let m = length-map c.args.symbols.now (λ (x : SymbolSlots). x.start) in
+    omega (arith, i, m)
+
 pub overflow_add-start : goal.overflow_add-start
 overflow_add-start c =
     let i = symbol_in c.args.counts.now c.args.log c.requires.whole (alias_slots c.args.counts.now c.args.log c.requires.log c.requires.short c.requires.whole) c.loop-place.place c.loop-place-test.true
@@ -21,7 +28,7 @@ overflow_add-start c =
     let e = entry_within c.args.counts.now c.args.log c.requires.whole (alias_slots c.args.counts.now c.args.log c.requires.log c.requires.short c.requires.whole) c.loop-place.place c.loop-place-test.true
     c.slot_of-slot.result c.deref.result.now _ c.slot_of-slot.ensures c.bucket_shift_of-shift.ensures.size (c.deref.ensures.value ∙ c.in_ok-buckets.ensures.ok) (starts_in c.args.symbols.now) (starts_many c.args.counts.now c.args.symbols.now c.requires.many) c.requires.starts in
     let m = length-map c.args.symbols.now (λ (x : SymbolSlots). x.start) in
-    let s = start_at c.args.symbols.now c.slot_of-slot.result.symbol (record { count = 0; start = 0 }) (omega (arith, i, m)) in
+    let s = start_at c.args.symbols.now c.slot_of-slot.result.symbol c.index-symbols-slot.result (omega (arith, i, m)) in
     omega (arith, e, s)
 
 pub index_mut-requires : goal.index_mut-requires
@@ -31,7 +38,7 @@ index_mut-requires c =
     let e = entry_within c.args.counts.now c.args.log c.requires.whole (alias_slots c.args.counts.now c.args.log c.requires.log c.requires.short c.requires.whole) c.loop-place.place c.loop-place-test.true
     c.slot_of-slot.result c.deref.result.now _ c.slot_of-slot.ensures c.bucket_shift_of-shift.ensures.size (c.deref.ensures.value ∙ c.in_ok-buckets.ensures.ok) (starts_in c.args.symbols.now) (starts_many c.args.counts.now c.args.symbols.now c.requires.many) c.requires.starts in
     let l = length-map c.args.symbols.now (λ (x : SymbolSlots). x.start) in
-    let s = start_at c.args.symbols.now c.slot_of-slot.result.symbol (record { count = 0; start = 0 }) (omega (arith, i, l)) in
+    let s = start_at c.args.symbols.now c.slot_of-slot.result.symbol c.index-symbols-slot.result (omega (arith, i, l)) in
     let m = c.loop-place.invariant.many in
     let o = c.loop-place.places.ok.0 in
     omega (arith, e, s, m, o)
@@ -43,7 +50,7 @@ loop-place-preserved c = record {
       let i = symbol_in c.args.counts.now c.args.log c.requires.whole (alias_slots c.args.counts.now c.args.log c.requires.log c.requires.short c.requires.whole) c.loop-place.place c.loop-place-test.true
       c.slot_of-slot.result c.deref.result.now _ c.slot_of-slot.ensures c.bucket_shift_of-shift.ensures.size (c.deref.ensures.value ∙ c.in_ok-buckets.ensures.ok) (starts_in c.args.symbols.now) (starts_many c.args.counts.now c.args.symbols.now c.requires.many) c.requires.starts in
       let l = length-map c.args.symbols.now (λ (x : SymbolSlots). x.start) in
-      let s = start_at c.args.symbols.now c.slot_of-slot.result.symbol (record { count = 0; start = 0 }) (omega (arith, i, l)) in
+      let s = start_at c.args.symbols.now c.slot_of-slot.result.symbol c.index-symbols-slot.result (omega (arith, i, l)) in
       let f = filled_entry c.args.counts.now c.args.log c.requires.whole (alias_slots c.args.counts.now c.args.log c.requires.log c.requires.short c.requires.whole) c.loop-place.place c.loop-place-test.true
       c.slot_of-slot.result c.deref.result.now _ c.slot_of-slot.ensures c.bucket_shift_of-shift.ensures.size (c.deref.ensures.value ∙ c.in_ok-buckets.ensures.ok) (starts_in c.args.symbols.now) (starts_many c.args.counts.now c.args.symbols.now c.requires.many) c.requires.starts
       c.loop-place.places.items c.loop-place.invariant.many c.loop-place.invariant.filled in

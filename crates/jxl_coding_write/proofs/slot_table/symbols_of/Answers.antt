@@ -1,8 +1,14 @@
-use Rattle.std.proofs.Common.{ℕ, ◌∙◌, arith}
+use Rattle.std.proofs.Common.{ℕ, ◌≤◌, ◌∙◌, sym, subst, arith}
 use Rattle.std.proofs.lemmas.List.{get_or_default}
 use Rattle.std.proofs.lemmas.List.Sums.{sum_by_more, sum_by_more_le}
 use Rattle.jxl_coding_write.proofs.SymbolLists.{counts_pushed, starts_pushed, counts_all}
+use Rattle.jxl_coding_write.proofs.SumsBefore.{each_at_most}
 use Rattle.jxl_coding_write.proofs.slot_table.symbols_of.Goals as goal
+
+pub slots_after-requires : goal.slots_after-requires
+slots_after-requires c =
+    let m = each_at_most c.args.counts.now c.loop-count.count-index in
+    subst (λ (n : ℕ). n ≤ 4096) (sym (get_or_default c.args.counts.now c.loop-count.count-index _ 0 c.loop-count-test.true)) (omega (arith, m, c.requires))
 
 pub overflow_add-before : goal.overflow_add-before
 overflow_add-before c =
