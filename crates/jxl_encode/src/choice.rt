@@ -12,6 +12,7 @@ use crate::codestream::codestream_by;
 use crate::effort::Effort;
 use crate::groups::{OwnTrees, own_trees};
 use crate::progress::Progress;
+use jxl_encode_copies::repeats::do_repeat;
 use jxl_picture::picture::Picture;
 use jxlm_base::grid::OutOfMemory;
 use std::alloc::Global;
@@ -38,6 +39,7 @@ fn shortest<P: Progress>(
     picture: &Picture,
     advices: &[Advice],
     own: &OwnTrees,
+    copies: bool,
     progress: &mut P,
 ) -> Result<Option<Vec<u8>>, OutOfMemory>
     requires whole { IsWhole (image_of picture.now.header) picture.now.channels.items }
@@ -46,11 +48,19 @@ fn shortest<P: Progress>(
 {
     let mut best = None;
     for advice in advices {
-        let bytes = codestream_by(alloc, picture, advice, own.by(advice))?;
+        let bytes = codestream_by(alloc, picture, advice, own.by(advice), copies)?;
         best = Some(shorter(best, bytes));
         progress.way_tried(advices.len());
     }
     Ok(best)
+}
+
+/// Whether copies of tokens are looked for: there is time, and the samples repeat.
+fn are_copied(alloc: Global, picture: &Picture, effort: Effort) -> Result<bool, OutOfMemory> {
+    if matches!(effort, Effort::Fast) {
+        return Ok(false);
+    }
+    do_repeat(alloc, &picture.channels)
 }
 
 /// A codestream of the picture. By what its samples are coded is a heuristic. `progress` is called after each way that
@@ -67,7 +77,8 @@ pub(crate) fn encode_codestream<P: Progress>(
 {
     let advices = advices_for(alloc, picture, effort)?;
     let own = own_trees(alloc, picture, effort, &advices)?;
-    if let Some(bytes) = shortest(alloc, picture, &advices, &own, progress)? {
+    let copies = are_copied(alloc, picture, effort)?;
+    if let Some(bytes) = shortest(alloc, picture, &advices, &own, copies, progress)? {
         return Ok(bytes);
     }
     let plain = Advice {
@@ -76,5 +87,5 @@ pub(crate) fn encode_codestream<P: Progress>(
         colour: None,
         own: false,
     };
-    codestream_by(alloc, picture, &plain, &[])
+    codestream_by(alloc, picture, &plain, &[], copies)
 }

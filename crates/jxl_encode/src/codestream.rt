@@ -17,7 +17,7 @@ use jxl_picture::picture::Picture;
 use jxlm_base::grid::OutOfMemory;
 use std::alloc::Global;
 
-/// A codestream of the picture by this advice, where groups may have these trees of their own.
+/// A codestream of the picture by this advice, where groups may have these trees of their own, and tokens may be copied.
 ///
 /// # Errors
 ///
@@ -28,6 +28,7 @@ pub(crate) fn codestream_by(
     picture: &Picture,
     advice: &Advice,
     own: &[GroupTree],
+    copies: bool,
 ) -> Result<Vec<u8>, OutOfMemory>
     requires whole { IsWhole (image_of picture.now.header) picture.now.channels.items }
     requires codable { IsCodable picture.now }
@@ -42,6 +43,7 @@ pub(crate) fn codestream_by(
         given: &given,
         layout: &layout,
         own,
+        copies,
     };
     let Ok(sections) = frame_sections(alloc, &input, advice) else {
         return Err(OutOfMemory);

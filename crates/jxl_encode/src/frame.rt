@@ -42,14 +42,15 @@ pub(crate) const GROUP_DIM: u32 = 256;
 /// The maximum depth of the tree: the default limit on decisions for a sample.
 const MAX_DEPTH: usize = 128;
 
-/// What the sections of a frame are written from: the picture, its channels, the frame's groups, and trees that they may have
-/// of their own.
+/// What the sections of a frame are written from: the picture, its channels, the frame's groups, trees that they may have of
+/// their own, and whether copies of earlier tokens are looked for.
 #[derive(Clone, Copy)]
 pub(crate) struct FrameInput<'a> {
     pub(crate) picture: &'a Picture,
     pub(crate) given: &'a [ModularChannelParams],
     pub(crate) layout: &'a Layout,
     pub(crate) own: &'a [GroupTree],
+    pub(crate) copies: bool,
 }
 
 /// How large the tree of a frame may be, in a picture with this header.
@@ -97,6 +98,7 @@ fn sections_by_tree(
         clusters,
         limits: limits_of(&input.picture.header),
         own: input.own,
+        copies: input.copies,
     };
     let cut = FrameCut {
         group_dim: GROUP_DIM,

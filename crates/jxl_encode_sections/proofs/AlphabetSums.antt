@@ -1,7 +1,8 @@
 -- How many codewords the codes of a writer may have.
-use Rattle.std.proofs.Common.{◌≡◌, ℕ, suc, ◌+◌, ◌*◌, ◌^◌, List, [], ◌∷◌, length, arith}
+use Rattle.std.proofs.Common.{◌≡◌, ℕ, suc, ◌+◌, ◌*◌, ◌^◌, List, [], ◌∷◌, length, Option, arith}
 use Rattle.jxl_coding.specs.Parse.{Coded, nothing_coded}
-use Rattle.jxl_coding_stream_write.specs.Codes.{codes_of, coded_after, with_code}
+use Rattle.jxl_coding.specs.declared.codes.Lz77.{Lz77}
+use Rattle.jxl_coding_stream_write.specs.Codes.{codes_with, coded_after, with_code}
 use Rattle.jxl_coding_stream_write.specs.declared.cluster.ClusterWriter.{ClusterWriter}
 use Rattle.jxl_coding_stream_write.specs.declared.stream.StreamWriter.{StreamWriter}
 
@@ -16,5 +17,5 @@ after : (log : ℕ) (s : Coded) (codes : List ClusterWriter) → (coded_after lo
 after log s [] = omega arith
 after log s (c ∷ cs) = one_more s.alphabets (2 ^ log) (length cs) (coded_after log (with_code log s c) cs).alphabets (after log (with_code log s c) cs)
 
-pub alphabets_are : (w : StreamWriter) → (codes_of w).alphabets ≡ length w.codes.items * 2 ^ w.log
-alphabets_are w = zero_more (codes_of w).alphabets (length w.codes.items * 2 ^ w.log) (after w.log nothing_coded w.codes.items)
+pub alphabets_are : (copies : Option Lz77) (w : StreamWriter) → (codes_with copies w).alphabets ≡ length w.codes.items * 2 ^ w.log
+alphabets_are copies w = zero_more (codes_with copies w).alphabets (length w.codes.items * 2 ^ w.log) (after w.log nothing_coded w.codes.items)

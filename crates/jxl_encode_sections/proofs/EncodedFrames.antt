@@ -29,7 +29,7 @@ use Rattle.jxlm_tree.specs.declared.flat.Leaf.{Leaf}
 use Rattle.jxlm_tree.specs.declared.ma.MaConfigParams.{MaConfigParams}
 use Rattle.jxl_codestream.specs.Layouts.{Layout, has_part, layout_of, section_count_of, stream_index}
 use Rattle.jxl_coding.specs.Clusters.{count_of}
-use Rattle.jxl_coding_stream_write.specs.declared.stream.StreamWriter.{StreamWriter}
+use Rattle.jxl_coding.specs.Symbols.{Codes}
 use Rattle.jxl_encode_frame.specs.Laws.{IsOfSize}
 use Rattle.jxl_encode_frame.specs.Numbers.{HasNumber}
 use Rattle.jxl_encode_frame.proofs.HasParts.{groups_in_layout}
@@ -116,7 +116,7 @@ module _ {S : Type 0} (to_int : S → ℤ) (w : Width) (colour : Option Rct) (gi
       ∙ ap (λ (gs : List (Grid ℤ)). record { list = coded.ready.coded.list; samples = gs }) (sym coded.samples_are)
 
   module _ (cells : IsTrue (can_cut dim (image_list given))) (nodes : List EncodeNode) (clusters : List ℕ) (limits : MaConfigParams) (t : Shape Leaf) (is_tree : IsClusteredTree nodes clusters limits t) (few : limits.depth_limit ≤ 2048)
-      (codes : StreamWriter) (same : codes.clusters.items ≡ clusters) (tokens : FrameTokens) (are : AreTokensOfFrame w dim in_store t l tokens) (sections : List (Vec ℕ))
+      (codes : Codes) (same : codes.clusters ≡ clusters) (tokens : FrameTokens) (are : AreTokensOfFrame w dim in_store t l tokens) (sections : List (Vec ℕ))
       (written : AreWrittenSections nodes codes (colour_transforms colour) l tokens sections) (final : List (Vec ℕ)) (count : length final ≡ section_count_of l)
       (own : MayHaveOwn w dim limits.depth_limit one_pass in_store l sections final most_codewords 0) where
     -- the first section is still there

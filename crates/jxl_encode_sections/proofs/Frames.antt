@@ -25,8 +25,7 @@ use Rattle.jxlm_tree.specs.declared.ma.MaConfigParams.{MaConfigParams}
 use Rattle.jxl_codestream.specs.Layouts.{Layout, section_count_of, stream_index}
 use Rattle.jxl_coding.specs.Parse.{decoder_at, start_of}
 use Rattle.jxl_coding.specs.Tokens.{Entropy, entropy}
-use Rattle.jxl_coding_stream_write.specs.Codes.{codes_of}
-use Rattle.jxl_coding_stream_write.specs.declared.stream.StreamWriter.{StreamWriter}
+use Rattle.jxl_coding.specs.Symbols.{Codes}
 use Rattle.jxl_encode_frame.specs.Codings.{AreSections, CodesBehindHeader, CodesByOwnTree}
 use Rattle.jxl_encode_frame.specs.Numbers.{section_among}
 use Rattle.jxl_encode_image.specs.Preparations.{Preparation}
@@ -40,11 +39,11 @@ use Rattle.jxl_lossless.specs.Sections.{section_of}
 use Rattle.jxl_encode_frame.proofs.Codewords.{own_codewords}
 
 -- the tree, and the decoder of these codes
-abbrev pub config_by : Shape Leaf → StreamWriter → Config Entropy
-config_by t codes = config_of t (start_of (codes_of codes))
+abbrev pub config_by : Shape Leaf → Codes → Config Entropy
+config_by t codes = config_of t (start_of codes)
 
 -- a part whose tokens are behind a header is coded there
-module _ (w : Width) (codes : StreamWriter) (ts : List Transform) (group_dim : ℕ) (passes : List Pass) (coded : CodedSamples) (t : Shape Leaf) (part : SectionPart) (stream : ℕ) (tokens : List Token)
+module _ (w : Width) (codes : Codes) (ts : List Transform) (group_dim : ℕ) (passes : List Pass) (coded : CodedSamples) (t : Shape Leaf) (part : SectionPart) (stream : ℕ) (tokens : List Token)
     (bytes : List ℕ) (p q : ℕ) (are : AreTokensIn w group_dim passes coded t part stream tokens) (behind : AreBehindHeader codes ts tokens bytes p q) where
   abbrev Goal : Type 0
   Goal = CodesBehindHeader (entropy decoder_at) w (config_by t codes) ts (part_channels group_dim passes coded.list part) stream bytes p (part_grids group_dim passes coded part)
@@ -55,14 +54,14 @@ module _ (w : Width) (codes : StreamWriter) (ts : List Transform) (group_dim : �
     samples_at = behind.samples_at;
     header = behind.header;
     end = q;
-    coded = inl (omega (arith, e), behind.coded w (part_of group_dim passes coded.list t part stream) (part_grids group_dim passes coded part) (start_of (codes_of codes)) are.are are.count refl);
+    coded = inl (omega (arith, e), behind.coded w (part_of group_dim passes coded.list t part stream) (part_grids group_dim passes coded part) (start_of codes) are.are are.count refl);
   }
 
   pub codes_behind : Goal
   codes_behind = by_count (cell_count (part_channels group_dim passes coded.list part)) refl
 
 module _ (w : Width) (given : ChannelList) (image : List (Grid ℤ)) (ready : Preparation w given image) (l : Layout) (group_dim : ℕ) (nodes : List EncodeNode) (clusters : List ℕ) (limits : MaConfigParams) (t : Shape Leaf)
-    (is_tree : IsClusteredTree nodes clusters limits t) (few : limits.depth_limit ≤ 2048) (codes : StreamWriter) (same : codes.clusters.items ≡ clusters)
+    (is_tree : IsClusteredTree nodes clusters limits t) (few : limits.depth_limit ≤ 2048) (codes : Codes) (same : codes.clusters ≡ clusters)
     (cut : IsTrue (can_cut group_dim ready.coded.list)) (tokens : List Token) (first : List ℕ) (q : ℕ) (is_first : IsFirstSection nodes codes ready.transforms tokens first 0 q) where
   abbrev coded : CodedSamples
   coded = record { list = ready.coded.list; samples = ready.samples }

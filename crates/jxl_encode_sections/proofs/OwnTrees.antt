@@ -25,9 +25,8 @@ use Rattle.jxlm_tree.specs.declared.ma.MaConfigParams.{MaConfigParams}
 use Rattle.jxl_codestream.specs.Layouts.{Layout}
 use Rattle.jxl_coding.specs.Clusters.{count_of}
 use Rattle.jxl_coding.specs.Parse.{decoder_at, start_of}
+use Rattle.jxl_coding.specs.Symbols.{Codes}
 use Rattle.jxl_coding.specs.Tokens.{entropy}
-use Rattle.jxl_coding_stream_write.specs.Codes.{codes_of}
-use Rattle.jxl_coding_stream_write.specs.declared.stream.StreamWriter.{StreamWriter}
 use Rattle.jxl_encode_frame.specs.Codings.{CodesByOwnTree}
 use Rattle.jxl_encode_frame.specs.Numbers.{IsFound, KeepsOthers, section_among}
 use Rattle.jxl_encode_frame.proofs.Codewords.{sum_none}
@@ -52,16 +51,16 @@ module _ (w : Width) (group_dim : ℕ) (passes : List Pass) (coded : CodedSample
       let leaves : AllLeaves (λ (f : Leaf). f.cluster < many) t = leaves_below clusters many (numbers_below clusters many is) t nodes is_tree.listed in
       clusters_below w (part_of group_dim passes coded.list t part stream) (cells_of (part_grids group_dim passes coded part)) tokens many are.are leaves
 
-  module _ (small : limits.node_limit ≤ 1024) (few : limits.depth_limit ≤ 2048) (codes : StreamWriter) (same : codes.clusters.items ≡ clusters) (bytes : List ℕ) (q : ℕ) (own : IsOwnSection nodes codes tokens bytes 0 q)
-      (deepest : ℕ) (low : depth t ≤ deepest) (n : ℕ) (many : n ≡ (codes_of codes).alphabets) where
+  module _ (small : limits.node_limit ≤ 1024) (few : limits.depth_limit ≤ 2048) (codes : Codes) (same : codes.clusters ≡ clusters) (bytes : List ℕ) (q : ℕ) (own : IsOwnSection nodes codes tokens bytes 0 q)
+      (deepest : ℕ) (low : depth t ≤ deepest) (n : ℕ) (many : n ≡ codes.alphabets) where
     abbrev channels : List Channel
     channels = part_channels group_dim passes coded.list part
 
-    abbrev Codes : Type 0
-    Codes = CodesByOwnTree (entropy decoder_at) w deepest channels stream bytes (part_grids group_dim passes coded part)
+    abbrev Own : Type 0
+    Own = CodesByOwnTree (entropy decoder_at) w deepest channels stream bytes (part_grids group_dim passes coded part)
 
     abbrev Goal : Type 0
-    Goal = (own : Codes) × (own.own.decoder.codes.alphabets ≡ n)
+    Goal = (own : Own) × (own.own.decoder.codes.alphabets ≡ n)
 
     stands : IsTreeAt (entropy decoder_at) bytes (node_limit channels) 2048 own.tree_at (config_by t codes) own.tree_end
     stands =
@@ -91,7 +90,7 @@ module _ (w : Width) (group_dim : ℕ) (passes : List Pass) (coded : CodedSample
         tree = stands;
         within = low;
         end = q;
-        coded = inl (omega (arith, e), own.coded w (part_of group_dim passes coded.list t part stream) (part_grids group_dim passes coded part) (start_of (codes_of codes)) are.are are.count refl);
+        coded = inl (omega (arith, e), own.coded w (part_of group_dim passes coded.list t part stream) (part_grids group_dim passes coded part) (start_of codes) are.are are.count refl);
       },
       sym many,
     )

@@ -7,7 +7,7 @@ use Rattle.std.proofs.lemmas.List.Elements.{All-more, All-weaker}
 use Rattle.jxlm_groups.specs.declared.part.SectionPart.{SectionPart}
 use Rattle.jxlm_groups.specs.declared.part.SectionPart.TheVariants as parts
 use Rattle.jxl_codestream.specs.Layouts.{Layout, stream_index}
-use Rattle.jxl_coding_stream_write.specs.declared.stream.StreamWriter.{StreamWriter}
+use Rattle.jxl_coding.specs.Symbols.{Codes}
 use Rattle.jxl_encode_frame.specs.Numbers.{section_among}
 use Rattle.jxl_encode_sections.specs.Inner.Groups.{HasSection, IsGroupOf}
 use Rattle.jxl_encode_sections.specs.declared.parts.PartTokens.{PartTokens}
@@ -34,7 +34,7 @@ part_cases (parts.Pass q j) (parts.Pass p k) =
       | inr ne ↦ inr (λ e. ne cc)
     ]
 
-module _ (codes : StreamWriter) (l : Layout) (groups : List PartTokens) where
+module _ (codes : Codes) (l : Layout) (groups : List PartTokens) where
   -- one more section was put into its place
   pub one_more : (group : PartTokens) (old new : List (Vec ℕ)) (part : SectionPart) → Contains groups group → IsGroupOf codes l group old new → HasSection codes l groups old part → HasSection codes l groups new part
   one_more group old new part among put has =

@@ -9,24 +9,24 @@ use Rattle.jxlm_encode_write.specs.declared.tree.EncodeNode.{EncodeNode}
 use Rattle.jxlm_header.specs.Header.{header}
 use Rattle.jxlm_transform.specs.Transforms.{Transform}
 use Rattle.jxl_codestream.specs.Starts.{section_start}
-use Rattle.jxl_coding_stream_write.specs.declared.stream.StreamWriter.{StreamWriter}
+use Rattle.jxl_coding.specs.Symbols.{Codes}
 use Rattle.jxl_encode_image.specs.Preparations.{own_header, shared_header}
 use Rattle.jxl_encode_tree.specs.Samples.{AreCoded}
 use Rattle.jxl_encode_tree.specs.Trees.{IsWrittenTree}
 use Rattle.jxl_encode_sections.specs.Sections.{AreBehindHeader, IsFirstSection, IsOwnSection}
 
 -- a header, and samples after it
-pub part_written : (codes : StreamWriter) (ts : List Transform) (tokens : List Token) (a b c : List ℕ) → Spells a b header (shared_header ts) → Adds b c (AreCoded codes tokens) → Adds a c (AreBehindHeader codes ts tokens)
+pub part_written : (codes : Codes) (ts : List Transform) (tokens : List Token) (a b c : List ℕ) → Spells a b header (shared_header ts) → Adds b c (AreCoded codes tokens) → Adds a c (AreBehindHeader codes ts tokens)
 part_written codes ts tokens a b c s t = becomes (after s t) (λ bytes p q h. record { samples_at = h.0; header = h.1; coded = h.2 })
 
 -- the start of the first section, the tree, and the global part
-pub first_written : (nodes : List EncodeNode) (codes : StreamWriter) (ts : List Transform) (tokens : List Token) (a b c d : List ℕ) → Writes a b section_start.read true → Adds b c (IsWrittenTree nodes codes) →
+pub first_written : (nodes : List EncodeNode) (codes : Codes) (ts : List Transform) (tokens : List Token) (a b c d : List ℕ) → Writes a b section_start.read true → Adds b c (IsWrittenTree nodes codes) →
     Adds c d (AreBehindHeader codes ts tokens) → Adds a d (IsFirstSection nodes codes ts tokens)
 first_written nodes codes ts tokens a b c d s t u =
     becomes (after s (after t u)) (λ bytes p q h. record { tree_at = h.0; start = h.1; tree_end = h.2.0; tree = h.2.1; samples = h.2.2 })
 
 -- a header that has a tree of its own, the tree, and samples after it
-pub own_written : (nodes : List EncodeNode) (codes : StreamWriter) (tokens : List Token) (a b c d : List ℕ) → Spells a b header own_header → Adds b c (IsWrittenTree nodes codes) → Adds c d (AreCoded codes tokens) →
+pub own_written : (nodes : List EncodeNode) (codes : Codes) (tokens : List Token) (a b c d : List ℕ) → Spells a b header own_header → Adds b c (IsWrittenTree nodes codes) → Adds c d (AreCoded codes tokens) →
     Adds a d (IsOwnSection nodes codes tokens)
 own_written nodes codes tokens a b c d s t u =
     becomes (after s (after t u)) (λ bytes p q h. record { tree_at = h.0; header = h.1; tree_end = h.2.0; tree = h.2.1; coded = h.2.2 })

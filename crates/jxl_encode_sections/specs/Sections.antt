@@ -15,8 +15,8 @@ use Rattle.jxl_codestream.specs.Fronts.{StandsAt}
 use Rattle.jxl_codestream.specs.Layouts.{Layout, section_count_of}
 use Rattle.jxl_codestream.specs.Starts.{section_start}
 use Rattle.jxl_coding.specs.Parse.{decoder_at}
+use Rattle.jxl_coding.specs.Symbols.{Codes}
 use Rattle.jxl_coding.specs.Tokens.{Entropy, entropy}
-use Rattle.jxl_coding_stream_write.specs.declared.stream.StreamWriter.{StreamWriter}
 use Rattle.jxl_encode_frame.specs.Codings.{AreSections}
 use Rattle.jxl_encode_image.specs.Preparations.{own_header, shared_header}
 use Rattle.jxl_encode_tree.specs.Samples.{AreCoded}
@@ -25,14 +25,14 @@ use Rattle.jxl_lossless.specs.Sections.{section_of}
 
 -- From bit p up to bit q are a header with these transforms, and the samples of each part that has these tokens, for each
 -- decoder of these codes.
-pub record AreBehindHeader (codes : StreamWriter) (ts : List Transform) (tokens : List Token) (bytes : List ℕ) (p q : ℕ) : Type 0 where
+pub record AreBehindHeader (codes : Codes) (ts : List Transform) (tokens : List Token) (bytes : List ℕ) (p q : ℕ) : Type 0 where
   pub samples_at : ℕ
   pub header : header.Stands bytes p (shared_header ts) samples_at
   pub coded : AreCoded codes tokens bytes samples_at q
 
 -- From bit p up to bit q are the default factors, the tree of these nodes with these codes at its leaves, and behind a header the
 -- samples of each part that has these tokens.
-pub record IsFirstSection (nodes : List EncodeNode) (codes : StreamWriter) (ts : List Transform) (tokens : List Token) (bytes : List ℕ) (p q : ℕ) : Type 0 where
+pub record IsFirstSection (nodes : List EncodeNode) (codes : Codes) (ts : List Transform) (tokens : List Token) (bytes : List ℕ) (p q : ℕ) : Type 0 where
   pub tree_at : ℕ
   pub start : StandsAt section_start bytes p true tree_at
   pub tree_end : ℕ
@@ -41,7 +41,7 @@ pub record IsFirstSection (nodes : List EncodeNode) (codes : StreamWriter) (ts :
 
 -- From bit p up to bit q are a header that has a tree of its own, the tree of these nodes with these codes at its leaves, and the
 -- samples of each part that has these tokens.
-pub record IsOwnSection (nodes : List EncodeNode) (codes : StreamWriter) (tokens : List Token) (bytes : List ℕ) (p q : ℕ) : Type 0 where
+pub record IsOwnSection (nodes : List EncodeNode) (codes : Codes) (tokens : List Token) (bytes : List ℕ) (p q : ℕ) : Type 0 where
   pub tree_at : ℕ
   pub header : header.Stands bytes p own_header tree_at
   pub tree_end : ℕ

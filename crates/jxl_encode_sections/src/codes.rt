@@ -1,14 +1,16 @@
 //! One code for the tokens of all parts.
 
-ghost use Rattle.std.specs.Prelude.{◌≡◌, ◌<◌, ◌≤◌, ◌++◌, Ok, IfOk};
+ghost use Rattle.std.specs.Prelude.{◌≡◌, ◌<◌, ◌≤◌, ◌++◌, Option, Ok, IfOk};
 ghost use Rattle.std.specs.List.{All};
 ghost use Rattle.jxl_coding.specs.Clusters.{count_of};
-ghost use Rattle.jxl_coding_stream_write.specs.Codes.{codes_of};
+ghost use Rattle.jxl_coding_build.specs.AnyWriters.{codes_in};
+ghost use Rattle.jxl_coding_stream_write.specs.Codes.{codes_with};
 ghost use Rattle.jxl_coding_stream_write.specs.Heads.{IsHead};
 ghost use Rattle.jxl_coding_stream_write.specs.Tokens.{HasSlot};
 ghost use Rattle.jxl_encode_sections.specs.Inner.Parts.{all_tokens};
 
 use crate::parts::PartTokens;
+use jxl_coding_build::any::AnyWriter;
 use jxl_coding_build::streams::writer_for;
 use jxl_coding_codes::fields::power;
 use jxl_coding_stream_write::stream::StreamWriter;
@@ -17,10 +19,14 @@ use jxlm_bit_writer::token::Token;
 use std::alloc::Global;
 
 /// The number of tokens below which a code can be made of them.
-const TOKEN_LIMIT: usize = 1 << 31;
+pub(crate) const TOKEN_LIMIT: usize = 1 << 31;
 
 /// These tokens, and all tokens of these parts, one part after another.
-fn joined(alloc: Global, first: &[Token], parts: &[PartTokens]) -> Result<Vec<Token>, OutOfMemory>
+pub(crate) fn joined(
+    alloc: Global,
+    first: &[Token],
+    parts: &[PartTokens],
+) -> Result<Vec<Token>, OutOfMemory>
     ensures { IfOk result (λ v. v.items ≡ first.now ++ all_tokens parts.now) }
 {
     let mut tokens = Vec::new(alloc);
@@ -71,9 +77,19 @@ pub(crate) fn codes_for(
     Ok(codes)
 }
 
-/// How many codewords these codes may have: the sum of the sizes of their alphabets.
-pub(crate) fn codewords_of(codes: &StreamWriter) -> u64
-    ensures { result ≡ (codes_of codes.now).alphabets }
+/// How many codewords the codes of clusters may have: the sum of the sizes of their alphabets.
+fn codewords_in(codes: &StreamWriter) -> u64
+    ensures { (copies : Option _) → result ≡ (codes_with copies codes.now).alphabets }
 {
     codes.codes.len() as u64 * u64::from(power(codes.log))
+}
+
+/// How many codewords these codes may have.
+pub(crate) fn codewords_of(codes: &AnyWriter) -> u64
+    ensures { result ≡ (codes_in codes.now).alphabets }
+{
+    match codes {
+        AnyWriter::Plain(writer) => codewords_in(writer),
+        AnyWriter::Copying(writer) => codewords_in(&writer.codes),
+    }
 }

@@ -1,18 +1,19 @@
 //! All sections of a frame.
 
-ghost use Rattle.std.specs.Prelude.{◌≡◌, ◌≢◌, ◌<◌, ◌≤◌, ◌^◌, Ok, length, map, true, IfOk, IfErr, IsTrue};
+ghost use Rattle.std.specs.Prelude.{◌≡◌, ◌≢◌, ◌⊎◌, ◌<◌, ◌≤◌, ◌^◌, Ok, length, map, true, IfOk, IfErr, IsTrue};
 ghost use Rattle.std.specs.List.{All};
 ghost use Rattle.std.specs.Option.{IfSome};
 ghost use Rattle.jxl_codestream.specs.LayoutParts.{parts_of};
 ghost use Rattle.jxl_codestream.specs.Layouts.{has_part, layout_of, section_count_of};
-ghost use Rattle.jxl_coding_stream_write.specs.Heads.{IsHead};
-ghost use Rattle.jxl_coding_stream_write.specs.Tokens.{HasSlot};
+ghost use Rattle.jxl_coding.specs.Clusters.{count_of};
+ghost use Rattle.jxl_coding_build.specs.AnyWriters.{HasHead, HaveSlots, codes_in};
 ghost use Rattle.jxl_encode_frame.specs.Laws.{IsOfSize};
 ghost use Rattle.jxl_encode_frame.specs.Numbers.{HasNumber};
 ghost use Rattle.jxl_encode_image.specs.Images.{LieCoded, samples_in};
 ghost use Rattle.jxl_encode_image.specs.Preparations.{colour_transforms};
-ghost use Rattle.jxl_encode_sections.specs.Inner.Frames.{AreTokensOfFrame, AreWrittenSections};
-ghost use Rattle.jxl_encode_sections.specs.Sections.{AreFrameSections};
+ghost use Rattle.jxl_encode_sections.specs.Inner.Frames.{AreByTokens, AreTokensOfFrame, AreWrittenSections, IsFrameBy};
+ghost use Rattle.jxl_encode_sections.specs.Inner.Groups.{MayHaveOwn};
+ghost use Rattle.jxl_encode_sections.specs.Sections.{AreFrameSections, most_codewords};
 ghost use Rattle.jxl_encode_tree.specs.Trees.{IsNoTree};
 ghost use Rattle.jxl_image_header.specs.declared.size.Size.{Size};
 ghost use Rattle.jxlm_base.specs.Regions.{store_meanings};
@@ -33,14 +34,16 @@ ghost use Rattle.jxlm_transform.specs.Transforms.{IsRct};
 ghost use Rattle.jxlm_tree.specs.Tree.{AllLeaves};
 
 use crate::codes::codes_for;
-use crate::groups::{CutImage, put_groups, tokens_of_parts};
+use crate::copies::{copies_at, copying_for};
+use crate::groups::{CopySearch, CutImage, put_groups, tokens_of_parts};
 use crate::list::{groups_of, one_pass};
 use crate::own::{GroupTree, put_own_sections};
 use crate::parts::{PartTokens, part_tokens};
 use crate::section::first_section;
 use jxl_codestream::layout::Layout;
 use jxl_coding::clusters::count_of;
-use jxl_coding_stream_write::stream::StreamWriter;
+use jxl_coding_build::any::AnyWriter;
+use jxl_coding_stream_write::copies::TokenCopy;
 use jxl_encode_frame::sections::{empty_sections, put_section};
 use jxl_encode_image::image::code_image;
 use jxl_encode_tree::tree::tree_config;
@@ -67,6 +70,8 @@ pub struct FrameTree<'a> {
     pub limits: MaConfigParams,
     /// Trees that groups may have of their own, at most as deep as that of the frame may be.
     pub own: &'a [GroupTree],
+    /// Whether copies of earlier tokens are looked for.
+    pub copies: bool,
 }
 
 /// How a frame is cut.
@@ -126,31 +131,206 @@ fn written(
     alloc: Global,
     layout: &Layout,
     nodes: &[EncodeNode],
-    codes: &StreamWriter,
+    codes: &AnyWriter,
     colour: Option<Rct>,
     tokens: &FrameTokens,
+    copies: &[Vec<TokenCopy>],
 ) -> Result<Vec<Vec<u8>>, AllocError>
     requires properties { All (λ n. has_token n ≡ true) nodes.now }
     requires few { length nodes.now ≤ 2 ^ 26 }
-    requires head { IsHead codes.now }
-    requires contexts { length codes.now.clusters.items ≡ leaves_in nodes.now }
+    requires head { HasHead codes.now }
+    requires contexts { length (codes_in codes.now).clusters ≡ leaves_in nodes.now }
     requires spelled { IfSome colour (λ t. IsRct t) }
-    requires first { All (HasSlot codes.now.codes.items) tokens.now.global.items }
-    requires slots { All (λ p. All (HasSlot codes.now.codes.items) p.tokens.items) tokens.now.groups.items }
+    requires first { HaveSlots codes.now tokens.now.global.items }
+    requires slots { All (λ p. HaveSlots codes.now p.tokens.items) tokens.now.groups.items }
     requires numbers { All (λ p. HasNumber (parts_of layout.now) p.part) tokens.now.groups.items }
     requires others { All (λ p. p.part ≢ parts.Global) tokens.now.groups.items }
-    ensures { IfOk result (λ v. AreWrittenSections nodes.now codes.now (colour_transforms colour)
+    ensures { IfOk result (λ v. AreWrittenSections nodes.now (codes_in codes.now) (colour_transforms colour)
         (parts_of layout.now) tokens.now v.items) }
 {
     let mut sections = empty_sections(alloc, layout)?;
-    let first = first_section(alloc, nodes, codes, colour, &tokens.global)?;
+    let first = first_section(
+        alloc,
+        nodes,
+        codes,
+        colour,
+        &tokens.global,
+        copies_at(copies, 0),
+    )?;
     put_section(&mut sections, layout, SectionPart::Global, first);
-    put_groups(alloc, &mut sections, layout, codes, &tokens.groups)?;
+    put_groups(alloc, &mut sections, layout, codes, &tokens.groups, copies)?;
     Ok(sections)
 }
 
+/// The length of all sections.
+fn length_of(sections: &[Vec<u8>]) -> usize {
+    let mut sum: usize = 0;
+    for section in sections {
+        sum = sum.saturating_add(section.len());
+    }
+    sum
+}
+
+/// How copies are looked for in a frame, if they are: rows are as wide as its first channel, or a group.
+fn search_in(given: &[ModularChannelParams], copies: bool, group_dim: u32) -> Option<CopySearch> {
+    if !copies {
+        return None;
+    }
+    let width = match given.get(0) {
+        Some(channel) => channel.width.min(group_dim),
+        None => 1,
+    };
+    Some(CopySearch {
+        width: width as usize,
+    })
+}
+
+/// Sections, in which those of groups that have a tree of their own are by it where they are shorter. Copies are searched for
+/// such a section, if `search` says how.
+fn with_own<S: Sample>(
+    alloc: Global,
+    sections: Vec<Vec<u8>>,
+    image: &CutImage<'_, S>,
+    tree: &FrameTree<'_>,
+    search: Option<CopySearch>,
+) -> Result<Vec<Vec<u8>>, OutOfMemory>
+    requires group_dim { IsGroupDim image.now.group_dim }
+    requires lie { LieCoded image.now.coded.now.channels image.now.coded.now.store.items }
+    requires depth { tree.now.limits.depth_limit ≤ 2048 }
+    requires count { length sections.items ≡ section_count_of (parts_of image.now.layout.now) }
+    ensures count { IfOk result (λ v. length v.items ≡ section_count_of (parts_of image.now.layout.now)) }
+    ensures own { IfOk result (λ v. MayHaveOwn S.width image.now.group_dim tree.now.limits.depth_limit the_pass (record {
+      list = list_of image.now.coded.now.channels;
+      samples = samples_in S.to_int image.now.coded.now.channels image.now.coded.now.store.items;
+    })
+        (parts_of image.now.layout.now) sections.items v.items most_codewords 0) }
+{
+    let mut sections = sections;
+    let deepest = tree.limits.depth_limit;
+    put_own_sections(alloc, &mut sections, image, tree.own, deepest, search)?;
+    Ok(sections)
+}
+
+/// The shorter of two lists of sections.
+fn shorter_of(first: Vec<Vec<u8>>, second: Vec<Vec<u8>>) -> Vec<Vec<u8>>
+    ensures { (result ≡ first) ⊎ (result ≡ second) }
+{
+    if length_of(&second) < length_of(&first) {
+        second
+    } else {
+        first
+    }
+}
+
+/// The sections of a frame without copies; and with copies, if they are shorter.
+#[derive(Drop)]
+struct BothWays {
+    plain: Vec<Vec<u8>>,
+    copied: Option<Vec<Vec<u8>>>,
+}
+
+/// The sections of a frame by the tokens of its parts, without copies and with them.
+fn both_ways(
+    alloc: Global,
+    tree: &FrameTree<'_>,
+    layout: &Layout,
+    many: u32,
+    colour: Option<Rct>,
+    tokens: &FrameTokens,
+    search: Option<CopySearch>,
+) -> Result<BothWays, OutOfMemory>
+    requires properties { All (λ n. has_token n ≡ true) tree.now.nodes.now }
+    requires nodes { length tree.now.nodes.now ≤ 2 ^ 26 }
+    requires contexts { length tree.now.clusters.now ≡ leaves_in tree.now.nodes.now }
+    requires few { many ≤ 256 }
+    requires used { count_of tree.now.clusters.now ≡ Ok many }
+    requires spelled { IfSome colour (λ t. IsRct t) }
+    requires first { All (λ t. t.cluster < many) tokens.now.global.items }
+    requires tokens { All (λ p. All (λ t. t.cluster < many) p.tokens.items) tokens.now.groups.items }
+    requires numbers { All (λ p. HasNumber (parts_of layout.now) p.part) tokens.now.groups.items }
+    requires others { All (λ p. p.part ≢ parts.Global) tokens.now.groups.items }
+    ensures plain { IfOk result (λ b. AreByTokens tree.now.nodes.now tree.now.clusters.now (colour_transforms colour)
+        (parts_of layout.now) tokens.now b.plain.items) }
+    ensures copied { IfOk result (λ b. IfSome b.copied (λ v. AreByTokens tree.now.nodes.now tree.now.clusters.now
+        (colour_transforms colour) (parts_of layout.now) tokens.now v.items)) }
+{
+    let codes = codes_for(alloc, tree.clusters, many, &tokens.global, &tokens.groups)?;
+    let with_copies = copying_for(alloc, &codes, &tokens.global, &tokens.groups, search)?;
+    let codes = AnyWriter::Plain(codes);
+    let plain = written(alloc, layout, tree.nodes, &codes, colour, tokens, &[])?;
+    let Some(copying) = with_copies else {
+        return Ok(BothWays {
+            plain,
+            copied: None,
+        });
+    };
+    let copied = written(
+        alloc,
+        layout,
+        tree.nodes,
+        &copying.codes,
+        colour,
+        tokens,
+        &copying.copies,
+    )?;
+    if length_of(&copied) >= length_of(&plain) {
+        return Ok(BothWays {
+            plain,
+            copied: None,
+        });
+    }
+    Ok(BothWays {
+        plain,
+        copied: Some(copied),
+    })
+}
+
+/// The sections of a frame by the tokens of its parts: without copies, or with, whichever are shorter. A group has a tree of
+/// its own where its section is shorter by it. Copies are only searched for these trees if sections without them are shorter
+/// with copies.
+fn shorter_sections<S: Sample>(
+    alloc: Global,
+    image: &CutImage<'_, S>,
+    tree: &FrameTree<'_>,
+    many: u32,
+    colour: Option<Rct>,
+    tokens: &FrameTokens,
+    search: Option<CopySearch>,
+) -> Result<Vec<Vec<u8>>, OutOfMemory>
+    requires group_dim { IsGroupDim image.now.group_dim }
+    requires lie { LieCoded image.now.coded.now.channels image.now.coded.now.store.items }
+    requires depth { tree.now.limits.depth_limit ≤ 2048 }
+    requires properties { All (λ n. has_token n ≡ true) tree.now.nodes.now }
+    requires nodes { length tree.now.nodes.now ≤ 2 ^ 26 }
+    requires contexts { length tree.now.clusters.now ≡ leaves_in tree.now.nodes.now }
+    requires few { many ≤ 256 }
+    requires used { count_of tree.now.clusters.now ≡ Ok many }
+    requires spelled { IfSome colour (λ t. IsRct t) }
+    requires first { All (λ t. t.cluster < many) tokens.now.global.items }
+    requires tokens { All (λ p. All (λ t. t.cluster < many) p.tokens.items) tokens.now.groups.items }
+    requires numbers { All (λ p. HasNumber (parts_of image.now.layout.now) p.part) tokens.now.groups.items }
+    requires others { All (λ p. p.part ≢ parts.Global) tokens.now.groups.items }
+    ensures { IfOk result (λ v. IsFrameBy S.width image.now.group_dim tree.now.limits.depth_limit (record {
+      list = list_of image.now.coded.now.channels;
+      samples = samples_in S.to_int image.now.coded.now.channels image.now.coded.now.store.items;
+    })
+        (parts_of image.now.layout.now) tree.now.nodes.now tree.now.clusters.now (colour_transforms colour) tokens.now
+        v.items) }
+{
+    let ways = both_ways(alloc, tree, image.layout, many, colour, tokens, search)?;
+    let BothWays { plain, copied } = ways;
+    let Some(copied) = copied else {
+        let own = with_own(alloc, plain, image, tree, None)?;
+        return Ok(own);
+    };
+    let own = with_own(alloc, plain, image, tree, search)?;
+    let other = with_own(alloc, copied, image, tree, search)?;
+    Ok(shorter_of(own, other))
+}
+
 /// The sections of a frame of one pass with these channels, all of one size, by a colour transform, if there is one.
-/// They have the grids, whatever else is in the file. A group has a tree of its own where its section is shorter by it.
+/// They have the grids, whatever else is in the file. A group has a tree of its own, and tokens are copied, where sections are
+/// shorter by it.
 ///
 /// # Errors
 ///
@@ -192,11 +372,7 @@ pub fn encode_sections<S: Sample>(
         layout: cut.layout,
     };
     let tokens = frame_tokens(alloc, &image)?;
-    let codes = codes_for(alloc, tree.clusters, many, &tokens.global, &tokens.groups)?;
-    let mut sections = written(alloc, cut.layout, tree.nodes, &codes, colour, &tokens)?;
-    let deepest = tree.limits.depth_limit;
-    let Ok(()) = put_own_sections(alloc, &mut sections, &image, tree.own, deepest) else {
-        return Err(EncodeError::OutOfMemory);
-    };
+    let search = search_in(given, tree.copies, cut.group_dim);
+    let sections = shorter_sections(alloc, &image, tree, many, colour, &tokens, search)?;
     Ok(sections)
 }

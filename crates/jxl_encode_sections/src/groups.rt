@@ -4,7 +4,7 @@ ghost use Rattle.std.specs.Prelude.{◌≡◌, ◌≢◌, length, map, true, IfO
 ghost use Rattle.std.specs.List.{All};
 ghost use Rattle.jxl_codestream.specs.LayoutParts.{parts_of};
 ghost use Rattle.jxl_codestream.specs.Layouts.{has_part, section_count_of};
-ghost use Rattle.jxl_coding_stream_write.specs.Tokens.{HasSlot};
+ghost use Rattle.jxl_coding_build.specs.AnyWriters.{HaveSlots, codes_in};
 ghost use Rattle.jxl_encode_frame.specs.Numbers.{HasNumber, section_among};
 ghost use Rattle.jxl_encode_image.specs.Images.{LieCoded, samples_in};
 ghost use Rattle.jxl_encode_sections.specs.Inner.Groups.{HasSection, HaveTokens, IsGroupOf};
@@ -14,11 +14,13 @@ ghost use Rattle.jxlm_transform.specs.Lists.{list_of};
 ghost use Rattle.jxlm_transform.specs.Params.{IsGroupDim};
 ghost use Rattle.jxlm_tree.specs.Tree.{AllLeaves};
 
+use crate::copies::copies_at;
 use crate::parts::{PartTokens, part_tokens};
 use crate::section::group_section;
 use jxl_codestream::layout::Layout;
 use jxl_coding::decoder::EntropyDecoder;
-use jxl_coding_stream_write::stream::StreamWriter;
+use jxl_coding_build::any::AnyWriter;
+use jxl_coding_stream_write::copies::TokenCopy;
 use jxl_encode_frame::sections::put_section;
 use jxl_encode_image::image::CodedImage;
 use jxlm_base::grid::OutOfMemory;
@@ -27,6 +29,13 @@ use jxlm_groups::part::SectionPart;
 use jxlm_groups::pass::Pass;
 use jxlm_tree::ma::MaConfig;
 use std::alloc::{AllocError, Global};
+
+/// How copies of tokens are looked for.
+#[derive(Clone, Copy)]
+pub(crate) struct CopySearch {
+    /// The width of most rows.
+    pub(crate) width: usize,
+}
 
 /// An image as it is coded, the tree of its samples, and how its frame is cut.
 #[derive(Drop)]
@@ -84,40 +93,45 @@ fn put_group(
     alloc: Global,
     sections: &mut Vec<Vec<u8>>,
     layout: &Layout,
-    codes: &StreamWriter,
+    codes: &AnyWriter,
     group: &PartTokens,
+    copies: &[TokenCopy],
 ) -> Result<(), AllocError>
     requires number { HasNumber (parts_of layout.now) group.now.part }
-    requires slots { All (HasSlot codes.now.codes.items) group.now.tokens.items }
+    requires slots { HaveSlots codes.now group.now.tokens.items }
     requires count { length sections.old.items ≡ section_count_of (parts_of layout.now) }
-    ensures { IfOk result (λ _. IsGroupOf codes.now (parts_of layout.now) group.now sections.old.items
-        sections.new.items) }
+    ensures { IfOk result (λ _. IsGroupOf (codes_in codes.now) (parts_of layout.now) group.now
+        sections.old.items sections.new.items) }
 {
-    let bytes = group_section(alloc, codes, &group.tokens)?;
+    let bytes = group_section(alloc, codes, &group.tokens, copies)?;
     put_section(sections, layout, group.part, bytes);
     Ok(())
 }
 
-/// Writes the sections of groups into their places; those of other parts stay.
+/// Writes the sections of groups into their places; those of other parts stay. The copies of the first group are the second
+/// of these.
 pub(crate) fn put_groups(
     alloc: Global,
     sections: &mut Vec<Vec<u8>>,
     layout: &Layout,
-    codes: &StreamWriter,
+    codes: &AnyWriter,
     groups: &[PartTokens],
+    copies: &[Vec<TokenCopy>],
 ) -> Result<(), AllocError>
     requires numbers { All (λ p. HasNumber (parts_of layout.now) p.part) groups.now }
-    requires slots { All (λ p. All (HasSlot codes.now.codes.items) p.tokens.items) groups.now }
+    requires slots { All (λ p. HaveSlots codes.now p.tokens.items) groups.now }
     requires count { length sections.old.items ≡ section_count_of (parts_of layout.now) }
     ensures count { IfOk result (λ _. length sections.new.items ≡ section_count_of (parts_of layout.now)) }
-    ensures found { IfOk result (λ _. All (λ p. HasSection codes.now (parts_of layout.now) groups.now
+    ensures found { IfOk result (λ _. All (λ p. HasSection (codes_in codes.now) (parts_of layout.now) groups.now
         sections.new.items p.part) groups.now) }
     ensures others { All (λ p. p.part ≢ parts.Global) groups.now → IfOk result (λ _.
         section_among (parts_of layout.now) sections.new.items parts.Global
         ≡ section_among (parts_of layout.now) sections.old.items parts.Global) }
 {
+    let mut at: usize = 0;
     for group in groups {
-        put_group(alloc, sections, layout, codes, group)?;
+        at = at.saturating_add(1);
+        put_group(alloc, sections, layout, codes, group, copies_at(copies, at))?;
     }
     Ok(())
 }

@@ -3,6 +3,7 @@
 #![tactic(auto)]
 
 mod codes;
+mod copies;
 pub mod frame;
 mod groups;
 pub mod laws;

@@ -1,15 +1,20 @@
 //! Groups that have a tree of their own.
 
-ghost use Rattle.std.specs.Prelude.{◌≡◌, ◌≢◌, ℕ, ◌≤◌, IfOk, length, true};
+ghost use Rattle.std.specs.Prelude.{◌≡◌, ◌≢◌, ℕ, ◌<◌, ◌≤◌, ◌^◌, IfOk, Ok, length, true};
+ghost use Rattle.std.specs.List.{All};
 ghost use Rattle.std.specs.Option.{IfSome};
 ghost use Rattle.jxl_codestream.specs.LayoutParts.{parts_of};
 ghost use Rattle.jxl_codestream.specs.Layouts.{has_part, section_count_of};
+ghost use Rattle.jxl_coding.specs.Clusters.{count_of};
+ghost use Rattle.jxl_coding_build.specs.AnyWriters.{HasHead, HaveSlots, codes_in};
 ghost use Rattle.jxl_encode_frame.specs.Numbers.{HasNumber};
 ghost use Rattle.jxl_encode_image.specs.Images.{LieCoded, samples_in};
-ghost use Rattle.jxl_encode_sections.specs.Inner.Groups.{HasOwnTree, IsPutOrNot, MayHaveOwn};
+ghost use Rattle.jxl_encode_sections.specs.Inner.Groups.{HasOwnTree, IsOwnBy, IsPutOrNot, MayHaveOwn};
 ghost use Rattle.jxl_encode_sections.specs.Sections.{most_codewords};
 ghost use Rattle.jxl_encode_tree.specs.Trees.{IsClusteredTree};
 ghost use Rattle.jxlm_encode_tokens.specs.Tokens.{MultipliesByOne};
+ghost use Rattle.jxlm_encode_write.specs.Nodes.{has_token};
+ghost use Rattle.jxlm_encode_write.specs.Trees.{leaves_in};
 ghost use Rattle.jxlm_groups.specs.declared.part.SectionPart.TheVariants as parts;
 ghost use Rattle.jxlm_section_split.specs.CutPicture.{one_pass as the_pass};
 ghost use Rattle.jxlm_transform.specs.Lists.{list_of};
@@ -18,17 +23,21 @@ ghost use Rattle.jxlm_tree.specs.Tree.{AllLeaves, depth};
 ghost use Rattle.jxlm_tree.specs.declared.ma.MaConfigParams.{MaConfigParams as Params};
 
 use crate::codes::{codes_for, codewords_of};
-use crate::groups::CutImage;
+use crate::copies::{copies_at, copying_for};
+use crate::groups::{CopySearch, CutImage};
 use crate::list::one_pass;
 use crate::parts::part_tokens;
 use crate::section::own_section;
 use jxl_codestream::layout::Layout;
 use jxl_coding::clusters::count_of;
 use jxl_coding::decoder::EntropyDecoder;
+use jxl_coding_build::any::AnyWriter;
+use jxl_coding_stream_write::copies::TokenCopy;
 use jxl_encode_frame::sections::put_section;
 use jxl_encode_tree::tree::tree_config;
 use jxlm_base::grid::OutOfMemory;
 use jxlm_base::sample::Sample;
+use jxlm_bit_writer::token::Token;
 use jxlm_encode::error::EncodeError;
 use jxlm_encode_write::tree::EncodeNode;
 use jxlm_groups::part::SectionPart;
@@ -60,12 +69,72 @@ struct OwnSection {
 /// How large the tree of a group may be, whatever its channels are.
 const MAX_NODES: usize = 1024;
 
+/// The section of a group by this tree of its own and these codes.
+fn own_by(
+    alloc: Global,
+    tree: &GroupTree,
+    codes: &AnyWriter,
+    tokens: &[Token],
+    copies: &[TokenCopy],
+) -> Result<OwnSection, OutOfMemory>
+    requires properties { All (λ n. has_token n ≡ true) tree.now.nodes.items }
+    requires few { length tree.now.nodes.items ≤ 2 ^ 26 }
+    requires head { HasHead codes.now }
+    requires clusters { (codes_in codes.now).clusters ≡ tree.now.clusters.items }
+    requires contexts { length tree.now.clusters.items ≡ leaves_in tree.now.nodes.items }
+    requires slots { HaveSlots codes.now tokens.now }
+    ensures { IfOk result (λ v. IsOwnBy tree.now.nodes.items tree.now.clusters.items tokens.now v.bytes.items
+        v.codewords) }
+{
+    let codewords = codewords_of(codes);
+    let bytes = own_section(alloc, &tree.nodes, codes, tokens, copies)?;
+    Ok(OwnSection { bytes, codewords })
+}
+
+/// The section of a group by this tree of its own: without copies, or with, whichever is shorter.
+fn shorter_own(
+    alloc: Global,
+    tree: &GroupTree,
+    many: u32,
+    tokens: &[Token],
+    search: Option<CopySearch>,
+) -> Result<OwnSection, OutOfMemory>
+    requires properties { All (λ n. has_token n ≡ true) tree.now.nodes.items }
+    requires few { length tree.now.nodes.items ≤ 2 ^ 26 }
+    requires contexts { length tree.now.clusters.items ≡ leaves_in tree.now.nodes.items }
+    requires clusters { many ≤ 256 }
+    requires used { count_of tree.now.clusters.items ≡ Ok many }
+    requires tokens { All (λ t. t.cluster < many) tokens.now }
+    ensures { IfOk result (λ v. IsOwnBy tree.now.nodes.items tree.now.clusters.items tokens.now v.bytes.items
+        v.codewords) }
+{
+    let plain = codes_for(alloc, &tree.clusters, many, tokens, &[])?;
+    let with_copies = copying_for(alloc, &plain, tokens, &[], search)?;
+    let codes = AnyWriter::Plain(plain);
+    let own = own_by(alloc, tree, &codes, tokens, &[])?;
+    let Some(copying) = with_copies else {
+        return Ok(own);
+    };
+    let other = own_by(
+        alloc,
+        tree,
+        &copying.codes,
+        tokens,
+        copies_at(&copying.copies, 0),
+    )?;
+    if other.bytes.len() < own.bytes.len() {
+        return Ok(other);
+    }
+    Ok(own)
+}
+
 /// The section of a group by this tree of its own; none, if a cluster has no leaf.
 fn section_by<S: Sample>(
     alloc: Global,
     image: &CutImage<'_, S>,
     tree: &GroupTree,
     config: &MaConfig<EntropyDecoder>,
+    search: Option<CopySearch>,
 ) -> Result<Option<OwnSection>, OutOfMemory>
     requires group_dim { IsGroupDim image.now.group_dim }
     requires lie { LieCoded image.now.coded.now.channels image.now.coded.now.store.items }
@@ -94,10 +163,8 @@ fn section_by<S: Sample>(
         tree.part,
         stream,
     )?;
-    let codes = codes_for(alloc, &tree.clusters, many, &tokens, &[])?;
-    let codewords = codewords_of(&codes);
-    let bytes = own_section(alloc, &tree.nodes, &codes, &tokens)?;
-    Ok(Some(OwnSection { bytes, codewords }))
+    let own = shorter_own(alloc, tree, many, &tokens, search)?;
+    Ok(Some(own))
 }
 
 /// The section of a group by this tree of its own; none, if it is no tree, or deeper than `deepest`.
@@ -106,6 +173,7 @@ fn section_of<S: Sample>(
     image: &CutImage<'_, S>,
     tree: &GroupTree,
     deepest: usize,
+    search: Option<CopySearch>,
 ) -> Result<Option<OwnSection>, OutOfMemory>
     requires group_dim { IsGroupDim image.now.group_dim }
     requires lie { LieCoded image.now.coded.now.channels image.now.coded.now.store.items }
@@ -122,7 +190,7 @@ fn section_of<S: Sample>(
         depth_limit: deepest,
     };
     match tree_config(alloc, &tree.nodes, &tree.clusters, limits) {
-        Ok(config) => section_by(alloc, image, tree, &config),
+        Ok(config) => section_by(alloc, image, tree, &config, search),
         Err(EncodeError::InvalidTree) => Ok(None),
         Err(_) => Err(OutOfMemory),
     }
@@ -174,6 +242,7 @@ fn put_own<S: Sample>(
     image: &CutImage<'_, S>,
     tree: &GroupTree,
     deepest: usize,
+    search: Option<CopySearch>,
     left: u64,
 ) -> Result<u64, OutOfMemory>
     requires group_dim { IsGroupDim image.now.group_dim }
@@ -190,7 +259,7 @@ fn put_own<S: Sample>(
     if !is_group(image.layout, tree.part) {
         return Ok(left);
     }
-    let Some(own) = section_of(alloc, image, tree, deepest)? else {
+    let Some(own) = section_of(alloc, image, tree, deepest, search)? else {
         return Ok(left);
     };
     let after = put_shorter(sections, image.layout, tree.part, own, left);
@@ -206,6 +275,7 @@ pub(crate) fn put_own_sections<S: Sample>(
     image: &CutImage<'_, S>,
     trees: &[GroupTree],
     deepest: usize,
+    search: Option<CopySearch>,
 ) -> Result<(), OutOfMemory>
     requires group_dim { IsGroupDim image.now.group_dim }
     requires lie { LieCoded image.now.coded.now.channels image.now.coded.now.store.items }
@@ -220,7 +290,7 @@ pub(crate) fn put_own_sections<S: Sample>(
 {
     let mut left = MOST_CODEWORDS;
     for tree in trees {
-        left = put_own(alloc, sections, image, tree, deepest, left)?;
+        left = put_own(alloc, sections, image, tree, deepest, search, left)?;
     }
     Ok(())
 }

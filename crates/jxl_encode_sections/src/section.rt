@@ -7,13 +7,13 @@ ghost use Rattle.jxlm_bit_writer.specs.Writes.{Adds};
 ghost use Rattle.jxlm_encode_write.specs.Nodes.{has_token};
 ghost use Rattle.jxlm_encode_write.specs.Trees.{leaves_in};
 ghost use Rattle.jxlm_transform.specs.Transforms.{IsRct};
-ghost use Rattle.jxl_coding_stream_write.specs.Heads.{IsHead};
-ghost use Rattle.jxl_coding_stream_write.specs.Tokens.{HasSlot};
+ghost use Rattle.jxl_coding_build.specs.AnyWriters.{HasHead, HaveSlots, codes_in};
 ghost use Rattle.jxl_encode_image.specs.Preparations.{colour_transforms};
 ghost use Rattle.jxl_encode_sections.specs.Sections.{AreBehindHeader, IsFirstSection, IsOwnSection};
 
 use jxl_codestream_write::start::write_section_start;
-use jxl_coding_stream_write::stream::StreamWriter;
+use jxl_coding_build::any::AnyWriter;
+use jxl_coding_stream_write::copies::TokenCopy;
 use jxl_encode_image::header::{write_own_header, write_shared_header};
 use jxl_encode_tree::samples::write_samples;
 use jxl_encode_tree::tree::write_tree;
@@ -27,32 +27,34 @@ use std::alloc::{AllocError, Global};
 fn write_part(
     alloc: Global,
     bits: &mut BitWriter,
-    codes: &StreamWriter,
+    codes: &AnyWriter,
     colour: Option<Rct>,
     tokens: &[Token],
+    copies: &[TokenCopy],
 ) -> Result<(), AllocError>
     requires spelled { IfSome colour (λ t. IsRct t) }
-    requires slots { All (HasSlot codes.now.codes.items) tokens.now }
+    requires slots { HaveSlots codes.now tokens.now }
     ensures { IfOk result (λ _. Adds bits.old bits.new
-        (AreBehindHeader codes.now (colour_transforms colour) tokens.now)) }
+        (AreBehindHeader (codes_in codes.now) (colour_transforms colour) tokens.now)) }
 {
     write_shared_header(bits, colour)?;
-    write_samples(alloc, bits, codes, tokens)?;
+    write_samples(alloc, bits, codes, tokens, copies)?;
     Ok(())
 }
 
 /// The section of a group: a header without transforms, and the samples of the group by their tokens.
 pub(crate) fn group_section(
     alloc: Global,
-    codes: &StreamWriter,
+    codes: &AnyWriter,
     tokens: &[Token],
+    copies: &[TokenCopy],
 ) -> Result<Vec<u8>, AllocError>
-    requires slots { All (HasSlot codes.now.codes.items) tokens.now }
+    requires slots { HaveSlots codes.now tokens.now }
     ensures { IfOk result (λ v. (end : ℕ)
-        × AreBehindHeader codes.now (colour_transforms None) tokens.now v.items 0 end) }
+        × AreBehindHeader (codes_in codes.now) (colour_transforms None) tokens.now v.items 0 end) }
 {
     let mut bits = BitWriter::new(alloc);
-    write_part(alloc, &mut bits, codes, None, tokens)?;
+    write_part(alloc, &mut bits, codes, None, tokens, copies)?;
     let bytes = bits.into_bytes()?;
     Ok(bytes)
 }
@@ -62,23 +64,24 @@ pub(crate) fn group_section(
 pub(crate) fn first_section(
     alloc: Global,
     nodes: &[EncodeNode],
-    codes: &StreamWriter,
+    codes: &AnyWriter,
     colour: Option<Rct>,
     tokens: &[Token],
+    copies: &[TokenCopy],
 ) -> Result<Vec<u8>, AllocError>
     requires properties { All (λ n. has_token n ≡ true) nodes.now }
     requires few { length nodes.now ≤ 2 ^ 26 }
-    requires head { IsHead codes.now }
-    requires contexts { length codes.now.clusters.items ≡ leaves_in nodes.now }
+    requires head { HasHead codes.now }
+    requires contexts { length (codes_in codes.now).clusters ≡ leaves_in nodes.now }
     requires spelled { IfSome colour (λ t. IsRct t) }
-    requires slots { All (HasSlot codes.now.codes.items) tokens.now }
-    ensures { IfOk result (λ v. (end : ℕ) × IsFirstSection nodes.now codes.now (colour_transforms colour) tokens.now
-        v.items 0 end) }
+    requires slots { HaveSlots codes.now tokens.now }
+    ensures { IfOk result (λ v. (end : ℕ) × IsFirstSection nodes.now (codes_in codes.now) (colour_transforms colour)
+        tokens.now v.items 0 end) }
 {
     let mut bits = BitWriter::new(alloc);
     write_section_start(&mut bits, true)?;
     write_tree(alloc, &mut bits, nodes, codes)?;
-    write_part(alloc, &mut bits, codes, colour, tokens)?;
+    write_part(alloc, &mut bits, codes, colour, tokens, copies)?;
     let bytes = bits.into_bytes()?;
     Ok(bytes)
 }
@@ -88,20 +91,21 @@ pub(crate) fn first_section(
 pub(crate) fn own_section(
     alloc: Global,
     nodes: &[EncodeNode],
-    codes: &StreamWriter,
+    codes: &AnyWriter,
     tokens: &[Token],
+    copies: &[TokenCopy],
 ) -> Result<Vec<u8>, AllocError>
     requires properties { All (λ n. has_token n ≡ true) nodes.now }
     requires few { length nodes.now ≤ 2 ^ 26 }
-    requires head { IsHead codes.now }
-    requires contexts { length codes.now.clusters.items ≡ leaves_in nodes.now }
-    requires slots { All (HasSlot codes.now.codes.items) tokens.now }
-    ensures { IfOk result (λ v. (end : ℕ) × IsOwnSection nodes.now codes.now tokens.now v.items 0 end) }
+    requires head { HasHead codes.now }
+    requires contexts { length (codes_in codes.now).clusters ≡ leaves_in nodes.now }
+    requires slots { HaveSlots codes.now tokens.now }
+    ensures { IfOk result (λ v. (end : ℕ) × IsOwnSection nodes.now (codes_in codes.now) tokens.now v.items 0 end) }
 {
     let mut bits = BitWriter::new(alloc);
     write_own_header(&mut bits)?;
     write_tree(alloc, &mut bits, nodes, codes)?;
-    write_samples(alloc, &mut bits, codes, tokens)?;
+    write_samples(alloc, &mut bits, codes, tokens, copies)?;
     let bytes = bits.into_bytes()?;
     Ok(bytes)
 }

@@ -10,9 +10,9 @@ use Rattle.jxlm_transform.specs.Transforms.{Transform}
 use Rattle.jxlm_tree.specs.Tree.{Shape}
 use Rattle.jxlm_tree.specs.declared.flat.Leaf.{Leaf}
 use Rattle.jxl_codestream.specs.Layouts.{Layout, section_count_of}
-use Rattle.jxl_coding_stream_write.specs.declared.stream.StreamWriter.{StreamWriter}
-use Rattle.jxl_encode_sections.specs.Sections.{IsFirstSection}
-use Rattle.jxl_encode_sections.specs.Inner.Groups.{AreGroupsOf, HasSection, HaveTokens}
+use Rattle.jxl_coding.specs.Symbols.{Codes}
+use Rattle.jxl_encode_sections.specs.Sections.{IsFirstSection, most_codewords}
+use Rattle.jxl_encode_sections.specs.Inner.Groups.{AreGroupsOf, HasSection, HaveTokens, MayHaveOwn}
 use Rattle.jxl_encode_sections.specs.Inner.Parts.{AreTokensIn, CodedSamples}
 use Rattle.jxl_encode_sections.specs.declared.frame.FrameTokens.{FrameTokens}
 
@@ -23,10 +23,21 @@ pub record AreTokensOfFrame (w : Width) (group_dim : ℕ) (coded : CodedSamples)
   pub tokens : All (HaveTokens w group_dim one_pass coded tree l) t.groups.items
 
 -- The first section has the tree and the global part, and each group has its section.
-pub record AreWrittenSections (nodes : List EncodeNode) (codes : StreamWriter) (ts : List Transform) (l : Layout) (t : FrameTokens) (sections : List (Vec ℕ)) : Type 0 where
+pub record AreWrittenSections (nodes : List EncodeNode) (codes : Codes) (ts : List Transform) (l : Layout) (t : FrameTokens) (sections : List (Vec ℕ)) : Type 0 where
   pub count : length sections ≡ section_count_of l
   pub first : List ℕ
   pub first_is : slice_get (map (λ v. v.items) sections) 0 ≡ Some first
   pub end : ℕ
   pub is_first : IsFirstSection nodes codes ts t.global.items first 0 end
   pub groups : All (λ p. HasSection codes l t.groups.items sections p.part) t.groups.items
+
+-- These sections are by the tokens of the parts, and by codes in these clusters.
+abbrev pub AreByTokens : List EncodeNode → List ℕ → List Transform → Layout → FrameTokens → List (Vec ℕ) → Type 0
+AreByTokens nodes clusters ts l t sections = (codes : Codes) × (codes.clusters ≡ clusters) × AreWrittenSections nodes codes ts l t sections
+
+-- These sections are by the tokens of the parts, but that groups may have trees of their own.
+pub record IsFrameBy (w : Width) (group_dim deepest : ℕ) (coded : CodedSamples) (l : Layout) (nodes : List EncodeNode) (clusters : List ℕ) (ts : List Transform) (t : FrameTokens) (sections : List (Vec ℕ)) : Type 0 where
+  pub before : List (Vec ℕ)
+  pub by_tokens : AreByTokens nodes clusters ts l t before
+  pub count : length sections ≡ section_count_of l
+  pub own : MayHaveOwn w group_dim deepest one_pass coded l before sections most_codewords 0

@@ -3,6 +3,8 @@ use Rattle.std.specs.Prelude.{◌≡◌, ◌≢◌, ℕ, ◌+◌, ◌<◌, ◌�
 use Rattle.std.specs.Global.{Vec}
 use Rattle.std.specs.Int.{Width}
 use Rattle.std.specs.List.{All, AllPairs}
+use Rattle.jxlm_bit_writer.specs.declared.token.Token.{Token}
+use Rattle.jxlm_encode_write.specs.declared.tree.EncodeNode.{EncodeNode}
 use Rattle.jxlm_groups.specs.Parts.{part_in}
 use Rattle.jxlm_groups.specs.Pieces.{part_channels}
 use Rattle.jxlm_groups.specs.declared.part.Kind.{Kind}
@@ -15,11 +17,11 @@ use Rattle.jxlm_tree.specs.Tree.{Shape}
 use Rattle.jxlm_tree.specs.declared.flat.Leaf.{Leaf}
 use Rattle.jxl_codestream.specs.Layouts.{Layout, has_part, stream_index}
 use Rattle.jxl_coding.specs.Parse.{decoder_at}
+use Rattle.jxl_coding.specs.Symbols.{Codes}
 use Rattle.jxl_coding.specs.Tokens.{entropy}
-use Rattle.jxl_coding_stream_write.specs.declared.stream.StreamWriter.{StreamWriter}
 use Rattle.jxl_encode_frame.specs.Codings.{CodesByOwnTree}
 use Rattle.jxl_encode_frame.specs.Numbers.{HasNumber, IsFound, KeepsOthers, section_among}
-use Rattle.jxl_encode_sections.specs.Sections.{AreBehindHeader}
+use Rattle.jxl_encode_sections.specs.Sections.{AreBehindHeader, IsOwnSection}
 use Rattle.jxl_encode_sections.specs.Inner.Parts.{AreTokensIn, CodedSamples, part_grids}
 use Rattle.jxl_encode_sections.specs.declared.parts.PartTokens.{PartTokens}
 
@@ -34,7 +36,7 @@ pub record AreGroupsOf (group_dim : ℕ) (passes : List Pass) (list : ChannelLis
   pub each : (part : SectionPart) → part ≢ parts.Global → 0 < cell_count (part_channels group_dim passes list part) → Contains groups part
 
 -- The section of a group was put into its place: a header without transforms, and the samples of each part that has its tokens.
-pub record IsGroupOf (codes : StreamWriter) (l : Layout) (group : PartTokens) (old new : List (Vec ℕ)) : Type 0 where
+pub record IsGroupOf (codes : Codes) (l : Layout) (group : PartTokens) (old new : List (Vec ℕ)) : Type 0 where
   pub bytes : List ℕ
   pub found : IsFound l new group.part bytes
   pub others : KeepsOthers l group.part old new
@@ -43,7 +45,7 @@ pub record IsGroupOf (codes : StreamWriter) (l : Layout) (group : PartTokens) (o
   pub samples : AreBehindHeader codes [] group.tokens.items bytes 0 end
 
 -- The section of this part has the samples of one of these groups, which is of this part.
-pub record HasSection (codes : StreamWriter) (l : Layout) (groups : List PartTokens) (sections : List (Vec ℕ)) (part : SectionPart) : Type 0 where
+pub record HasSection (codes : Codes) (l : Layout) (groups : List PartTokens) (sections : List (Vec ℕ)) (part : SectionPart) : Type 0 where
   pub own : PartTokens
   pub among : Contains groups own
   pub is : own.part ≡ part
@@ -83,3 +85,7 @@ MayHaveOwn w group_dim deepest passes coded l old new before left = (codewords :
 abbrev pub IsPutOrNot : Layout → SectionPart → List ℕ → ℕ → List (Vec ℕ) → List (Vec ℕ) → ℕ → ℕ → Type 0
 IsPutOrNot l part bytes n old new before left = (IsFound l new part bytes × KeepsOthers l part old new × (left + n ≡ before))
     ⊎ ((new ≡ old) × (left ≡ before))
+
+-- The bytes are the section of a group by the tree of these nodes, and by codes in these clusters, which may have n codewords.
+abbrev pub IsOwnBy : List EncodeNode → List ℕ → List Token → List ℕ → ℕ → Type 0
+IsOwnBy nodes clusters tokens bytes n = (codes : Codes) × (codes.clusters ≡ clusters) × (codes.alphabets ≡ n) × ((end : ℕ) × IsOwnSection nodes codes tokens bytes 0 end)
