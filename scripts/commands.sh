@@ -176,6 +176,66 @@ expect 0 - pq.jxl -q -o pq.png
 expect 0 - pq.jxl -o pq.ppm
 expect 0 - pq.jxl --info
 
+# An animation of three pictures of one colour each, for 70, 200 and 330 ms, of cjxl.
+printf '\377\012\010\100\101\000\026\024\227\004\010\010\340\001\000\000\110\000\113\022\245\102\205\044\326\150\200\252\306\007\140\000\035\000\367\001\010\010\040\005\000\000\134\000\113\022\245\102\205\044\326\140\214\013\000\000\300\230\175\000\202\140\076\350\003\367\001\010\010\140\110\000\000\114\000\113\022\245\102\205\044\326\150\140\374\254\007\340\002\324\203\035\344\003' > frames.jxl
+# Judges the colour of a text of 3x2: coloured FILE RED GREEN BLUE.
+coloured() {
+    {
+        number=0
+        for sample in "$2" "$3" "$4" 255; do
+            printf 'channel %s 3x2\n%s %s %s\n%s %s %s\n' $number $sample $sample $sample $sample $sample $sample
+            number=$((number + 1))
+        done
+    } | cmp -s - "$1"
+    judge $? "$1 is not of the colour $2 $3 $4"
+}
+expect 0 - frames.jxl --frame 0 --format text
+coloured out 10 20 30
+expect 0 - frames.jxl --frame 1 -o frame.text
+coloured frame.text 200 0 9
+expect 0 - frames.jxl --frame 2 --format text
+coloured out 0 99 255
+expect 0 - frames.jxl --frame 2
+begins out P7
+expect 0 - frames.jxl --frame 1 -o frame.png
+begins frame.png "$(printf '\211PNG')"
+more='jxldec: frames.jxl: frame 0 of 3; --frame N writes another'
+expect 0 "$more" frames.jxl --format text
+coloured out 10 20 30
+expect 0 "jxldec: frames.jxl: channels left out: Alpha
+$more" frames.jxl -o frame.ppm
+expect 0 - frames.jxl -q
+expect 0 - frames.jxl --info
+test "$(tail -n 4 out)" = 'num_frames: 3
+frame 0: duration: 70.0 ms
+frame 1: duration: 200.0 ms
+frame 2: duration: 330.0 ms'
+judge $? '--info does not print the durations'
+expect 1 'jxldec: frames.jxl: no frame 3; frames are numbered from 0' frames.jxl --frame 3 -o none.pam
+absent none.pam
+expect 1 'jxldec: frames.jxl: this format cannot hold the picture; --format text can' frames.jxl --frame 1 -o none.pgm
+absent none.pgm
+expect 0 'jxldec: frames.jxl: channels left out: Alpha' frames.jxl --frame 1 -o frame.ppm
+begins frame.ppm P6
+expect 0 - ball.jxl --frame 0 -o frame.pgm
+cmp -s frame.pgm a.pgm
+judge $? 'frame 0 of a still picture is not the picture'
+expect 1 'jxldec: ball.jxl: no frame 1; frames are numbered from 0' ball.jxl --frame 1
+expect 1 'jxldec: lossy.jxl: not supported: a lossy picture (XYB)' lossy.jxl --frame 0
+expect 1 'jxldec: other.jxl: not a JPEG XL file' other.jxl --frame 0
+head -c 66 frames.jxl > frames_cut.jxl
+expect 0 - frames_cut.jxl --frame 0 --format text
+coloured out 10 20 30
+expect 1 'jxldec: frames_cut.jxl: section 0 is truncated' frames_cut.jxl --frame 1
+expect 0 'jxldec: frames_cut.jxl: frame 0 of 1 or more; --frame N writes another' frames_cut.jxl
+expect 0 - frames_cut.jxl --info
+test "$(tail -n 3 out)" = 'num_frames: 1
+frame 0: duration: 70.0 ms
+section 0 is truncated'
+judge $? '--info does not say that a frame is truncated'
+expect 2 "error: the argument '--info' cannot be used with" frames.jxl --info --frame 0
+expect 2 "error: invalid value 'first'" frames.jxl --frame first
+
 # Boxes after the codestream that have an error: the picture, and a warning. One before it is an error.
 boxed() {
     printf '\0\0\0\014JXL \r\n\207\n\0\0\0\024ftypjxl \0\0\0\0jxl '

@@ -6,6 +6,7 @@
 mod command;
 mod example;
 mod files;
+mod frames;
 mod netpbm;
 mod pictures;
 mod png;
@@ -25,6 +26,7 @@ use std::process::ExitCode;
 fn seen_of_files(alloc: Global, row: &Row<'_>) -> Option<String> {
     match row.kind {
         "file" => files::seen(alloc, row.asked),
+        "frames" => frames::seen(alloc, row.asked),
         "cuts" => files::seen_of_cuts(alloc, row.asked),
         "written" => writing::seen(alloc, row.asked),
         "small" => writing::seen_of_small_writer(alloc, row.asked),

@@ -19,7 +19,7 @@ fn tell_sides(text: &mut String, size: Size, channel: &AlignedGrid<i32>) -> Opti
 
 /// Adds the sides and the depth of a picture, and after bars the samples of each channel, or their checksum; before them
 /// the sides of a channel that has others.
-fn tell(alloc: Global, text: &mut String, picture: &Picture, summed: bool) -> Option<()> {
+pub fn tell(alloc: Global, text: &mut String, picture: &Picture, summed: bool) -> Option<()> {
     let size = picture.header.size;
     let bits = picture.header.bit_depth.bits_per_sample;
     write!(text, "{}x{} {bits}", size.width, size.height).ok()?;

@@ -1,16 +1,20 @@
 -- What a file that was read up to the sections of its frames says of its picture.
 use Rattle.std.proofs.Common.{◌≡◌, ap, if◌then◌else◌, ℕ, List, length, true, false, Bool, Option, Result, Ok, Err, Some, None, refl, sym, subst, ◌∙◌}
-use Rattle.std.specs.Prelude.{◌&&◌, IfOk, MatchResult, string_bytes}
+use Rattle.std.specs.Prelude.{◌&&◌, IfOk, IfSome, MatchOption, MatchResult, string_bytes}
 use Rattle.std.specs.Option.{option_map}
+use Rattle.jxlm_bits.specs.Decoding.{Found}
+use Rattle.jxlm_bits.specs.ErrorKind.{ErrorAt}
+use Rattle.jxl_animation.specs.Files.{HasFewerFrames, IsFrameOfFile}
 use Rattle.jxl_coding.specs.Parse.{decoder_at}
 use Rattle.jxl_coding.specs.Tokens.{entropy}
 use Rattle.jxl_container.specs.Files.{HasLaterError, stream_of}
+use Rattle.jxl_container.proofs.FileLaws.{one_codestream}
 use Rattle.jxl_container.specs.Metadata.{HasExif, HasXmp}
 use Rattle.jxl_container.specs.declared.error.FileError.{FileError as BoxError}
-use Rattle.jxl_image_header.specs.Images.{Image, image_of}
+use Rattle.jxl_image_header.specs.Images.{Image, image_header, image_of}
 use Rattle.jxl_image_header.specs.declared.image.ImageHeader.{ImageHeader}
 use Rattle.jxl_image_header.specs.declared.size.Size.{Size}
-use Rattle.jxl_codestream.specs.Fronts.{FrontFails}
+use Rattle.jxl_codestream.specs.Fronts.{FrontFails, StandsAt}
 use Rattle.jxl_codestream.specs.FrontParts.{AreFramesOf, bytes_if}
 use Rattle.jxl_codestream.specs.declared.error.FrontError.{FrontError}
 use Rattle.jxl_codestream.specs.declared.error.FrontError.TheVariants as fronts
@@ -25,13 +29,15 @@ use Rattle.jxl_netpbm.specs.Formats.{suits, usual, usual_whole}
 use Rattle.jxl_netpbm.specs.declared.format.Format.{Format}
 use Rattle.jxl_netpbm.specs.declared.format.Format.TheVariants.{Pgm, Ppm, Pam, Pfm, Text}
 use Rattle.jxl_picture.specs.Orientations.{is_turned}
+use Rattle.jxl_picture.specs.Pictures.{IsWhole}
 use Rattle.jxl_picture.specs.declared.limits.Limits.{Limits}
 use Rattle.jxl_picture.specs.declared.picture.Picture.{Picture}
 use Rattle.jxl_png_write.specs.Headers.{alpha_of, alpha_suits, is_side, is_whole, suits_png}
 use Rattle.jxldec.specs.Contents.{content_text}
 use Rattle.jxldec.specs.Formats.{IsWrittenAs, chosen, suits_output}
+use Rattle.jxldec.specs.Layers.{has_frames, is_of_layers}
 use Rattle.jxldec.specs.Losses.{loss_in}
-use Rattle.jxldec.specs.Texts.{HasNoFormat, IsAboveLimits, IsTextOfFile}
+use Rattle.jxldec.specs.Texts.{FramesHaveNoFormat, HasNoFormat, IsAboveLimits, IsTextOfFile, IsTextOfFrame}
 use Rattle.jxldec.specs.Warnings.{kinds_left_out}
 use Rattle.jxldec.specs.declared.failures.Failure.{Failure}
 use Rattle.jxldec.specs.declared.format.OutputFormat.{OutputFormat}
@@ -49,6 +55,30 @@ module _ (limits : Limits) (bytes : List ℕ) (header : ImageHeader) where
   refused (Ok frames) h reason e = let bad : ⊥ = cc in absurd bad
   refused (Err error) h reason e = let same : error ≡ reason = cc in subst (λ (r : FrontError). FrontFails (entropy decoder_at) limits bytes r) same h
 
+-- that a file has layers is a refusal
+layers_refused : (e : FrontError) → is_of_layers e ≡ true → is_refusal e ≡ true
+layers_refused (fronts.Image reason) e = refl
+layers_refused (fronts.Frame reason) e = refl
+layers_refused fronts.TooLarge e = refl
+layers_refused fronts.FramesTooLarge e = refl
+layers_refused fronts.TooManySections e = refl
+layers_refused (fronts.TruncatedSection number) e = refl
+layers_refused fronts.TooLong e = e
+layers_refused (fronts.ImageHeader error) e = e
+layers_refused (fronts.Profile error) e = e
+layers_refused (fronts.FrameHeader error) e = e
+layers_refused (fronts.Contents error) e = e
+
+same_bytes : (b c : List ℕ) → ◌≡◌ {A = Result (List ℕ) BoxError} (Ok b) (Ok c) → b ≡ c
+same_bytes b c e = cc
+
+same_found : {X : Type 0} (r : Result (Found X) ErrorAt) (a b : Found X) → r ≡ Ok a → r ≡ Ok b → a ≡ b
+same_found r a b h k = cc
+
+-- one image header is at the start
+one_image : (bytes : List ℕ) (image other : Image) (p q : ℕ) → StandsAt image_header bytes 0 image p → StandsAt image_header bytes 0 other q → image ≡ other
+one_image bytes image other p q h k = ap (λ (f : Found Image). f.value) (same_found (image_header.read bytes 0) _ _ h k)
+
 module _ (limits : Limits) (file : List ℕ) (read : JxlFile) (is : IsReadOf limits file read) where
   -- its headers, and why it is not decoded
   headers : (reason : Option FrontError) → IsReason (entropy decoder_at) limits (stream_of read.stream) (image_of (header_of read)) reason → HeadersOfFile (entropy decoder_at) limits file (image_of (header_of read)) reason
@@ -65,6 +95,30 @@ module _ (limits : Limits) (file : List ℕ) (read : JxlFile) (is : IsReadOf lim
     headers = headers None (supported limits (stream_of read.stream) (header_of read) read.front.frames is.front.frames reason);
     none = none;
   }
+
+  -- its frames may be decoded, and have no format
+  pub frames_no_format : (asked : Option OutputFormat) (reason : Option FrontError) → reason_of read ≡ reason → has_frames reason ≡ true → chosen asked (image_of (header_of read)) ≡ None → FramesHaveNoFormat limits file asked
+  frames_no_format asked None why lifted none = record {
+    image = image_of (header_of read);
+    reason = None;
+    headers = headers None (supported limits (stream_of read.stream) (header_of read) read.front.frames is.front.frames why);
+    lifted = refl;
+    none = none;
+  }
+  frames_no_format asked (Some e) why lifted none = record {
+    image = image_of (header_of read);
+    reason = Some e;
+    headers = headers (Some e) (layers_refused e lifted, refused limits (stream_of read.stream) (header_of read) read.front.frames is.front.frames e why);
+    lifted = lifted;
+    none = none;
+  }
+
+  -- the image header is the one of its frames
+  frames_image : (number : ℕ) (picture : Picture) (frame : IsFrameOfFile limits file number picture) → image_of (header_of read) ≡ frame.image
+  frames_image number picture frame =
+      let bytes : stream_of read.stream ≡ frame.bytes = same_bytes (stream_of read.stream) frame.bytes (one_codestream file (Ok (stream_of read.stream)) (Ok frame.bytes) is.found frame.begin.found) in
+      one_image (stream_of read.stream) (image_of (header_of read)) frame.image is.front.end frame.begin.opens.end is.front.header
+      (subst (λ (b : List ℕ). StandsAt image_header b 0 frame.image frame.begin.opens.end) (sym bytes) frame.begin.opens.goes.header)
 
   -- it is above the limits
   pub too_large : reason_of read ≡ Some fronts.TooLarge → IsAboveLimits limits file (image_of (header_of read)).size (length (image_of (header_of read)).ec_info) limits
@@ -116,6 +170,13 @@ same_choice (Some format) image = ap (λ (b : Bool). if b then Some format else 
 pub choice_kept : (asked : Option OutputFormat) (image shown : Image) (format : OutputFormat) → chosen asked image ≡ Some format → shown ≡ upright image → chosen asked shown ≡ Some format
 choice_kept asked image shown format e same = subst (λ (i : Image). chosen asked i ≡ Some format) (sym same) (same_choice asked image ∙ e)
 
+-- and one that was chosen for its frames is that of each picture that they show
+pub choice_of_frame : (limits : Limits) (file : List ℕ) (read : JxlFile) → IsReadOf limits file read → (number : ℕ) (picture : Picture) → IsFrameOfFile limits file number picture →
+    (asked : Option OutputFormat) (format : OutputFormat) → chosen asked (image_of (header_of read)) ≡ Some format → chosen asked (image_of picture.header) ≡ Some format
+choice_of_frame limits file read is number picture frame asked format e =
+    choice_kept asked frame.image (image_of picture.header) format
+    (subst (λ (i : Image). chosen asked i ≡ Some format) (frames_image limits file read is number picture frame) e) frame.upright.header
+
 -- what is written is the file's picture in the format
 pub text_of_file : (limits : Limits) (file : List ℕ) (asked : Option OutputFormat) (picture : Picture) (steps : ℕ) (format : OutputFormat) (exif xmp : Option (List ℕ)) →
     IsPictureOfFile limits file picture 0 steps → HasExif file exif → HasXmp file xmp → chosen asked (image_of picture.header) ≡ Some format → (result : Result Output Failure) →
@@ -138,6 +199,38 @@ text_of_file limits file asked picture steps format exif xmp is has_exif has_xmp
   meant = meant;
 }
 text_of_file limits file asked picture steps format exif xmp is has_exif has_xmp suited (Err e) written without meant = tt
+
+pub text_of_frame : (limits : Limits) (file : List ℕ) (number : ℕ) (asked : Option OutputFormat) (picture : Picture) (format : OutputFormat) (exif xmp : Option (List ℕ)) →
+    IsFrameOfFile limits file number picture → HasExif file exif → HasXmp file xmp → chosen asked (image_of picture.header) ≡ Some format → (result : Result Output Failure) →
+    IfOk result (λ o. IsWrittenAs format (image_of picture.header) picture.channels.items (bytes_if picture.profile) exif xmp (content_text o.content)) →
+    IfOk result (λ o. string_bytes o.left_out.channels ≡ kinds_left_out format (image_of picture.header).ec_info) →
+    IfOk result (λ o. o.left_out.loss ≡ loss_in format (image_of picture.header)) →
+    IfOk result (λ o. IsTextOfFrame limits file number asked (content_text o.content) (string_bytes o.left_out.channels) o.left_out.loss)
+text_of_frame limits file number asked picture format exif xmp is has_exif has_xmp suited (Ok o) written without meant = record {
+  picture = picture;
+  is = is;
+  exif = exif;
+  exif_is = has_exif;
+  xmp = xmp;
+  xmp_is = has_xmp;
+  format = format;
+  suited = suited;
+  written = written;
+  without = without;
+  meant = meant;
+}
+text_of_frame limits file number asked picture format exif xmp is has_exif has_xmp suited (Err e) written without meant = tt
+
+-- a picture that was decoded is the one with this number, or there are fewer
+module _ (limits : Limits) (file : List ℕ) (number : ℕ) (r : Option Picture) where
+  pub frame_if : (p : Picture) → r ≡ Some p → MatchOption r (HasFewerFrames limits file number) (IsFrameOfFile limits file number) → IsFrameOfFile limits file number p
+  frame_if p is found = subst (λ (o : Option Picture). MatchOption o (HasFewerFrames limits file number) (IsFrameOfFile limits file number)) is found
+
+  pub fewer_if : r ≡ None → MatchOption r (HasFewerFrames limits file number) (IsFrameOfFile limits file number) → HasFewerFrames limits file number
+  fewer_if is found = subst (λ (o : Option Picture). MatchOption o (HasFewerFrames limits file number) (IsFrameOfFile limits file number)) is found
+
+  pub whole_if : (p : Picture) → r ≡ Some p → IfSome r (λ p. IsWhole (image_of p.header) p.channels.items) → IsWhole (image_of p.header) p.channels.items
+  whole_if p is whole = subst (λ (o : Option Picture). IfSome o (λ p. IsWhole (image_of p.header) p.channels.items)) is whole
 
 -- what is left out has the error of the boxes after the codestream
 pub later_kept : (limits : Limits) (file : List ℕ) (read : JxlFile) → IsReadOf limits file read → (error : Option BoxError) → error ≡ later_error_of read → (result : Result Output Failure) →

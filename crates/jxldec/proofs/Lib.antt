@@ -1,3 +1,4 @@
 pub mod Texts
 pub mod FileReading
 pub mod Saving
+pub mod Layered

@@ -1,12 +1,12 @@
 -- What is written beside the picture of a file, and what its failures say.
-use Rattle.std.proofs.Common.{◌≡◌, ℕ, ◌++◌, List, [], Bool, true, false, Option, Some, None, refl, sym, subst}
+use Rattle.std.proofs.Common.{◌≡◌, ℕ, inl, ◌++◌, List, [], Bool, true, false, Option, Some, None, refl, sym, subst}
 use Rattle.std.specs.Io.KnownBytes.{Appends, Consumes, IsAtEnd}
 use Rattle.std.proofs.lemmas.List.{append-nil}
 use Rattle.jxl_netpbm.specs.Output.{AppendsBeginning}
 use Rattle.jxl_picture.specs.declared.limits.Limits.{Limits}
 use Rattle.jxl_command.specs.Streams.{IsKept, IsReadWhole}
 use Rattle.jxldec.specs.Failures.{IsOfSaving}
-use Rattle.jxldec.specs.Texts.{AskedFails, InfoFails, InputFails, IsAsked, IsBegun, IsFound, IsSaved}
+use Rattle.jxldec.specs.Texts.{AskedFails, FrameTextFails, InfoFails, InputFails, IsAsked, IsBegun, IsFound, IsSaved, ListFails, TextFails}
 use Rattle.jxldec.specs.declared.failures.Failure.{Failure}
 use Rattle.jxldec.specs.declared.failures.Failure.TheVariants as failures
 use Rattle.jxldec.specs.declared.options.Task.{Task}
@@ -23,21 +23,52 @@ saved false Has (Some bytes) held holds Flushed Stays is kept = let bad : ⊥ = 
 saved false Has None held holds Flushed Stays is kept = kept
 
 -- what is wrong with the data of a file is a failure, whatever is asked of it
-info_of_text : (limits : Limits) (file : List ℕ) (asked : Option OutputFormat) (failure : Failure) → InfoFails limits file failure → AskedFails tasks.Picture limits asked file failure
+info_of_text : (limits : Limits) (file : List ℕ) (asked : Option OutputFormat) (failure : Failure) → InfoFails limits file failure → TextFails limits file asked failure
 info_of_text limits file asked (failures.File e) h = h
 info_of_text limits file asked (failures.TooLarge size extra most) h = h
 info_of_text limits file asked (failures.Missing extra) h = h
 info_of_text limits file asked failures.OutOfMemory h = h
 info_of_text limits file asked (failures.Unreadable e) h = absurd h
+info_of_text limits file asked (failures.Frames e) h = absurd h
+info_of_text limits file asked (failures.NoFrame n) h = absurd h
 info_of_text limits file asked failures.NoFormat h = absurd h
 info_of_text limits file asked failures.Ending h = absurd h
 info_of_text limits file asked (failures.Unwritable e) h = absurd h
 info_of_text limits file asked failures.Closed h = absurd h
 info_of_text limits file asked (failures.Unsaved extra e) h = absurd h
 
+pub info_of_frame : (limits : Limits) (file : List ℕ) (number : ℕ) (asked : Option OutputFormat) (failure : Failure) → InfoFails limits file failure → FrameTextFails limits file number asked failure
+info_of_frame limits file number asked (failures.File e) h = h
+info_of_frame limits file number asked (failures.TooLarge size extra most) h = h
+info_of_frame limits file number asked (failures.Missing extra) h = h
+info_of_frame limits file number asked failures.OutOfMemory h = h
+info_of_frame limits file number asked (failures.Unreadable e) h = absurd h
+info_of_frame limits file number asked (failures.Frames e) h = absurd h
+info_of_frame limits file number asked (failures.NoFrame n) h = absurd h
+info_of_frame limits file number asked failures.NoFormat h = absurd h
+info_of_frame limits file number asked failures.Ending h = absurd h
+info_of_frame limits file number asked (failures.Unwritable e) h = absurd h
+info_of_frame limits file number asked failures.Closed h = absurd h
+info_of_frame limits file number asked (failures.Unsaved extra e) h = absurd h
+
+info_of_list : (limits : Limits) (file : List ℕ) (failure : Failure) → InfoFails limits file failure → ListFails limits file failure
+info_of_list limits file (failures.File e) h = h
+info_of_list limits file (failures.TooLarge size extra most) h = h
+info_of_list limits file (failures.Missing extra) h = h
+info_of_list limits file failures.OutOfMemory h = h
+info_of_list limits file (failures.Unreadable e) h = absurd h
+info_of_list limits file (failures.Frames e) h = absurd h
+info_of_list limits file (failures.NoFrame n) h = absurd h
+info_of_list limits file failures.NoFormat h = absurd h
+info_of_list limits file failures.Ending h = absurd h
+info_of_list limits file (failures.Unwritable e) h = absurd h
+info_of_list limits file failures.Closed h = absurd h
+info_of_list limits file (failures.Unsaved extra e) h = absurd h
+
 pub info_so : (task : Task) (limits : Limits) (file : List ℕ) (asked : Option OutputFormat) (failure : Failure) → InfoFails limits file failure → AskedFails task limits asked file failure
-info_so tasks.Headers limits file asked failure h = h
-info_so tasks.Picture limits file asked failure h = info_of_text limits file asked failure h
+info_so tasks.Headers limits file asked failure h = info_of_list limits file failure h
+info_so tasks.Picture limits file asked failure h = inl (info_of_text limits file asked failure h)
+info_so (tasks.Frame number) limits file asked failure h = info_of_frame limits file number asked failure h
 info_so tasks.Nothing limits file asked failure h = h
 
 -- a whole text is a beginning of it
@@ -53,6 +84,8 @@ saving_fails task limits asked left rest held holds (failures.TooLarge size extr
 saving_fails task limits asked left rest held holds (failures.Missing extra) of begun = absurd of
 saving_fails task limits asked left rest held holds failures.OutOfMemory of begun = absurd of
 saving_fails task limits asked left rest held holds (failures.Unreadable e) of begun = absurd of
+saving_fails task limits asked left rest held holds (failures.Frames e) of begun = absurd of
+saving_fails task limits asked left rest held holds (failures.NoFrame n) of begun = absurd of
 saving_fails task limits asked left rest held holds failures.NoFormat of begun = absurd of
 saving_fails task limits asked left rest held holds failures.Ending of begun = absurd of
 saving_fails task limits asked left rest held holds (failures.Unwritable e) of begun = absurd of

@@ -1,10 +1,11 @@
 -- Why the output does not get what is asked for, and the line that says so.
 use Rattle.std.specs.Prelude.{◌≡◌, ◌⊎◌, ℕ, List, [], ◌∷◌, ◌++◌, Bool, true, false, MatchBool, Option, Some, None, if◌then◌else◌, length, codes}
+use Rattle.std.specs.Fmt.{decimal}
 use Rattle.std.specs.Option.{option_map}
 use Rattle.jxl_command.specs.Extras.{path_of}
 use Rattle.jxl_command.specs.declared.extra.Extra.{Extra}
 use Rattle.jxl_command.specs.declared.extra.Extra.TheVariants as extras
-use Rattle.jxldec.specs.Reasons.{file_text}
+use Rattle.jxldec.specs.Reasons.{animation_text, file_text}
 use Rattle.jxldec.specs.declared.failures.Failure.{Failure}
 use Rattle.jxldec.specs.declared.failures.Failure.TheVariants as failures
 use Rattle.jxldec.specs.declared.options.Options.{Options}
@@ -21,6 +22,8 @@ unfoldable pub failure_text : Failure → Option (List ℕ)
 failure_text (failures.Unreadable error) = None
 failure_text (failures.File error) = Some (file_text error)
 failure_text (failures.TooLarge size extra most) = None
+failure_text (failures.Frames error) = Some (animation_text error)
+failure_text (failures.NoFrame number) = Some (codes "no frame " ++ decimal number ++ codes "; frames are numbered from 0")
 failure_text failures.NoFormat = Some (codes "this format cannot hold the picture; --format text can")
 failure_text (failures.Missing extra) = Some (missing_text extra)
 failure_text failures.OutOfMemory = Some (codes "out of memory")

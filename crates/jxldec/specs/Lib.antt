@@ -2,6 +2,7 @@ pub mod Causes
 pub mod Failures
 pub mod Formats
 pub mod Inner
+pub mod Layers
 pub mod Losses
 pub mod Options
 pub mod Reasons

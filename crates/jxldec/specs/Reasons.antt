@@ -8,6 +8,10 @@ use Rattle.jxl_codestream.specs.declared.error.FrontError.TheVariants as fronts
 use Rattle.jxl_info.specs.Reasons.{frame_reason, image_reason}
 use Rattle.jxl_patches.specs.declared.error.PatchError.{PatchError}
 use Rattle.jxl_patches.specs.declared.error.PatchError.TheVariants as patches
+use Rattle.jxl_animation.specs.declared.error.AnimationError.{AnimationError}
+use Rattle.jxl_animation.specs.declared.error.AnimationError.TheVariants as animations
+use Rattle.jxl_layers.specs.declared.error.LayerError.{LayerError}
+use Rattle.jxl_layers.specs.declared.error.LayerError.TheVariants as layers
 use Rattle.jxl_lossless.specs.declared.still.error.FrameError.{FrameError}
 use Rattle.jxl_lossless.specs.declared.still.error.FrameError.TheVariants as frames
 use Rattle.jxl_lossless.specs.declared.error.FileError.{FileError}
@@ -73,3 +77,14 @@ file_text (files.Tree error) = codes "global tree: " ++ error_text error
 file_text files.TooManyDecisions = codes "global tree: more decisions than the limit"
 file_text (files.Samples error) = frame_text error
 file_text files.OutOfMemory = codes "out of memory"
+
+-- why a frame is not composed with others
+unfoldable pub layer_text : LayerError → List ℕ
+layer_text layers.BlendedFloats = codes "not supported: blended floats"
+layer_text layers.ShiftedChannels = codes "not supported: layers beside an extra channel of another size"
+layer_text (layers.Background slot) = codes "a frame blended with one of another size, in slot " ++ decimal slot
+
+-- why the frames of a file are not decoded
+unfoldable pub animation_text : AnimationError → List ℕ
+animation_text (animations.File error) = file_text error
+animation_text (animations.Layer error) = layer_text error

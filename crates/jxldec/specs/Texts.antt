@@ -1,12 +1,15 @@
 -- What the program writes of a file: its picture, or what its headers tell.
-use Rattle.std.specs.Prelude.{◌≡◌, ℕ, List, [], length, Bool, true, false, MatchBool, Option, Some, None, if◌then◌else◌}
+use Rattle.std.specs.Prelude.{◌≡◌, ◌⊎◌, ◌++◌, ℕ, List, [], length, not, Bool, true, false, MatchBool, MatchOption, Option, Some, None, Ok, is_some, if◌then◌else◌}
 use Rattle.std.specs.Io.KnownBytes.{Appends, Consumes, IsAtEnd}
 use Rattle.jxl_codestream.specs.FrontParts.{bytes_if}
 use Rattle.jxl_coding.specs.Parse.{decoder_at}
 use Rattle.jxl_coding.specs.Tokens.{entropy}
-use Rattle.jxl_container.specs.Files.{HasLaterError}
+use Rattle.jxl_container.specs.Files.{HasCodestream, HasLaterError}
 use Rattle.jxl_container.specs.Metadata.{HasExif, HasXmp}
 use Rattle.jxl_container.specs.declared.error.FileError.{FileError as BoxError}
+use Rattle.jxl_animation.specs.declared.error.AnimationError.{AnimationError}
+use Rattle.jxl_animation.specs.declared.error.AnimationError.TheVariants as animations
+use Rattle.jxl_animation.specs.Files.{FrameOfFileFails, HasFewerFrames, IsFrameOfFile}
 use Rattle.jxl_command.specs.Streams.{IsReadWhole}
 use Rattle.jxl_command.specs.declared.extra.Extra.{Extra}
 use Rattle.jxl_command.specs.declared.extra.Extra.TheVariants as extras
@@ -14,14 +17,23 @@ use Rattle.jxl_image_header.specs.Images.{Image, image_of}
 use Rattle.jxl_netpbm.specs.Output.{AppendsBeginning}
 use Rattle.jxl_picture.specs.declared.limits.Limits.{Limits}
 use Rattle.jxl_picture.specs.declared.picture.Picture.{Picture}
-use Rattle.jxl_info.specs.Headers.{HeadersOfFile, IsInfoOfFile}
+use Rattle.jxl_info.specs.Headers.{HeadersOfFile, is_boxed}
+use Rattle.jxl_info.specs.Reasons.{is_refusal}
+use Rattle.jxl_info.specs.Texts.{info_text, reason_line}
+use Rattle.jxl_frame_info.specs.Lines.{timeline_lines}
+use Rattle.jxl_frame_info.specs.Timelines.{IsTimelineOf}
+use Rattle.jxl_frame_info.specs.declared.timeline.Timeline.{Timeline}
+use Rattle.jxl_layers.specs.Openings.{OpeningFails}
+use Rattle.jxl_lossless.specs.declared.error.FileError.TheVariants as files
 use Rattle.jxl_lossless.specs.Pictures.{FileFails, IsPictureOfFile, ProfileOfFile}
+use Rattle.jxl_codestream.specs.declared.error.FrontError.{FrontError}
 use Rattle.jxl_codestream.specs.declared.error.FrontError.TheVariants as fronts
 use Rattle.jxl_image_header.specs.declared.size.Size.{Size}
 use Rattle.jxldec.specs.Failures.{failure_line, is_of_output, subject}
 use Rattle.jxldec.specs.Formats.{IsWrittenAs, chosen}
+use Rattle.jxldec.specs.Layers.{has_frames, is_of_layers, lists_frames}
 use Rattle.jxldec.specs.Losses.{has_loss, loss_in, unless_saved}
-use Rattle.jxldec.specs.Warnings.{kinds_left_out, warnings}
+use Rattle.jxldec.specs.Warnings.{has_more, kinds_left_out, one_frame, warnings}
 use Rattle.jxldec.specs.declared.failures.Failure.{Failure}
 use Rattle.jxldec.specs.declared.failures.Failure.TheVariants as failures
 use Rattle.jxldec.specs.declared.format.OutputFormat.{OutputFormat}
@@ -30,6 +42,7 @@ use Rattle.jxldec.specs.declared.loss.Loss.TheVariants.{Nothing}
 use Rattle.jxldec.specs.declared.options.Options.{Options}
 use Rattle.jxldec.specs.declared.options.Task.{Task}
 use Rattle.jxldec.specs.declared.options.Task.TheVariants as tasks
+use Rattle.jxldec.specs.declared.warning.FrameCount.{FrameCount}
 
 -- The text is the picture of the file in a format, in PNG with its profile, Exif and XMP data; of its channels these kinds are left out, and
 -- of its meaning this.
@@ -47,10 +60,33 @@ pub record IsTextOfFile (limits : Limits) (file : List ℕ) (asked : Option Outp
   pub without : others ≡ kinds_left_out format (image_of picture.header).ec_info
   pub meant : loss ≡ loss_in format (image_of picture.header)
 
+-- The same of the picture with this number among those that the file shows, from 0 on.
+pub record IsTextOfFrame (limits : Limits) (file : List ℕ) (number : ℕ) (asked : Option OutputFormat) (text others : List ℕ) (loss : Loss) : Type 0 where
+  pub picture : Picture
+  pub is : IsFrameOfFile limits file number picture
+  pub exif : Option (List ℕ)
+  pub exif_is : HasExif file exif
+  pub xmp : Option (List ℕ)
+  pub xmp_is : HasXmp file xmp
+  pub format : OutputFormat
+  pub suited : chosen asked (image_of picture.header) ≡ Some format
+  pub written : IsWrittenAs format (image_of picture.header) picture.channels.items (bytes_if picture.profile) exif xmp text
+  pub without : others ≡ kinds_left_out format (image_of picture.header).ec_info
+  pub meant : loss ≡ loss_in format (image_of picture.header)
+
 -- The headers of the file are supported, of a picture that is not written in the format that is asked for, or in any.
 pub record HasNoFormat (limits : Limits) (file : List ℕ) (asked : Option OutputFormat) : Type 0 where
   pub image : Image
   pub headers : HeadersOfFile (entropy decoder_at) limits file image None
+  pub none : chosen asked image ≡ None
+
+-- The headers of the file say that it has one picture, or several, or layers, of which none is written in the format that is asked
+-- for, or in any.
+pub record FramesHaveNoFormat (limits : Limits) (file : List ℕ) (asked : Option OutputFormat) : Type 0 where
+  pub image : Image
+  pub reason : Option FrontError
+  pub headers : HeadersOfFile (entropy decoder_at) limits file image reason
+  pub lifted : has_frames reason ≡ true
   pub none : chosen asked image ≡ None
 
 -- The picture of the file is above the limits: it has these sides, and this number of extra channels.
@@ -84,27 +120,94 @@ InfoFails limits file (failures.Missing extra) = IsMissing limits file extra
 InfoFails limits file failures.OutOfMemory = Unit {0}
 InfoFails limits file failure = ⊥
 
+-- what each failure says of the file of which the picture with this number is asked for
+abbrev pub FrameTextFails : Limits → List ℕ → ℕ → Option OutputFormat → Failure → Type 0
+FrameTextFails limits file number asked (failures.Frames error) = FrameOfFileFails limits file number error
+FrameTextFails limits file number asked (failures.NoFrame none) = (none ≡ number) × HasFewerFrames limits file number
+FrameTextFails limits file number asked failures.NoFormat = FramesHaveNoFormat limits file asked
+FrameTextFails limits file number asked failure = InfoFails limits file failure
+
+-- the reason why frames are not decoded is one that `--info` prints
+abbrev pub IsPrinted : Option FrontError → Type 0
+IsPrinted reason = MatchOption reason (Unit {0}) (λ e. is_refusal e ≡ true)
+
+-- The frames of a file are listed: this is when its pictures are shown.
+pub record AreListed (limits : Limits) (file : List ℕ) (timeline : Timeline) : Type 0 where
+  pub bytes : List ℕ
+  pub found : HasCodestream file (Ok bytes)
+  pub is : IsTimelineOf limits bytes timeline
+
+-- The text is what `--info` prints of a file that has several pictures, or layers, and this image header.
+pub record IsInfoOfFrames (limits : Limits) (file : List ℕ) (image : Image) (text : List ℕ) : Type 0 where
+  pub timeline : Timeline
+  pub listed : AreListed limits file timeline
+  pub printed : IsPrinted timeline.reason
+  pub is : text ≡ info_text (is_boxed file) image None ++ timeline_lines image.animation timeline.durations.items ++ reason_line timeline.reason
+
+-- The text is what `--info` prints of a file.
+pub record IsInfoText (limits : Limits) (file text : List ℕ) : Type 0 where
+  pub image : Image
+  pub reason : Option FrontError
+  pub headers : HeadersOfFile (entropy decoder_at) limits file image reason
+  pub is : MatchBool (lists_frames reason) (IsInfoOfFrames limits file image text) (text ≡ info_text (is_boxed file) image reason)
+
 -- what the headers of a file tell, of which nothing is left out
 abbrev pub IsInfo : Limits → List ℕ → List ℕ → List ℕ → Loss → Type 0
-IsInfo limits file text others loss = IsInfoOfFile (entropy decoder_at) limits file text × (others ≡ []) × (loss ≡ Nothing)
+IsInfo limits file text others loss = IsInfoText limits file text × (others ≡ []) × (loss ≡ Nothing)
 
--- what is asked of a file for the output: what its headers tell, its picture, or nothing
-abbrev pub IsAsked : Task → Limits → Option OutputFormat → List ℕ → List ℕ → List ℕ → Loss → Type 0
-IsAsked tasks.Headers limits asked file text others loss = IsInfo limits file text others loss
-IsAsked tasks.Picture limits asked file text others loss = IsTextOfFile limits file asked text others loss
-IsAsked tasks.Nothing limits asked file text others loss = (text ≡ []) × (others ≡ []) × (loss ≡ Nothing)
+-- what each error says of the frames of a file that are not listed
+abbrev pub FrontNotListed : Limits → List ℕ → FrontError → Type 0
+FrontNotListed limits file e = ((bytes : List ℕ) × HasCodestream file (Ok bytes) × OpeningFails limits bytes e) ⊎ ((timeline : Timeline) × AreListed limits file timeline × (timeline.reason ≡ Some e))
+
+abbrev pub NotListed : Limits → List ℕ → AnimationError → Type 0
+NotListed limits file (animations.File (files.Front e)) = FrontNotListed limits file e
+NotListed limits file e = ⊥
+
+-- what each failure says of the file whose headers are asked for
+abbrev pub ListFails : Limits → List ℕ → Failure → Type 0
+ListFails limits file (failures.Frames e) = NotListed limits file e
+ListFails limits file failure = InfoFails limits file failure
+
+-- as many pictures as this are shown by a file, as far as its frames are listed
+abbrev pub CountsFrames : Limits → List ℕ → FrameCount → Type 0
+CountsFrames limits file frames = (timeline : Timeline) × AreListed limits file timeline × (frames.count ≡ length timeline.durations.items) × (frames.is_all ≡ not (is_some timeline.reason))
+
+-- A file has no still picture, since it has several pictures, or layers.
+pub record HasLayers (limits : Limits) (file : List ℕ) : Type 0 where
+  pub reason : FrontError
+  pub fails : FileFails limits file (files.Front reason)
+  pub layered : is_of_layers reason ≡ true
+
+-- The text is the picture of a file; or its first picture, if it has several, or layers.
+abbrev pub IsPictureText : Limits → List ℕ → Option OutputFormat → List ℕ → List ℕ → Loss → FrameCount → Type 0
+IsPictureText limits file asked text others loss frames =
+    (IsTextOfFile limits file asked text others loss × (frames ≡ one_frame)) ⊎ (HasLayers limits file × IsTextOfFrame limits file 0 asked text others loss × CountsFrames limits file frames)
+
+-- what is asked of a file for the output: what its headers tell, its picture, the one with a number, or nothing
+abbrev pub IsAsked : Task → Limits → Option OutputFormat → List ℕ → List ℕ → List ℕ → Loss → FrameCount → Type 0
+IsAsked tasks.Headers limits asked file text others loss frames = IsInfo limits file text others loss × (frames ≡ one_frame)
+IsAsked tasks.Picture limits asked file text others loss frames = IsPictureText limits file asked text others loss frames
+IsAsked (tasks.Frame number) limits asked file text others loss frames = IsTextOfFrame limits file number asked text others loss × (frames ≡ one_frame)
+IsAsked tasks.Nothing limits asked file text others loss frames = (text ≡ []) × (others ≡ []) × (loss ≡ Nothing) × (frames ≡ one_frame)
+
+-- why the picture of a file is not made, or its first picture
+abbrev pub PictureFails : Limits → List ℕ → Option OutputFormat → Failure → Type 0
+PictureFails limits file asked failure = TextFails limits file asked failure ⊎ (HasLayers limits file × FrameTextFails limits file 0 asked failure)
 
 -- why what is asked of a file is not made
 abbrev pub AskedFails : Task → Limits → Option OutputFormat → List ℕ → Failure → Type 0
-AskedFails tasks.Picture limits asked file failure = TextFails limits file asked failure
-AskedFails task limits asked file failure = InfoFails limits file failure
+AskedFails tasks.Headers limits asked file failure = ListFails limits file failure
+AskedFails tasks.Picture limits asked file failure = PictureFails limits file asked failure
+AskedFails (tasks.Frame number) limits asked file failure = FrameTextFails limits file number asked failure
+AskedFails tasks.Nothing limits asked file failure = InfoFails limits file failure
 
 -- The text is what is asked of a file, and the output, which held `held`, holds after it a beginning of the text.
 pub record IsBegun (task : Task) (limits : Limits) (asked : Option OutputFormat) (held holds : Option (List ℕ)) (file : List ℕ) : Type 0 where
   pub text : List ℕ
   pub others : List ℕ
   pub loss : Loss
-  pub is : IsAsked task limits asked file text others loss
+  pub frames : FrameCount
+  pub is : IsAsked task limits asked file text others loss frames
   pub begun : AppendsBeginning held holds text
 
 -- what each failure says of the input, from left to rest, and of the output, which held `held`: the input was read to its
@@ -119,12 +222,12 @@ InputFails task limits asked left rest held holds failure = IsReadWhole left res
 
 -- The input was read to its end, from left to rest, and the output, which held `held`, holds after it what was asked of
 -- what was read, which has this error after its codestream, or none.
-pub record IsWritten (task : Task) (limits : Limits) (asked : Option OutputFormat) (left rest held holds : Option (List ℕ)) (others : List ℕ) (loss : Loss) (error : Option BoxError) : Type 0 where
+pub record IsWritten (task : Task) (limits : Limits) (asked : Option OutputFormat) (left rest held holds : Option (List ℕ)) (others : List ℕ) (loss : Loss) (frames : FrameCount) (error : Option BoxError) : Type 0 where
   pub file : List ℕ
   pub text : List ℕ
   pub read : Consumes left rest file
   pub ended : IsAtEnd rest
-  pub is : IsAsked task limits asked file text others loss
+  pub is : IsAsked task limits asked file text others loss frames
   pub later : HasLaterError file error
   pub written : Appends held holds text
 
@@ -143,11 +246,12 @@ IsSaved wanted Has held holds Flushed Stays = MatchBool wanted ((bytes : List �
 pub record IsDone (task : Task) (quiet saved : Bool) (limits : Limits) (asked : Option OutputFormat) (name : List ℕ) (left rest held holds : Option (List ℕ)) (Gets : List ℕ → Type 0) (Silent : Type 0) : Type 0 where
   pub others : List ℕ
   pub loss : Loss
+  pub frames : FrameCount
   pub error : Option BoxError
-  pub written : IsWritten task limits asked left rest held holds others loss error
-  pub gets : Gets (warnings quiet name others (unless_saved saved loss) error)
+  pub written : IsWritten task limits asked left rest held holds others loss frames error
+  pub gets : Gets (warnings quiet name others (unless_saved saved loss) frames error)
   pub kept : quiet ≡ true → Silent
-  pub none : others ≡ [] → has_loss (unless_saved saved loss) ≡ false → error ≡ None → Silent
+  pub none : others ≡ [] → has_loss (unless_saved saved loss) ≡ false → has_more frames ≡ false → error ≡ None → Silent
 
 -- What is asked for is not done, by this failure; the output stays as it was, unless it is what fails; standard error gets
 -- the line of the failure, about what fails.

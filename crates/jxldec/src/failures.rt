@@ -3,7 +3,9 @@
 ghost use Rattle.std.specs.Prelude.{◌≡◌};
 ghost use Rattle.jxldec.specs.Failures.{IsOfWriting, failure_text, missing_text as the_missing_text};
 
-use crate::reason::Reason;
+use crate::reason::{AnimationReason, Reason};
+use jxl_animation::AnimationError;
+use jxl_codestream::error::FrontError;
 use jxl_command::extra::Extra;
 use jxl_image_header::size::Size;
 use jxl_lossless::{FileError, Limits};
@@ -23,6 +25,10 @@ pub enum Failure {
         extra: usize,
         limits: Limits,
     },
+    /// The frames of the file are not decoded, by this error.
+    Frames(AnimationError),
+    /// The file shows no picture with this number, which is asked for.
+    NoFrame(u32),
     /// The picture cannot be written in the format that is asked for, or in any.
     NoFormat,
     /// The file does not have these data, which are asked for.
@@ -49,6 +55,13 @@ impl Failure {
         } else {
             Failure::Unwritable(error)
         }
+    }
+
+    /// Why frames are not decoded, by an error before their sections.
+    pub fn of_frames(error: FrontError) -> Failure
+        ensures { result ≡ Failure.Frames (AnimationError.File (FileError.Front error)) }
+    {
+        Failure::Frames(AnimationError::File(FileError::Front(error)))
     }
 }
 
@@ -89,6 +102,13 @@ impl fmt::Display for Failure {
                     f,
                     "(maximum: {pixels} pixels, {channels} channels, {bytes} bytes of samples)"
                 )
+            }
+            Failure::Frames(error) => {
+                let reason = AnimationReason(error);
+                write!(f, "{reason}")
+            }
+            Failure::NoFrame(number) => {
+                write!(f, "no frame {number}; frames are numbered from 0")
             }
             Failure::NoFormat => {
                 f.write_str("this format cannot hold the picture; --format text can")

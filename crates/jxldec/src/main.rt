@@ -5,6 +5,8 @@ mod cause;
 mod codes;
 mod failures;
 mod format;
+mod layers;
+mod listing;
 mod loss;
 mod meter;
 mod options;

@@ -23,6 +23,8 @@ pub enum Task {
     Headers,
     /// The picture.
     Picture,
+    /// The picture with this number among those that the file shows, from 0 on.
+    Frame(u32),
     /// Nothing: only other data of the file are asked for.
     Nothing,
 }
@@ -78,6 +80,15 @@ fn info(alloc: Global) -> Result<Arg<'static>, AllocError> {
         .conflicts_with("output")
 }
 
+fn frame(alloc: Global) -> Result<Arg<'static>, AllocError> {
+    Arg::new(alloc, "frame")
+        .long("frame")
+        .value_name("N")
+        .value_parser(clap::value_parser!(u32))
+        .help("Write the frame with this number, from 0 on; not with --info")
+        .conflicts_with("info")
+}
+
 // Where data beside the picture are written.
 fn extra(alloc: Global, name: &'static str, help: &'static str) -> Arg<'static> {
     Arg::new(alloc, name)
@@ -130,6 +141,7 @@ pub fn command<'a>(alloc: Global) -> Result<Command<'a>, AllocError> {
         input(alloc),
         output(alloc),
         info(alloc)?,
+        frame(alloc)?,
         extra(
             alloc,
             "icc",
@@ -217,14 +229,15 @@ fn limits_of(
     }
 }
 
-// What is written to the output: the headers or the picture, unless only other data are asked for.
-fn task_of(info: bool, output: bool, others: bool) -> Task {
+// What is written to the output: the headers or a picture, unless only other data are asked for.
+fn task_of(info: bool, frame: Option<u32>, output: bool, others: bool) -> Task {
     if info {
-        Task::Headers
-    } else if output || !others {
-        Task::Picture
-    } else {
-        Task::Nothing
+        return Task::Headers;
+    }
+    match frame {
+        Some(number) => Task::Frame(number),
+        None if output || !others => Task::Picture,
+        None => Task::Nothing,
     }
 }
 
@@ -245,6 +258,7 @@ impl<'a> Options<'a> {
             output_name: output.unwrap_or("standard output"),
             task: task_of(
                 matches.get_flag("info"),
+                matches.get_one("frame"),
                 matches.get_str("output").is_some(),
                 paths.has_some(),
             ),

@@ -1,13 +1,15 @@
 //! Why a file is not decoded, in words.
 
 ghost use Rattle.std.specs.Prelude.{◌≡◌, Some};
-ghost use Rattle.jxldec.specs.Reasons.{box_text as the_box_text, front_text, patch_text, frame_text, file_text};
+ghost use Rattle.jxldec.specs.Reasons.{animation_text, box_text as the_box_text, front_text, layer_text, patch_text, frame_text, file_text};
 
 use crate::cause::Cause;
 use crate::codes::decoder_text;
+use jxl_animation::AnimationError;
 use jxl_codestream::error::FrontError;
 use jxl_container::error::FileError as BoxError;
 use jxl_info::reasons::{frame_reason, image_reason};
+use jxl_layers::error::LayerError;
 use jxl_lossless::{FileError, FrameError};
 use jxl_patches::error::PatchError;
 use std::fmt;
@@ -172,6 +174,52 @@ impl fmt::Display for Reason {
                 write!(f, "{reason}")
             }
             FileError::OutOfMemory => f.write_str("out of memory"),
+        }
+    }
+}
+
+// Why a frame is not composed with others.
+#[derive(Clone, Copy)]
+struct LayerReason(LayerError);
+
+impl fmt::Display for LayerReason {
+    ghost output = { λ reason. Some (layer_text reason.0) };
+
+    #[tactic(auto, unfolding(crate::specs::Reasons::layer_text))]
+    fn fmt<W: fmt::Write>(&self, f: &mut fmt::Formatter<W>) -> fmt::Result {
+        match self.0 {
+            LayerError::BlendedFloats => f.write_str("not supported: blended floats"),
+            LayerError::ShiftedChannels => {
+                f.write_str("not supported: layers beside an extra channel of another size")
+            }
+            LayerError::Background(slot) => {
+                write!(
+                    f,
+                    "a frame blended with one of another size, in slot {slot}"
+                )
+            }
+        }
+    }
+}
+
+/// Why the frames of a file are not decoded.
+#[derive(Clone, Copy)]
+pub struct AnimationReason(pub AnimationError);
+
+impl fmt::Display for AnimationReason {
+    ghost output = { λ reason. Some (animation_text reason.0) };
+
+    #[tactic(auto, unfolding(crate::specs::Reasons::animation_text))]
+    fn fmt<W: fmt::Write>(&self, f: &mut fmt::Formatter<W>) -> fmt::Result {
+        match self.0 {
+            AnimationError::File(error) => {
+                let reason = Reason(error);
+                write!(f, "{reason}")
+            }
+            AnimationError::Layer(error) => {
+                let reason = LayerReason(error);
+                write!(f, "{reason}")
+            }
         }
     }
 }

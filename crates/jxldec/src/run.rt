@@ -1,6 +1,6 @@
 //! The program over a reader and two writers.
 
-ghost use Rattle.std.specs.Prelude.{◌≡◌, ◌≤◌, ℕ, List, [], length, true, false, is_some, IfErr, IfOk, IfSome, IsTrue, None, OnErr, OnOk, Some, string_bytes};
+ghost use Rattle.std.specs.Prelude.{◌≡◌, ◌≤◌, ℕ, List, [], Option, length, true, false, is_some, IfErr, IfOk, IfSome, IsTrue, None, OnErr, OnOk, Some, string_bytes};
 ghost use Rattle.std.specs.Option.{option_copied};
 ghost use Rattle.std.specs.Io.KnownBytes.{Appends};
 ghost use Rattle.jxl_codestream.specs.FrontParts.{bytes_if};
@@ -16,15 +16,20 @@ ghost use Rattle.jxl_picture.specs.declared.limits.Limits.{Limits as TheLimits};
 ghost use Rattle.jxldec.specs.Contents.{IsWritable, content_text};
 ghost use Rattle.jxldec.specs.Failures.{IsOfContent, IsOfSaving, failure_line, is_of_output};
 ghost use Rattle.jxldec.specs.Formats.{IsWrittenAs, chosen, suits_output};
+ghost use Rattle.jxldec.specs.Layers.{has_frames};
 ghost use Rattle.jxldec.specs.Losses.{has_loss, loss_in};
-ghost use Rattle.jxldec.specs.Texts.{AskedFails, InfoFails, InputFails, IsAsked, IsDone, IsFailed, IsFound, IsInfo, IsSaved, IsTextOfFile, IsWritten, TextFails};
-ghost use Rattle.jxldec.specs.Warnings.{kinds_left_out, warnings};
+ghost use Rattle.jxldec.specs.Texts.{AskedFails, CountsFrames, FrameTextFails, InfoFails, InputFails, IsAsked, IsDone, IsFailed, IsFound, IsInfo, IsPictureText, IsSaved, IsTextOfFile, IsTextOfFrame, IsWritten, ListFails, PictureFails, TextFails};
+ghost use Rattle.jxldec.specs.Warnings.{has_more, kinds_left_out, one_frame, warnings};
+ghost use Rattle.jxldec.specs.declared.format.OutputFormat.{OutputFormat as TheFormat};
 ghost use Rattle.jxldec.specs.declared.loss.Loss.TheVariants.{Nothing as NoLoss};
 
 use crate::failures::Failure;
 use crate::format::{OutputFormat, format_for};
+use crate::layers::{is_layered, is_of_layers};
+use crate::listing::{text_of_headers, timeline_of_file};
 use crate::options::{Options, Task};
-use crate::warning::{LeftOut, warn};
+use crate::warning::{FrameCount, LeftOut, warn};
+use jxl_animation::decode_frame;
 use jxl_codestream::error::FrontError;
 use jxl_coding::decoder::EntropyDecoder;
 use jxl_command::end::End;
@@ -35,8 +40,7 @@ use jxl_command::output::{Flush, write_flushed};
 use jxl_container::error::FileError as BoxError;
 use jxl_container::metadata::{find_exif, find_xmp};
 use jxl_image_header::image::ImageHeader;
-use jxl_info::headers::{Headers, HeadersError, is_boxed};
-use jxl_info::text::info_text;
+use jxl_info::headers::{Headers, HeadersError};
 use jxl_lossless::{FileError, JxlFile, Limits, Picture, Progress, Steps};
 use jxl_netpbm::format::Format;
 use jxl_netpbm::output::{WriteError, write_whole};
@@ -68,18 +72,19 @@ pub struct Output {
 fn info_of_file(alloc: Global, file: &[u8], limits: &Limits) -> Result<Output, Failure>
     ensures text { IfOk result (λ o. IsInfo limits.now file.now (content_text o.content)
         (string_bytes o.left_out.channels) o.left_out.loss) }
+    ensures frames { IfOk result (λ o. o.left_out.frames ≡ one_frame) }
     ensures writable { IfOk result (λ o. IsWritable o.content) }
     ensures later { IfOk result (λ o. HasLaterError file.now o.left_out.later_error) }
-    ensures err { IfErr result (InfoFails limits.now file.now) }
+    ensures err { IfErr result (ListFails limits.now file.now) }
 {
     match Headers::read::<EntropyDecoder>(alloc, file, limits) {
-        Ok(headers) => match info_text(alloc, is_boxed(file), &headers.image, headers.reason) {
-            Ok(text) => Ok(Output {
+        Ok(headers) => {
+            let text = text_of_headers(alloc, file, &headers, limits)?;
+            Ok(Output {
                 content: Content::Headers(text.into_bytes()),
                 left_out: LeftOut::boxes(alloc, headers.later_error),
-            }),
-            Err(_) => Err(Failure::OutOfMemory),
-        },
+            })
+        }
         Err(HeadersError::File(error)) => Err(Failure::File(FileError::File(error))),
         Err(HeadersError::Front(error)) => Err(Failure::File(FileError::Front(error))),
     }
@@ -171,6 +176,7 @@ fn output_of(
     ensures channels { IfOk result (λ o. string_bytes o.left_out.channels
         ≡ kinds_left_out format (image_of picture.header).ec_info) }
     ensures loss { IfOk result (λ o. o.left_out.loss ≡ loss_in format (image_of picture.header)) }
+    ensures frames { IfOk result (λ o. o.left_out.frames ≡ one_frame) }
     ensures later { IfOk result (λ o. o.left_out.later_error ≡ later_error) }
     ensures err { IfErr result (λ failure. failure ≡ Failure.OutOfMemory) }
 {
@@ -192,6 +198,7 @@ pub fn picture_of_file<P: Progress + Line>(
 ) -> Result<Output, Failure>
     ensures text { IfOk result (λ o. IsTextOfFile limits.now file.now asked (content_text o.content)
         (string_bytes o.left_out.channels) o.left_out.loss) }
+    ensures frames { IfOk result (λ o. o.left_out.frames ≡ one_frame) }
     ensures writable { IfOk result (λ o. IsWritable o.content) }
     ensures later { IfOk result (λ o. HasLaterError file.now o.left_out.later_error) }
     ensures err { IfErr result (TextFails limits.now file.now asked) }
@@ -211,11 +218,122 @@ pub fn picture_of_file<P: Progress + Line>(
     }
 }
 
+// Whether the frames of a file that was read by these limits can be decoded, as far as the reason tells why it is not
+// decoded as a still picture.
+fn support_frames(read: &JxlFile<'_>, limits: &Limits) -> Result<(), Failure>
+    ensures ok { OnOk result (has_frames (reason_of read.now) ≡ true) }
+    ensures err { (file : List ℕ) → IsReadOf limits.now file read.now
+        → IfErr result (InfoFails limits.now file) }
+{
+    if let Some(error) = read.reason() {
+        if is_of_layers(error) {
+            return Ok(());
+        }
+    }
+    support(read, limits)
+}
+
+/// The picture with this number among those that a file shows, from 0 on, with the format that is asked for, or that of
+/// its kind. If there is no such format, no sample is decoded.
+pub fn frame_of_file(
+    alloc: Global,
+    file: &[u8],
+    number: u32,
+    asked: Option<OutputFormat>,
+    limits: &Limits,
+) -> Result<Output, Failure>
+    ensures text { IfOk result (λ o. IsTextOfFrame limits.now file.now number asked (content_text o.content)
+        (string_bytes o.left_out.channels) o.left_out.loss) }
+    ensures frames { IfOk result (λ o. o.left_out.frames ≡ one_frame) }
+    ensures writable { IfOk result (λ o. IsWritable o.content) }
+    ensures later { IfOk result (λ o. HasLaterError file.now o.left_out.later_error) }
+    ensures err { IfErr result (FrameTextFails limits.now file.now number asked) }
+{
+    let read = match JxlFile::read(alloc, file, limits) {
+        Ok(read) => read,
+        Err(error) => return Err(Failure::File(error)),
+    };
+    support_frames(&read, limits)?;
+    let Some(format) = format_for(asked, read.header()) else {
+        return Err(Failure::NoFormat);
+    };
+    let later_error = read.later_error();
+    let exif = read.exif();
+    let xmp = read.xmp();
+    let decoded = match decode_frame(alloc, file, number, limits) {
+        Ok(decoded) => decoded,
+        Err(error) => return Err(Failure::Frames(error)),
+    };
+    let Some(picture) = decoded else {
+        return Err(Failure::NoFrame(number));
+    };
+    output_of(alloc, picture, format, exif, xmp, later_error)
+}
+
+// How many pictures a file shows, as far as its headers tell.
+fn count_of_file(alloc: Global, file: &[u8], limits: &Limits) -> Result<FrameCount, Failure>
+    ensures ok { IfOk result (CountsFrames limits.now file.now) }
+    ensures err { (number : ℕ) (asked : Option TheFormat) → IfErr result (FrameTextFails limits.now file.now number asked) }
+{
+    let timeline = timeline_of_file(alloc, file, limits)?;
+    Ok(FrameCount {
+        count: timeline.durations.len(),
+        is_all: timeline.reason.is_none(),
+    })
+}
+
+// The first picture of a file that has several, or layers.
+fn first_of_file(
+    alloc: Global,
+    file: &[u8],
+    asked: Option<OutputFormat>,
+    limits: &Limits,
+) -> Result<Output, Failure>
+    ensures text { IfOk result (λ o. IsTextOfFrame limits.now file.now 0 asked (content_text o.content)
+        (string_bytes o.left_out.channels) o.left_out.loss) }
+    ensures frames { IfOk result (λ o. CountsFrames limits.now file.now o.left_out.frames) }
+    ensures writable { IfOk result (λ o. IsWritable o.content) }
+    ensures later { IfOk result (λ o. HasLaterError file.now o.left_out.later_error) }
+    ensures err { IfErr result (FrameTextFails limits.now file.now 0 asked) }
+{
+    let frames = count_of_file(alloc, file, limits)?;
+    let Output { content, left_out } = frame_of_file(alloc, file, 0, asked, limits)?;
+    let left_out = left_out.of_first(frames);
+    Ok(Output { content, left_out })
+}
+
+// The picture of a file; or its first one, if it has several, or layers.
+fn shown_of_file<P: Progress + Line>(
+    alloc: Global,
+    file: &[u8],
+    asked: Option<OutputFormat>,
+    limits: &Limits,
+    progress: &mut P,
+) -> Result<Output, Failure>
+    ensures text { IfOk result (λ o. IsPictureText limits.now file.now asked (content_text o.content)
+        (string_bytes o.left_out.channels) o.left_out.loss o.left_out.frames) }
+    ensures writable { IfOk result (λ o. IsWritable o.content) }
+    ensures later { IfOk result (λ o. HasLaterError file.now o.left_out.later_error) }
+    ensures err { IfErr result (PictureFails limits.now file.now asked) }
+{
+    match picture_of_file(alloc, file, asked, limits, progress) {
+        Ok(output) => Ok(output),
+        Err(failure) => {
+            if is_layered(failure) {
+                first_of_file(alloc, file, asked, limits)
+            } else {
+                Err(failure)
+            }
+        }
+    }
+}
+
 // Nothing of a file, which is one of JPEG XL.
 fn nothing_of_file(alloc: Global, file: &[u8], limits: &Limits) -> Result<Output, Failure>
     ensures text { IfOk result (λ o. content_text o.content ≡ []) }
     ensures channels { IfOk result (λ o. string_bytes o.left_out.channels ≡ []) }
     ensures loss { IfOk result (λ o. o.left_out.loss ≡ NoLoss) }
+    ensures frames { IfOk result (λ o. o.left_out.frames ≡ one_frame) }
     ensures writable { IfOk result (λ o. IsWritable o.content) }
     ensures later { IfOk result (λ o. HasLaterError file.now o.left_out.later_error) }
     ensures err { IfErr result (InfoFails limits.now file.now) }
@@ -237,14 +355,15 @@ fn output_asked<P: Progress + Line>(
     progress: &mut P,
 ) -> Result<Output, Failure>
     ensures ok { IfOk result (λ o. IsAsked options.now.task options.now.limits options.now.format file.now
-        (content_text o.content) (string_bytes o.left_out.channels) o.left_out.loss) }
+        (content_text o.content) (string_bytes o.left_out.channels) o.left_out.loss o.left_out.frames) }
     ensures writable { IfOk result (λ o. IsWritable o.content) }
     ensures later { IfOk result (λ o. HasLaterError file.now o.left_out.later_error) }
     ensures err { IfErr result (AskedFails options.now.task options.now.limits options.now.format file.now) }
 {
     match options.task {
         Task::Headers => info_of_file(alloc, file, &options.limits),
-        Task::Picture => { picture_of_file(alloc, file, options.format, &options.limits, progress) }
+        Task::Picture => { shown_of_file(alloc, file, options.format, &options.limits, progress) }
+        Task::Frame(number) => frame_of_file(alloc, file, number, options.format, &options.limits),
         Task::Nothing => nothing_of_file(alloc, file, &options.limits),
     }
 }
@@ -429,7 +548,8 @@ fn asked_of_file<'a, P: Progress + Line>(
     progress: &mut P,
 ) -> Result<Asked<'a>, Failure>
     ensures ok { IfOk result (λ a. IsAsked options.now.task options.now.limits options.now.format file.now
-        (content_text a.output.content) (string_bytes a.output.left_out.channels) a.output.left_out.loss) }
+        (content_text a.output.content) (string_bytes a.output.left_out.channels) a.output.left_out.loss
+        a.output.left_out.frames) }
     ensures writable { IfOk result (λ a. IsWritable a.output.content) }
     ensures later { IfOk result (λ a. HasLaterError file.now a.output.left_out.later_error) }
     ensures profile { IfOk result (λ a. IsFound (is_some options.now.paths.icc)
@@ -458,7 +578,7 @@ fn carry_out<R: Read, W: Flush, F: Flush, P: Progress + Line>(
 ) -> Result<LeftOut, Failure>
     ensures done { IfOk result (λ l. IsWritten options.now.task options.now.limits options.now.format
         (R.remaining input.old) (R.remaining input.new) (W.contents output.old) (W.contents output.new)
-        (string_bytes l.channels) l.loss l.later_error) }
+        (string_bytes l.channels) l.loss l.frames l.later_error) }
     ensures saved { OnOk result (IsReadWhole (R.remaining input.old) (R.remaining input.new) (λ file.
         IsSaved (is_some options.now.paths.icc) (λ bytes. ProfileOfFile options.now.limits file (Some bytes))
         (F.contents extras.old.profile) (F.contents extras.new.profile) (F.is_flushed extras.new.profile)
@@ -507,10 +627,10 @@ fn succeed<E: Write>(errors: &mut E, options: &Options<'_>, left_out: &LeftOut) 
     ensures status { result.status ≡ 0 }
     ensures lines { IsTrue result.reported → Appends (E.contents errors.old) (E.contents errors.new)
         (warnings options.now.quiet options.now.input.now (string_bytes left_out.now.channels) left_out.now.loss
-        left_out.now.later_error) }
+        left_out.now.frames left_out.now.later_error) }
     ensures quiet { options.now.quiet ≡ true → errors.new ≡ errors.old }
     ensures none { string_bytes left_out.now.channels ≡ [] → has_loss left_out.now.loss ≡ false
-        → left_out.now.later_error ≡ None → errors.new ≡ errors.old }
+        → has_more left_out.now.frames ≡ false → left_out.now.later_error ≡ None → errors.new ≡ errors.old }
 {
     let reported = !options.quiet && warn(errors, options.input, left_out);
     End {

@@ -5,7 +5,7 @@ ghost use Rattle.std.specs.Io.KnownBytes.{Appends};
 ghost use Rattle.jxl_image_header.specs.Images.{image_of};
 ghost use Rattle.jxl_picture.specs.Pictures.{is_full_alpha as the_full_alpha};
 ghost use Rattle.jxldec.specs.Losses.{has_loss, loss_in, unless_saved as the_unless_saved};
-ghost use Rattle.jxldec.specs.Warnings.{kinds_left_out, later_line, left_out_lines, warning_lines};
+ghost use Rattle.jxldec.specs.Warnings.{frames_line, has_more as the_has_more, kinds_left_out, later_line, left_out_lines, one_frame, or_more as the_or_more, warning_lines};
 ghost use Rattle.jxldec.specs.Inner.Kinds.{rest_kinds};
 
 use crate::format::OutputFormat;
@@ -21,6 +21,33 @@ use std::alloc::Global;
 use std::io::Write;
 use std::{fmt, io};
 
+/// How many pictures a file shows, as far as its headers tell.
+#[derive(Clone, Copy)]
+pub struct FrameCount {
+    pub count: usize,
+    /// Whether no more can follow.
+    pub is_all: bool,
+}
+
+impl FrameCount {
+    /// One picture.
+    pub fn one() -> FrameCount
+        ensures { result ≡ one_frame }
+    {
+        FrameCount {
+            count: 1,
+            is_all: true,
+        }
+    }
+
+    /// Whether there are more, or may be.
+    pub fn has_more(self) -> bool
+        ensures { result ≡ the_has_more self }
+    {
+        self.count > 1 || !self.is_all
+    }
+}
+
 /// What the output leaves out of a file: of the picture, and of the boxes after the codestream.
 #[derive(Drop)]
 pub struct LeftOut {
@@ -28,6 +55,8 @@ pub struct LeftOut {
     pub channels: String,
     /// What the format does not hold of what its samples mean.
     pub loss: Loss,
+    /// How many pictures the file shows, of which the first is written.
+    pub frames: FrameCount,
     /// The first error of the boxes after the codestream, if there is one: from there on they are left out.
     pub later_error: Option<BoxError>,
 }
@@ -66,6 +95,7 @@ impl LeftOut {
         ensures channels { IfOk result (λ l. string_bytes l.channels
             ≡ kinds_left_out format (image_of header.now).ec_info) }
         ensures loss { IfOk result (λ l. l.loss ≡ loss_in format (image_of header.now)) }
+        ensures frames { IfOk result (λ l. l.frames ≡ one_frame) }
         ensures later { IfOk result (λ l. l.later_error ≡ later_error) }
     {
         let mut channels = String::new(alloc);
@@ -79,6 +109,7 @@ impl LeftOut {
         Ok(LeftOut {
             channels,
             loss: Loss::of(format, header),
+            frames: FrameCount::one(),
             later_error,
         })
     }
@@ -87,11 +118,28 @@ impl LeftOut {
     pub fn but_saved(self, saved: bool) -> LeftOut
         ensures channels { string_bytes result.channels ≡ string_bytes self.channels }
         ensures loss { result.loss ≡ the_unless_saved saved self.loss }
+        ensures frames { result.frames ≡ self.frames }
         ensures later { result.later_error ≡ self.later_error }
     {
         LeftOut {
             channels: self.channels,
             loss: self.loss.unless_saved(saved),
+            frames: self.frames,
+            later_error: self.later_error,
+        }
+    }
+
+    /// The same, of the first of these frames.
+    pub fn of_first(self, frames: FrameCount) -> LeftOut
+        ensures channels { string_bytes result.channels ≡ string_bytes self.channels }
+        ensures loss { result.loss ≡ self.loss }
+        ensures frames { result.frames ≡ frames }
+        ensures later { result.later_error ≡ self.later_error }
+    {
+        LeftOut {
+            channels: self.channels,
+            loss: self.loss,
+            frames,
             later_error: self.later_error,
         }
     }
@@ -100,11 +148,13 @@ impl LeftOut {
     pub fn boxes(alloc: Global, later_error: Option<BoxError>) -> LeftOut
         ensures channels { string_bytes result.channels ≡ [] }
         ensures loss { result.loss ≡ Loss.Nothing }
+        ensures frames { result.frames ≡ one_frame }
         ensures later { result.later_error ≡ later_error }
     {
         LeftOut {
             channels: String::new(alloc),
             loss: Loss::Nothing,
+            frames: FrameCount::one(),
             later_error,
         }
     }
@@ -137,6 +187,38 @@ impl fmt::Display for Warnings<'_> {
     }
 }
 
+// The end of a count: nothing if it is that of all.
+fn or_more(is_all: bool) -> &'static str
+    ensures { result.now ≡ the_or_more is_all }
+{
+    if is_all { "" } else { " or more" }
+}
+
+// The line on the pictures of a file of this name that are left out, if there are any.
+#[derive(Clone, Copy)]
+struct FramesLine<'a> {
+    name: &'a str,
+    frames: FrameCount,
+}
+
+impl fmt::Display for FramesLine<'_> {
+    ghost use Rattle.std.specs.Prelude.{Some};
+
+    ghost output = { λ l. Some (frames_line l.name.now l.frames) };
+
+    #[tactic(auto, unfolding(crate::specs::Warnings::frames_line))]
+    fn fmt<W: fmt::Write>(&self, f: &mut fmt::Formatter<W>) -> fmt::Result {
+        let (name, count, more) = (self.name, self.frames.count, or_more(self.frames.is_all));
+        if self.frames.has_more() {
+            writeln!(
+                f,
+                "jxldec: {name}: frame 0 of {count}{more}; --frame N writes another"
+            )?;
+        }
+        Ok(())
+    }
+}
+
 // The line on the error of the boxes after the codestream of a file of this name, if they have one.
 #[derive(Clone, Copy)]
 struct LaterError<'a> {
@@ -161,17 +243,18 @@ impl fmt::Display for LaterError<'_> {
 }
 
 /// Writes a line on channels that were left out, if there are any, those on what the format does not hold of the meaning
-/// of samples, and one on the error of the boxes after the codestream, as far as they can be written. It returns whether
-/// lines were written.
+/// of samples, one on the pictures that were left out, and one on the error of the boxes after the codestream, as far as
+/// they can be written. It returns whether lines were written.
 pub fn warn<E: Write>(errors: &mut E, name: &str, left_out: &LeftOut) -> bool
     ensures lines { IsTrue result → Appends (E.contents errors.old) (E.contents errors.new)
-        (warning_lines name.now (string_bytes left_out.now.channels) left_out.now.loss left_out.now.later_error) }
+        (warning_lines name.now (string_bytes left_out.now.channels) left_out.now.loss left_out.now.frames
+        left_out.now.later_error) }
     ensures none { string_bytes left_out.now.channels ≡ [] → has_loss left_out.now.loss ≡ false
-        → left_out.now.later_error ≡ None → errors.new ≡ errors.old }
+        → the_has_more left_out.now.frames ≡ false → left_out.now.later_error ≡ None → errors.new ≡ errors.old }
 {
     let (channels, loss) = (left_out.channels.as_str(), left_out.loss);
-    let later_error = left_out.later_error;
-    if channels.is_empty() && !loss.has_line() && later_error.is_none() {
+    let (frames, later_error) = (left_out.frames, left_out.later_error);
+    if channels.is_empty() && !loss.has_line() && !frames.has_more() && later_error.is_none() {
         return false;
     }
     let warnings = Warnings {
@@ -179,9 +262,10 @@ pub fn warn<E: Write>(errors: &mut E, name: &str, left_out: &LeftOut) -> bool
         channels,
         loss,
     };
+    let others = FramesLine { name, frames };
     let later = LaterError {
         name,
         error: later_error,
     };
-    write!(errors, "{warnings}{later}").is_ok()
+    write!(errors, "{warnings}{others}{later}").is_ok()
 }

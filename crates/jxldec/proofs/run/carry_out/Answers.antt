@@ -26,6 +26,7 @@ returns-in_err-save_all-clause-failed g c =
         text = _;
         others = _;
         loss = _;
+        frames = _;
         is = c.in_ok-asked.ensures.ok;
         begun = whole_begins _ _ _ c.in_ok-pass_on.ensures.ok;
       };

@@ -1,0 +1,2 @@
+pub mod Timelines
+pub mod Lines
