@@ -299,7 +299,7 @@ impl<'a> FrameDecoder<'a> {
             frame: front,
             slots: &self.slots,
         };
-        match input.decode::<EntropyDecoder, ()>(alloc, steps, &mut ()) {
+        match input.decode_entropy_coded::<()>(alloc, steps, &mut ()) {
             Ok(channels) => Ok(channels),
             Err(error) => Err(AnimationError::File(error)),
         }

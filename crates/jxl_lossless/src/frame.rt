@@ -5,6 +5,8 @@ ghost use Rattle.std.specs.Int.{w32};
 ghost use Rattle.jxlm_bits.specs.Bits.{bytes_of, position_of};
 ghost use Rattle.jxl_image_header.specs.Images.{image_of};
 ghost use Rattle.jxl_frame_header.specs.Frames.{frame_of};
+ghost use Rattle.jxl_coding.specs.Parse.{decoder_at};
+ghost use Rattle.jxl_coding.specs.Tokens.{entropy};
 ghost use Rattle.jxl_codestream.specs.FrontParts.{frame_at};
 ghost use Rattle.jxl_modular.specs.Image.{image_grids};
 ghost use Rattle.jxl_picture.specs.Pictures.{AreChannels, colour_count};
@@ -18,6 +20,7 @@ use crate::sections::sections;
 use crate::still::decode::decode_frame;
 use crate::still::places::Places;
 use crate::tree::shared_tree;
+use jxl_coding::decoder::EntropyDecoder;
 use jxl_codestream::frame::FrameFront;
 use jxl_image_header::channel::ExtraChannel;
 use jxl_image_header::image::ImageHeader;
@@ -127,6 +130,23 @@ impl FrameInput<'_> {
             },
         };
         cut.decode_patched::<D, P>(alloc, steps, progress)
+    }
+
+    /// The same by the codes of JPEG XL: crates above that call this share one copy of the loops over samples.
+    pub fn decode_entropy_coded<P: Progress>(
+        self,
+        alloc: Global,
+        steps: &mut Steps,
+        progress: &mut P,
+    ) -> Result<Vec<AlignedGrid<i32>>, FileError>
+        requires ready { IsReadyInput self }
+        ensures ok { IfOk result (λ v. IsFrame (entropy decoder_at) (image_in self.entry) (slots_in self.entry)
+            self.entry.bytes.now (frame_at self.entry.frame.now) v.items steps.old steps.new) }
+        ensures sides { IfOk result (λ v. AreChannels (image_in self.entry) (size_of self.entry) v.items) }
+        ensures err { IfErr result (FrameFails (entropy decoder_at) (image_in self.entry) (slots_in self.entry)
+            self.entry.bytes.now (frame_at self.entry.frame.now)) }
+    {
+        self.decode::<EntropyDecoder, P>(alloc, steps, progress)
     }
 }
 

@@ -367,6 +367,7 @@ impl<S> PredictorState<S> {
     }
 
     /// What the weighted predictor makes of the cell with these neighbours, where there are weights.
+    #[inline(always)]
     pub(crate) fn correction<const EDGE: bool>(&self, around: &Around) -> Option<PredictionResult>
         requires stands { Stands self.now }
         requires inner { EDGE ≡ false → IsInner self.now }

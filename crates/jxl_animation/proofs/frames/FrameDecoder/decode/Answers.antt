@@ -8,8 +8,8 @@ use Rattle.jxl_animation.specs.Decoders.{bytes_in, image_in, state_of}
 use Rattle.jxl_animation.proofs.States.{frame_fails}
 use Rattle.jxl_animation.proofs.frames.FrameDecoder.decode.Goals as goal
 
-pub decode-requires : goal.decode-requires
-decode-requires c = record {
+pub decode_entropy_coded-requires : goal.decode_entropy_coded-requires
+decode_entropy_coded-requires c = record {
   ready = record {
     frame = subst (λ (b : List ℕ). IsReadyFrame b (image_in c.args.self.now.source) c.args.front.now) (sym c.bytes.ensures) c.requires.frame;
     deep = c.requires.ready.source.deep;
