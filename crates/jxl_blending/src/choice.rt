@@ -18,10 +18,10 @@ fn one_of(depth: BitDepth) -> u32
 }
 
 // The sample of an extra channel that stands for 1; 0 if there is no such channel.
-fn one_of_extra(image: &ImageHeader, channel: u32) -> u32
+fn one_of_extra(image: &ImageHeader, channel: usize) -> u32
     ensures { result ≡ the_one_of_extra (image_of image.now) channel }
 {
-    match image.ec_info.get(channel as usize) {
+    match image.ec_info.get(channel) {
         Some(channel) => one_of(channel.bit_depth),
         None => 0,
     }
@@ -117,7 +117,7 @@ impl ChannelBlending {
         let premultiplied = is_premultiplied(image, info.alpha_channel);
         let kind = colour_kind(info.mode, has_alpha(image), premultiplied);
         let own = one_of(image.bit_depth);
-        let alpha = one_of_extra(image, info.alpha_channel);
+        let alpha = one_of_extra(image, info.alpha_channel as usize);
         ChannelBlending {
             kind,
             one: one_for(kind, own, alpha),
@@ -126,13 +126,17 @@ impl ChannelBlending {
     }
 
     /// How the extra channel of this number is blended.
-    pub fn of_extra(image: &ImageHeader, info: BlendingInfo, channel: u32) -> ChannelBlending
+    pub fn of_extra(image: &ImageHeader, info: BlendingInfo, channel: usize) -> ChannelBlending
         ensures { result ≡ extra_blending (image_of image.now) info channel }
     {
         let premultiplied = is_premultiplied(image, info.alpha_channel);
-        let kind = extra_kind(info.mode, channel == info.alpha_channel, premultiplied);
+        let kind = extra_kind(
+            info.mode,
+            channel == info.alpha_channel as usize,
+            premultiplied,
+        );
         let own = one_of_extra(image, channel);
-        let alpha = one_of_extra(image, info.alpha_channel);
+        let alpha = one_of_extra(image, info.alpha_channel as usize);
         ChannelBlending {
             kind,
             one: one_for(kind, own, alpha),

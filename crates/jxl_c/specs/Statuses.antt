@@ -57,7 +57,6 @@ status_of_front (fronts.Contents e) = status_of_field e
 -- of an error of patches
 abbrev pub status_of_patches : PatchError → ℕ
 status_of_patches (patches.Decoder e) = status_of_tokens e
-status_of_patches patches.Blended = 4
 status_of_patches patches.TooLarge = 5
 status_of_patches patches.OutOfMemory = 6
 status_of_patches e = 2

@@ -97,7 +97,6 @@ fn of_patches(error: PatchError) -> u32
     match error {
         PatchError::Invalid { .. } => INVALID,
         PatchError::Decoder(error) => of_tokens(error),
-        PatchError::Blended => UNSUPPORTED,
         PatchError::TooLarge => TOO_LARGE,
         PatchError::OutOfMemory => NO_MEMORY,
     }

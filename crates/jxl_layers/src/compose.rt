@@ -46,7 +46,7 @@ impl<'a> Composition<'a> {
         if channel < colours {
             ChannelBlending::of_colours(self.image, info)
         } else {
-            ChannelBlending::of_extra(self.image, info, (channel - colours) as u32)
+            ChannelBlending::of_extra(self.image, info, channel - colours)
         }
     }
 

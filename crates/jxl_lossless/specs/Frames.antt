@@ -99,7 +99,7 @@ module _ {D : Type 0} (d : Meaning D) (image : Image) (slots : Slots) (bytes : L
     pub own : List (Grid ℤ)
     pub still : IsStill d w32 tree.global (channels_given image sides) frame.header.group_dim image.bit_depth.bits_per_sample
         first tree.begin (passes_of (pass_shifts frame.header.passes)) (section_of (layout_in image frame.header) (sections_in bytes frame)) frame.trees own before after
-    pub put : ArePut slots (colour_count image) tree.after.patches own grids
+    pub put : ArePut image slots (colour_count image) tree.after.patches own grids
 
   -- what each error says: up to which stage all stands, and what fails there
   abbrev pub FrameFails : FileError → Type 0

@@ -193,7 +193,16 @@ impl<'a> SectionsInput<'a, '_> {
         if !there {
             return Ok(channels);
         }
-        put_patches(&patches, size, colours(image), extra, slots, &mut channels);
+        put_patches(
+            alloc,
+            &patches,
+            image,
+            size,
+            colours(image),
+            extra,
+            slots,
+            &mut channels,
+        )?;
         Ok(channels)
     }
 

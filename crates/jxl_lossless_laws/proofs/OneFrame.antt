@@ -139,9 +139,9 @@ module _ {D : Type 0} (d : Meaning D) (limits : Limits) (bytes : List ℕ) (imag
       pub fits_own : Fits (frames_of slots) (colour_count image) p f.own
       fits_own = fits (colour_count image) (length image.ec_info) size slots p f.own within.1 (hold_frames image slots no_shifts held) own_size
 
-    put_channels : (o : Option Patches) → f.tree.after.patches ≡ o → ArePut slots (colour_count image) o f.own gs → AreChannels image size gs
+    put_channels : (o : Option Patches) → f.tree.after.patches ≡ o → ArePut image slots (colour_count image) o f.own gs → AreChannels image size gs
     put_channels None is put = subst (AreChannels image size) (sym put) own_are
-    put_channels (Some p) is put = of_one_size image size gs (no_shifts p is) (sizes_stay (channel_count image) (colour_count image) size slots p f.own gs put (own_size p is))
+    put_channels (Some p) is put = of_one_size image size gs (no_shifts p is) (sizes_stay image (channel_count image) (colour_count image) size slots p f.own gs put (own_size p is))
 
     -- a frame has all channels of its image
     pub frame_channels : AreChannels image size gs
@@ -157,6 +157,6 @@ module _ {D : Type 0} (d : Meaning D) (limits : Limits) (bytes : List ℕ) (imag
       let placed = subst (λ n. StillOf g.tree.global n g.own from to) (sym tree.1) g.still in
       let still = subst (λ (c : Option (Config D)). StillOf c f.tree.begin g.own from to) (sym tree.0) placed in
       let own : f.own ≡ g.own = one_own f.tree.global f.tree.begin f.own g.own before after from to f.still still in
-      let by_same = subst (λ (o : Option Patches). ArePut others (colour_count image) o g.own hs) (sym patches.0) g.put in
-      let put = subst (λ (old : List (Grid ℤ)). ArePut others (colour_count image) f.tree.after.patches old hs) (sym own) by_same in
-      same_put some others same (colour_count image) f.tree.after.patches f.own gs hs (λ p is. fits_own some held gs before after f p is) f.put put
+      let by_same = subst (λ (o : Option Patches). ArePut image others (colour_count image) o g.own hs) (sym patches.0) g.put in
+      let put = subst (λ (old : List (Grid ℤ)). ArePut image others (colour_count image) f.tree.after.patches old hs) (sym own) by_same in
+      same_put some others same image (colour_count image) f.tree.after.patches f.own gs hs (λ p is. fits_own some held gs before after f p is) f.put put

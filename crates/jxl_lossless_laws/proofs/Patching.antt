@@ -3,14 +3,17 @@ use Rattle.std.proofs.Common.{◌≡◌, inl, inr, ℕ, zero, suc, ◌+◌, ◌-
 use Rattle.std.specs.List.{AllZip}
 use Rattle.std.specs.Prelude.{set}
 use Rattle.jxlm_base.specs.Grid.{Grid, grid}
+use Rattle.jxl_image_header.specs.Images.{Image}
 use Rattle.jxl_image_header.specs.declared.size.Size.{Size}
 use Rattle.jxl_patches.specs.Dictionaries.{place_at}
-use Rattle.jxl_patches.specs.Patched.{ArePatched, Fits, channel_of, mixed_sample, mode_at, patched_sample, sample_laid, sample_put}
+use Rattle.jxl_patches.specs.Patched.{ArePatched, Fits, Patching, alpha_of, channel_of, mode_at, patched_pixel, patching, pixel, pixel_put, sample_laid}
 use Rattle.jxl_patches.specs.Patches.{Patches}
 use Rattle.jxl_patches.specs.Slots.{ArePut, Saved, Slots, frames_of, no_slots, saved_in, sizes_of}
 use Rattle.jxl_patches.specs.declared.dictionary.PatchMode.{PatchMode}
 use Rattle.jxl_patches.specs.declared.dictionary.Place.{Place}
-use Rattle.jxl_patches.proofs.Putting.{in_or_out, put_inside, put_outside}
+use Rattle.jxl_patches.proofs.Channels.{alpha_below}
+use Rattle.jxl_patches.proofs.MixedCells.{same_mixed}
+use Rattle.jxl_patches.proofs.Putting.{IsInside, covers_inside, covers_outside, in_or_out}
 use Rattle.jxl_lossless_laws.specs.Same.{AreSameChannels, IsSameChannel}
 
 -- ---- the same channels
@@ -88,36 +91,47 @@ module _ (some others : Slots) (same : SameSlots some others) where
   source_same : (slot channel : ℕ) → IsSameChannel (channel_of (frames_of some) slot channel) (channel_of (frames_of others) slot channel)
   source_same slot channel = channel_same (get_or (frames_of some) slot []) (get_or (frames_of others) slot []) channel (frame_same some others slot same)
 
-  module _ (colours : ℕ) (patches : Patches) (old : List (Grid ℤ)) (fits : Fits (frames_of some) colours patches old) (c : ℕ) (within : c < length old) (kinds kind x y : ℕ) where
-    put_same : (n : ℕ) → n < length patches.places → (mode : PatchMode) (u v : ℤ) → u ≡ v →
-        sample_put (channel_of (frames_of some) (place_at patches n).source.slot c) (place_at patches n) mode x y u ≡ sample_put (channel_of (frames_of others) (place_at patches n).source.slot c) (place_at patches n) mode x y v
-    put_same n lt mode u v e = elim (in_or_out (place_at patches n) x y) [
-      | inl inside ↦
-          let p : Place = place_at patches n in
-          let one : Grid ℤ = channel_of (frames_of some) p.source.slot c in
-          let other : Grid ℤ = channel_of (frames_of others) p.source.slot c in
-          let fit = fits.places n c lt within in
-          let wide = fit.source_columns in
-          let high = fit.source_rows in
-          let left = inside.left in
-          let right = inside.right in
-          let top = inside.top in
-          let bottom = inside.bottom in
-          let laid : sample_laid one p x y ≡ sample_laid other p x y =
-          (source_same p.source.slot c).samples (p.source.x0 + (x - p.x)) (p.source.y0 + (y - p.y)) (omega (arith, wide, left, right)) (omega (arith, high, top, bottom)) in
-          put_inside one p mode x y u inside ∙ ap (λ w. mixed_sample mode w (sample_laid one p x y)) e ∙ ap (λ w. mixed_sample mode v w) laid ∙ sym (put_inside other p mode x y v inside)
-      | inr out ↦ put_outside (channel_of (frames_of some) (place_at patches n).source.slot c) (place_at patches n) mode x y u out ∙ e
-          ∙ sym (put_outside (channel_of (frames_of others) (place_at patches n).source.slot c) (place_at patches n) mode x y v out)
-    ]
+  module _ (image : Image) (colours : ℕ) (patches : Patches) (old : List (Grid ℤ)) (fits : Fits (frames_of some) colours patches old) (x y : ℕ) where
+    abbrev one : Patching
+    one = patching image (frames_of some) colours patches old
 
-    patched_same : (v : ℤ) (n : ℕ) → n ≤ length patches.places → patched_sample (frames_of some) patches kinds kind c x y n v ≡ patched_sample (frames_of others) patches kinds kind c x y n v
-    unfolding patched_sample
-    patched_same v zero le = refl
-    patched_same v (suc n) le = put_same n (omega (arith, le)) (mode_at patches kinds kind n) _ _ (patched_same v n (omega (arith, le)))
+    abbrev other : Patching
+    other = patching image (frames_of others) colours patches old
+
+    -- the sample of either that lies on a pixel
+    laid_same : (n k : ℕ) → n < length patches.places → k < length old → IsInside (place_at patches n) x y →
+        sample_laid (channel_of (frames_of some) (place_at patches n).source.slot k) (place_at patches n) x y ≡ sample_laid (channel_of (frames_of others) (place_at patches n).source.slot k) (place_at patches n) x y
+    laid_same n k lt within inside =
+        let p : Place = place_at patches n in
+        let fit = fits.places n k lt within in
+        let wide = fit.source_columns in
+        let high = fit.source_rows in
+        let left = inside.left in
+        let right = inside.right in
+        let top = inside.top in
+        let bottom = inside.bottom in
+        (source_same p.source.slot k).samples (p.source.x0 + (x - p.x)) (p.source.y0 + (y - p.y)) (omega (arith, wide, left, right)) (omega (arith, high, top, bottom))
+
+    put_same : (n : ℕ) → n < length patches.places → (f g : ℕ → ℤ) → ((k : ℕ) → k < length old → f k ≡ g k) → (c : ℕ) → c < length old → pixel_put one n x y f c ≡ pixel_put other n x y g c
+    put_same n lt f g same c within =
+        let mode : PatchMode = mode_at patches colours (length old) n c in
+        let alpha : ℕ = alpha_of colours (length old) mode c in
+        let below : alpha < length old = alpha_below colours (length old) mode c within in
+        elim (in_or_out (place_at patches n) x y) [
+          | inl inside ↦ rw (covers_inside (place_at patches n) x y inside)
+              (same_mixed image colours mode c _ _ _ _ _ _ _ _ (laid_same n c lt within inside) (laid_same n alpha lt below inside) (same c within) (same alpha below))
+          | inr out ↦ rw (covers_outside (place_at patches n) x y out) (same c within)
+        ]
+
+    patched_same : (samples : ℕ → ℤ) (n : ℕ) → n ≤ length patches.places → (c : ℕ) → c < length old → patched_pixel one x y n samples c ≡ patched_pixel other x y n samples c
+    unfolding patched_pixel
+    patched_same samples zero le c within = refl
+    patched_same samples (suc n) le c within = put_same n (omega (arith, le)) _ _ (patched_same samples n (omega (arith, le))) c within
 
   -- channels that are patched by either
-  pub same_patched : (colours : ℕ) (patches : Patches) (old gs hs : List (Grid ℤ)) → Fits (frames_of some) colours patches old → ArePatched (frames_of some) colours patches old gs → ArePatched (frames_of others) colours patches old hs → AreSameChannels gs hs
-  same_patched colours patches old gs hs fits a b =
+  pub same_patched : (image : Image) (colours : ℕ) (patches : Patches) (old gs hs : List (Grid ℤ)) → Fits (frames_of some) colours patches old → ArePatched image (frames_of some) colours patches old gs →
+      ArePatched image (frames_of others) colours patches old hs → AreSameChannels gs hs
+  same_patched image colours patches old gs hs fits a b =
       from_each gs hs (a.count ∙ sym b.count) (λ c lt.
       let within : c < length old = subst (λ n. c < n) a.count lt in
       record {
@@ -126,11 +140,11 @@ module _ (some others : Slots) (same : SameSlots some others) where
         samples = λ x y lx ly.
             let wide : x < (get_or old c (grid 0 0 [])).width = subst (λ n. x < n) (a.width c within) lx in
             let high : y < (get_or old c (grid 0 0 [])).height = subst (λ n. y < n) (a.height c within) ly in
-            a.each c x y within wide high ∙ patched_same colours patches old fits c within _ _ x y _ (length patches.places) (omega arith) ∙ sym (b.each c x y within wide high);
+            a.each c x y within wide high ∙ patched_same image colours patches old fits x y (pixel old x y) (length patches.places) (omega arith) c within ∙ sym (b.each c x y within wide high);
       })
 
   -- patches are put, if there are any
-  pub same_put : (colours : ℕ) (patches : Option Patches) (old gs hs : List (Grid ℤ)) → ((p : Patches) → patches ≡ Some p → Fits (frames_of some) colours p old) →
-      ArePut some colours patches old gs → ArePut others colours patches old hs → AreSameChannels gs hs
-  same_put colours None old gs hs fits a b = all_same gs hs (a ∙ sym b)
-  same_put colours (Some p) old gs hs fits a b = same_patched colours p old gs hs (fits p refl) a b
+  pub same_put : (image : Image) (colours : ℕ) (patches : Option Patches) (old gs hs : List (Grid ℤ)) → ((p : Patches) → patches ≡ Some p → Fits (frames_of some) colours p old) →
+      ArePut image some colours patches old gs → ArePut image others colours patches old hs → AreSameChannels gs hs
+  same_put image colours None old gs hs fits a b = all_same gs hs (a ∙ sym b)
+  same_put image colours (Some p) old gs hs fits a b = same_patched image colours p old gs hs (fits p refl) a b

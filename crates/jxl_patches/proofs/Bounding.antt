@@ -35,13 +35,13 @@ module _ {S : Type 0} (d : Meaning S) where
   abbrev put : Patches → ℕ
   put a = sum_by area a.places
 
-  modes_add : (n : ℕ) (a : Patches) (s : S) (b : After S Patches) (bytes : List ℕ) (p q : ℕ) → (chain (one_mode d) n a s).Stands bytes p b q → put b.value ≡ put a
+  modes_add : (kinds n : ℕ) (a : Patches) (s : S) (b : After S Patches) (bytes : List ℕ) (p q : ℕ) → (chain (one_mode d kinds) n a s).Stands bytes p b q → put b.value ≡ put a
   unfolding chain
-  modes_add zero a s b bytes p q st = rw st.0 refl
-  modes_add (suc n) a s b bytes p q st =
-      let first = st.2.3.0 in
+  modes_add kinds zero a s b bytes p q st = rw st.0 refl
+  modes_add kinds (suc n) a s b bytes p q st =
+      let first = st.2.3.3.3.0 in
       let places : put (st.0).value ≡ put a = ap (λ (t : After S Patches). put t.value) first in
-      modes_add n (st.0).value (st.0).state b bytes st.1 q st.3 ∙ places
+      modes_add kinds n (st.0).value (st.0).state b bytes st.1 q st.3 ∙ places
 
   module _ (size : Size) (kinds k : ℕ) (r : Rectangle) where
     place_adds : (a : Patches) (s : S) (b : After S Patches) (bytes : List ℕ) (p q : ℕ) → (one_place d size kinds k r a s).Stands bytes p b q → put b.value ≡ put a + r.width * r.height
@@ -50,7 +50,7 @@ module _ {S : Type 0} (d : Meaning S) where
         let y = st.3.0 in
         let place : Place = record { source = r; x = x.value; y = y.value } in
         let more = sum_by_push area a.places place in
-        let rest = modes_add kinds (record { places = a.places ++ place ∷ []; modes = a.modes }) y.state b bytes st.3.1 q st.3.3 in
+        let rest = modes_add kinds kinds (record { places = a.places ++ place ∷ []; modes = a.modes }) y.state b bytes st.3.1 q st.3.3 in
         omega (arith, more, rest)
 
     -- this number of places of a rectangle put its cells so often

@@ -12,9 +12,10 @@ use Rattle.jxl_image_header.specs.declared.size.Size.{Size}
 use Rattle.jxlm_bits.proofs.Cases.{less_or_same}
 use Rattle.jxlm_bits.specs.Tokens.{After, token}
 use Rattle.jxlm_bits.specs.Turns.{chain}
-use Rattle.jxl_patches.specs.Patches.{Patches, source, coordinate_of, nowhere, coordinate, one_mode, one_place, one_rectangle, dictionary}
+use Rattle.jxl_patches.specs.Patches.{Patches, source, coordinate_of, nowhere, coordinate, mode_of, one_mode, one_place, one_rectangle, dictionary}
 use Rattle.jxl_patches.specs.Dictionaries.{IsWithin, AreWithin}
 use Rattle.jxl_patches.specs.Inner.Steps.{inside}
+use Rattle.jxl_patches.specs.declared.dictionary.PatchMode.{PatchMode}
 use Rattle.jxl_patches.specs.declared.dictionary.Place.{Place}
 use Rattle.jxl_patches.specs.declared.dictionary.Rectangle.{Rectangle}
 
@@ -86,12 +87,12 @@ module _ {S : Type 0} (d : Meaning S) (size : Size) (kinds : ℕ) (slots : List 
     modes : length a.modes + owed ≡ length a.places * kinds
     each : (n : ℕ) → n < length a.places → IsWithin size slots (get_or a.places n nowhere)
 
-  mode_more : (owed : ℕ) (a : Patches) (s : S) (b : After S Patches) (bytes : List ℕ) (p q : ℕ) → Framed (suc owed) a → (one_mode d a s).Stands bytes p b q → Framed owed b.value
+  mode_more : (owed : ℕ) (a : Patches) (s : S) (b : After S Patches) (bytes : List ℕ) (p q : ℕ) → Framed (suc owed) a → (one_mode d kinds a s).Stands bytes p b q → Framed owed b.value
   mode_more owed a s b bytes p q f st =
-      let m = (st.0).value in
-      rw st.3.0 (record { modes = omega (arith, f.modes, length-append a.modes (m ∷ [])); each = f.each })
+      let m : PatchMode = mode_of (st.0).value (st.3.0).value (st.3.3.0).value in
+      rw st.3.3.3.0 (record { modes = omega (arith, f.modes, length-append a.modes (m ∷ [])); each = f.each })
 
-  modes_more : (n : ℕ) (a : Patches) (s : S) (b : After S Patches) (bytes : List ℕ) (p q : ℕ) → Framed n a → (chain (one_mode d) n a s).Stands bytes p b q → Framed 0 b.value
+  modes_more : (n : ℕ) (a : Patches) (s : S) (b : After S Patches) (bytes : List ℕ) (p q : ℕ) → Framed n a → (chain (one_mode d kinds) n a s).Stands bytes p b q → Framed 0 b.value
   unfolding chain
   modes_more zero a s b bytes p q f st = rw st.0 f
   modes_more (suc n) a s b bytes p q f st = modes_more n (st.0).value (st.0).state b bytes st.1 q (mode_more n a s st.0 bytes p st.1 f st.2) st.3

@@ -4,6 +4,7 @@ use Rattle.std.specs.Option.{option_map, option_map_or}
 use Rattle.std.proofs.Math.ListN.{get_or-map}
 use Rattle.std.proofs.lemmas.List.{get_or_default, get_or_past, length-map}
 use Rattle.jxlm_base.specs.Grid.{Grid, grid}
+use Rattle.jxl_image_header.specs.Images.{Image}
 use Rattle.jxl_image_header.specs.declared.size.Size.{Size}
 use Rattle.jxl_patches.specs.Dictionaries.{AreWithin}
 use Rattle.jxl_patches.specs.Patches.{Patches}
@@ -91,8 +92,9 @@ fits colours extra size slots patches channels within held are =
     read_patches_fit size extra (sizes_of slots) patches (frames_of slots) colours channels within saved are.sides are.count
 
 -- patched channels keep their sizes
-pub sizes_stay : (n colours : ℕ) (size : Size) (slots : Slots) (patches : Patches) (old changed : List (Grid ℤ)) → ArePatched (frames_of slots) colours patches old changed → AreOfSize n size old → AreOfSize n size changed
-sizes_stay n colours size slots patches old changed put are = record {
+pub sizes_stay : (image : Image) (n colours : ℕ) (size : Size) (slots : Slots) (patches : Patches) (old changed : List (Grid ℤ)) → ArePatched image (frames_of slots) colours patches old changed → AreOfSize n size old →
+    AreOfSize n size changed
+sizes_stay image n colours size slots patches old changed put are = record {
   count = put.count ∙ are.count;
   sides = record {
     width = λ c lt. let in_old : c < length old = omega (arith, lt, put.count) in put.width c in_old ∙ are.sides.width c in_old;

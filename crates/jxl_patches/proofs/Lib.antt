@@ -2,6 +2,8 @@ pub mod PatchLaws
 pub mod Fitting
 pub mod MixedRows
 pub mod Putting
+pub mod MixedCells
+pub mod Covering
 pub mod PatchedLaws
 pub mod Moves
 pub mod Channels

@@ -2,12 +2,13 @@
 use Rattle.std.proofs.Common.{◌≡◌, ℕ, ℤ, pos, ◌+◌, ◌-◌, ◌<◌, ◌≤◌, List, ◌++◌, length, get_or, take, drop, set, ◌⊎◌, inl, inr, refl, ap, ◌∙◌, arith}
 use Rattle.std.proofs.lemmas.Bool.{cases_lt}
 use Rattle.std.proofs.lemmas.List.{length-append, length-take-le, length-drop, length-set, get_or-append-add, get_or-append_right, get_or_append_left, get_or-take, get_or-drop, get_or-set_same, get_or-set_other}
-use Rattle.jxl_patches.specs.Patched.{mixed_sample}
+use Rattle.std.specs.Prelude.{Bool}
+use Rattle.jxl_blending.specs.declared.blending.ChannelBlending.{ChannelBlending}
+use Rattle.jxl_patches.specs.Patched.{layered_sample}
 use Rattle.jxl_patches.specs.Inner.Rows.{IsRowMixed}
-use Rattle.jxl_patches.specs.declared.dictionary.PatchMode.TheVariants.{Keep, Replace, Add}
 
-pub kept_row : (from row : List ℤ) (start : ℕ) → IsRowMixed Keep start from row row
-kept_row from row start = record { same = refl; inside = λ i h. refl; outside = λ i h. refl }
+pub kept_row : (start n : ℕ) (row : List ℤ) → IsRowMixed (λ i v. v) start n row row
+kept_row start n row = record { same = refl; inside = λ i h. refl; outside = λ i h. refl }
 
 module _ (old from new : List ℤ) (start finish : ℕ) (e : start + length from ≡ finish) (fits : finish ≤ length old) (is : new ≡ take start old ++ (from ++ drop finish old)) where
   front : length (take start old) ≡ start
@@ -28,7 +29,7 @@ module _ (old from new : List ℤ) (start finish : ℕ) (e : start + length from
       ∙ get_or-append_right from (drop finish old) (length from) (i - start) (pos 0) refl (omega (arith, ge))
       ∙ get_or-drop finish old (i - start - length from) (pos 0) ∙ ap (λ (n : ℕ). get_or old n (pos 0)) k)
 
-  pub replaced_row : IsRowMixed Replace start from old new
+  pub replaced_row : IsRowMixed (λ i v. get_or from i (pos 0)) start (length from) old new
   replaced_row = record {
     same = let l = length-append (take start old) (from ++ drop finish old) in let m = length-append from (drop finish old) in let n = length-drop finish old in
         ap length is ∙ omega (arith, l, m, n, front, e, fits);
@@ -36,23 +37,18 @@ module _ (old from new : List ℤ) (start finish : ℕ) (e : start + length from
     outside = beyond;
   }
 
--- this number of samples were added
-pub record IsPartlyAdded (start i : ℕ) (from old new : List ℤ) : Type 0 where
-  pub same : length new ≡ length old
-  pub inside : (k : ℕ) → k < i → get_or new (start + k) (pos 0) ≡ mixed_sample Add (get_or old (start + k) (pos 0)) (get_or from k (pos 0))
-  pub outside : (k : ℕ) → (k < start) ⊎ (start + i ≤ k) → get_or new k (pos 0) ≡ get_or old k (pos 0)
+-- ---- sample after sample
 
-pub none_added : (start : ℕ) (from row : List ℤ) → IsPartlyAdded start 0 from row row
-none_added start from row = record { same = refl; inside = λ k h. absurd (omega (arith, h)); outside = λ k h. refl }
+pub none_mixed : (f : ℕ → ℤ → ℤ) (start : ℕ) (row : List ℤ) → IsRowMixed f start 0 row row
+none_mixed f start row = record { same = refl; inside = λ k h. absurd (omega (arith, h)); outside = λ k h. refl }
 
-module _ (start i : ℕ) (from old new : List ℤ) (v : ℤ) (so_far : IsPartlyAdded start i from old new) (h : start + i < length old)
-    (is : v ≡ mixed_sample Add (get_or new (start + i) (pos 0)) (get_or from i (pos 0))) where
-  here : get_or (set new (start + i) v) (start + i) (pos 0) ≡ mixed_sample Add (get_or old (start + i) (pos 0)) (get_or from i (pos 0))
+module _ (f : ℕ → ℤ → ℤ) (start i : ℕ) (old new : List ℤ) (v : ℤ) (so_far : IsRowMixed f start i old new) (h : start + i < length old) (is : v ≡ f i (get_or new (start + i) (pos 0))) where
+  here : get_or (set new (start + i) v) (start + i) (pos 0) ≡ f i (get_or old (start + i) (pos 0))
   here =
       let was = so_far.outside (start + i) (inr (omega arith)) in
-      get_or-set_same new (start + i) v (pos 0) (omega (arith, h, so_far.same)) ∙ is ∙ ap (λ (u : ℤ). mixed_sample Add u (get_or from i (pos 0))) was
+      get_or-set_same new (start + i) v (pos 0) (omega (arith, h, so_far.same)) ∙ is ∙ ap (λ (u : ℤ). f i u) was
 
-  at_place : (k : ℕ) → k < i + 1 → (k < i) ⊎ (i ≤ k) → get_or (set new (start + i) v) (start + k) (pos 0) ≡ mixed_sample Add (get_or old (start + k) (pos 0)) (get_or from k (pos 0))
+  at_place : (k : ℕ) → k < i + 1 → (k < i) ⊎ (i ≤ k) → get_or (set new (start + i) v) (start + k) (pos 0) ≡ f k (get_or old (start + k) (pos 0))
   at_place k lt (inl before) = get_or-set_other new (start + i) (start + k) v (pos 0) (λ e. omega (arith, e, before)) ∙ so_far.inside k before
   at_place k lt (inr ge) = let same : k ≡ i = omega (arith, lt, ge) in rw same here
 
@@ -60,12 +56,18 @@ module _ (start i : ℕ) (from old new : List ℤ) (v : ℤ) (so_far : IsPartlyA
   elsewhere k (inl lt) = get_or-set_other new (start + i) k v (pos 0) (λ e. omega (arith, e, lt)) ∙ so_far.outside k (inl lt)
   elsewhere k (inr ge) = get_or-set_other new (start + i) k v (pos 0) (λ e. omega (arith, e, ge)) ∙ so_far.outside k (inr (omega (arith, ge)))
 
-  pub added_more : IsPartlyAdded start (i + 1) from old (set new (start + i) v)
-  added_more = record {
+  pub mixed_more : IsRowMixed f start (i + 1) old (set new (start + i) v)
+  mixed_more = record {
     same = length-set new (start + i) v ∙ so_far.same;
     inside = λ k lt. at_place k lt (cases_lt k i);
     outside = elsewhere;
   }
 
-pub all_added : (start : ℕ) (from old new : List ℤ) → IsPartlyAdded start (length from) from old new → IsRowMixed Add start from old new
-all_added start from old new p = record { same = p.same; inside = p.inside; outside = p.outside }
+-- points with the same numbers
+pub same_points : (b : ChannelBlending) (below : Bool) (s t a c u v d e : ℤ) → s ≡ t → a ≡ c → u ≡ v → d ≡ e →
+    layered_sample b below (record { sample = s; alpha = a }) (record { sample = u; alpha = d }) ≡ layered_sample b below (record { sample = t; alpha = c }) (record { sample = v; alpha = e })
+same_points b below s t a c u v d e p q r w =
+    ap (λ (z : ℤ). layered_sample b below (record { sample = z; alpha = a }) (record { sample = u; alpha = d })) p
+    ∙ ap (λ (z : ℤ). layered_sample b below (record { sample = t; alpha = z }) (record { sample = u; alpha = d })) q
+    ∙ ap (λ (z : ℤ). layered_sample b below (record { sample = t; alpha = c }) (record { sample = z; alpha = d })) r
+    ∙ ap (λ (z : ℤ). layered_sample b below (record { sample = t; alpha = c }) (record { sample = v; alpha = z })) w

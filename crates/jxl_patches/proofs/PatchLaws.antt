@@ -1,14 +1,14 @@
 -- Patches are read exactly: the parser returns exactly what the bits at its position code.
 use Rattle.std.proofs.Common.{ℕ, ◌+◌, Bool, List, length, get_or, Ok, Err, Option, None, Result}
-use Rattle.std.specs.Prelude.{nat_le, codes, is_some}
+use Rattle.std.specs.Prelude.{nat_le, nat_lt, codes, is_some}
 use Rattle.jxlm_bits.specs.Decoding.{Meaning}
 use Rattle.jxlm_bits.specs.ErrorKind.{ErrorKind}
 use Rattle.jxlm_bits.specs.Grammar.{IsExact, from_result}
-use Rattle.jxlm_bits.proofs.GrammarLaws.{bind, exact-give, exact-fail}
+use Rattle.jxlm_bits.proofs.GrammarLaws.{bind, exact-either, exact-give, exact-fail}
 use Rattle.jxl_image_header.proofs.HeaderLaws.{exact-meant}
 use Rattle.jxl_image_header.specs.declared.size.Size.{Size}
 use Rattle.jxlm_bits.proofs.TokenLaws.{exact-token, exact-chained, exact-coded}
-use Rattle.jxl_patches.specs.Patches.{Patches, most_rectangles, source, coordinate, mode_of, one_mode, one_place, one_rectangle, dictionary}
+use Rattle.jxl_patches.specs.Patches.{Patches, most_rectangles, source, coordinate, one_mode, one_place, one_rectangle, dictionary}
 use Rattle.jxl_patches.specs.declared.dictionary.Rectangle.{Rectangle}
 
 exact-checked : {X : Type 0} (r : Result X ErrorKind) → IsExact (from_result r)
@@ -25,13 +25,16 @@ module _ {S : Type 0} (d : Meaning S) where
   exact-coordinate : (later : Bool) (before extent side : ℕ) (s : S) → IsExact (coordinate d later before extent side s)
   exact-coordinate later before extent side s = exact-token d _ _ (λ v. exact-checked _) s
 
-  exact-one_mode : (a : Patches) (s : S) → IsExact (one_mode d a s)
-  exact-one_mode a s = bind (exact-token d 5 _ (λ v. exact-checked (mode_of v)) s) λ m. exact-give _
+  exact-one_mode : (kinds : ℕ) (a : Patches) (s : S) → IsExact (one_mode d kinds a s)
+  exact-one_mode kinds a s =
+      bind (exact-token d 5 _ (λ v. exact-meant (codes "mode of a patch") (nat_lt v 8) v) s) λ v.
+      bind (exact-either _ _ _ (exact-token d 8 _ (λ k. exact-meant (codes "alpha channel of a patch") (nat_lt (k + 1) kinds) k) v.state) (exact-give _)) λ alpha.
+      bind (exact-either _ _ _ (exact-token d 9 _ (λ k. exact-give _) alpha.state) (exact-give _)) λ clamp. exact-give _
 
   pub exact-one_place : (size : Size) (kinds n : ℕ) (r : Rectangle) (a : Patches) (s : S) → IsExact (one_place d size kinds n r a s)
   exact-one_place size kinds n r a s =
       bind (exact-coordinate _ _ r.width size.width s) λ x. bind (exact-coordinate _ _ r.height size.height x.state) λ y.
-      exact-chained (one_mode d) exact-one_mode kinds _ y.state
+      exact-chained (one_mode d kinds) (exact-one_mode kinds) kinds _ y.state
 
   exact-one_rectangle : (size : Size) (kinds : ℕ) (slots : List (Option Size)) (limit : ℕ) (a : Patches) (s : S) → IsExact (one_rectangle d size kinds slots limit a s)
   exact-one_rectangle size kinds slots limit a s =

@@ -4,38 +4,37 @@ use Rattle.jxl_image_header.specs.declared.size.Size.{Size}
 use Rattle.jxlm_base.specs.Grid.{Grid, grid}
 use Rattle.jxlm_bits.proofs.Cases.{less_or_same}
 use Rattle.jxl_patches.specs.Dictionaries.{IsWithin, place_at}
-use Rattle.jxl_patches.specs.Patches.{Patches}
-use Rattle.jxl_patches.specs.Patched.{covers, sample_laid, channel_of, kinds_of, mode_at, patched_sample, PlaceFits, AreSaved, HaveSides, ReadPatchesFit}
+use Rattle.jxl_patches.specs.Patched.{Patching, covers, sample_laid, channel_of, kinds_of, mode_at, patched_pixel, PlaceFits, AreSaved, HaveSides, ReadPatchesFit}
 use Rattle.jxl_patches.specs.declared.dictionary.Place.{Place}
 use Rattle.jxl_patches.specs.declared.dictionary.PatchMode.TheVariants.{Replace}
 
-module _ (frames : List (List (Grid ℤ))) (patches : Patches) (kinds kind channel x y : ℕ) (v : ℤ) where
+module _ (t : Patching) (x y : ℕ) (samples : ℕ → ℤ) (c : ℕ) where
   abbrev so_far : ℕ → ℤ
-  so_far n = patched_sample frames patches kinds kind channel x y n v
+  so_far n = patched_pixel t x y n samples c
 
-  -- a place that does not cover the cell leaves it
-  passed : (n : ℕ) → covers (place_at patches n) x y ≡ false → so_far (suc n) ≡ so_far n
-  unfolding patched_sample
+  -- a place that does not cover the pixel leaves it
+  passed : (n : ℕ) → covers (place_at t.patches n) x y ≡ false → so_far (suc n) ≡ so_far n
+  unfolding patched_pixel
   passed n h = rw h refl
 
   -- and one that replaces its samples leaves its own
-  placed : (n : ℕ) → covers (place_at patches n) x y ≡ true → mode_at patches kinds kind n ≡ Replace →
-      so_far (suc n) ≡ sample_laid (channel_of frames (place_at patches n).source.slot channel) (place_at patches n) x y
-  unfolding patched_sample
+  placed : (n : ℕ) → covers (place_at t.patches n) x y ≡ true → mode_at t.patches t.colours t.channels n c ≡ Replace →
+      so_far (suc n) ≡ sample_laid (channel_of t.frames (place_at t.patches n).source.slot c) (place_at t.patches n) x y
+  unfolding patched_pixel
   placed n h r = rw (h, r) refl
 
-  pub uncovered : (k : ℕ) → ((n : ℕ) → n < k → covers (place_at patches n) x y ≡ false) → so_far k ≡ v
-  unfolding patched_sample
+  pub uncovered : (k : ℕ) → ((n : ℕ) → n < k → covers (place_at t.patches n) x y ≡ false) → so_far k ≡ samples c
+  unfolding patched_pixel
   uncovered zero h = refl
   uncovered (suc k) h = passed k (h k (omega arith)) ∙ uncovered k (λ n lt. h n (omega (arith, lt)))
 
-  pub replaced : (k n : ℕ) → n < k → covers (place_at patches n) x y ≡ true → mode_at patches kinds kind n ≡ Replace → ((m : ℕ) → n < m → m < k → covers (place_at patches m) x y ≡ false) →
-      so_far k ≡ sample_laid (channel_of frames (place_at patches n).source.slot channel) (place_at patches n) x y
+  pub replaced : (k n : ℕ) → n < k → covers (place_at t.patches n) x y ≡ true → mode_at t.patches t.colours t.channels n c ≡ Replace → ((m : ℕ) → n < m → m < k → covers (place_at t.patches m) x y ≡ false) →
+      so_far k ≡ sample_laid (channel_of t.frames (place_at t.patches n).source.slot c) (place_at t.patches n) x y
   replaced zero n lt h r after = absurd (omega (arith, lt))
   replaced (suc k) n lt h r after = last (λ before. replaced k n before h r (λ m a b. after m a (omega (arith, b)))) (less_or_same n k lt)
     where
-      last : (n < k → so_far k ≡ sample_laid (channel_of frames (place_at patches n).source.slot channel) (place_at patches n) x y) → (n < k) ⊎ (n ≡ k) →
-          so_far (suc k) ≡ sample_laid (channel_of frames (place_at patches n).source.slot channel) (place_at patches n) x y
+      last : (n < k → so_far k ≡ sample_laid (channel_of t.frames (place_at t.patches n).source.slot c) (place_at t.patches n) x y) → (n < k) ⊎ (n ≡ k) →
+          so_far (suc k) ≡ sample_laid (channel_of t.frames (place_at t.patches n).source.slot c) (place_at t.patches n) x y
       last earlier (inl before) = passed k (after k before (omega arith)) ∙ earlier before
       last earlier (inr same) = rw (← same) (placed n h r)
 

@@ -8,10 +8,9 @@ use Rattle.jxlm_base.specs.Grid.{Grid, at, row, with_row, IsFull}
 use Rattle.jxlm_base.specs.Subgrid.{IsOutside}
 use Rattle.jxlm_base.proofs.GridLaws.{at_from_cell, cell_from_at}
 use Rattle.jxlm_base.proofs.RegionRows.{get_part, get_row, length-row, cell-with_row_same, cell-with_row_other, IsFull-with_row}
-use Rattle.jxl_patches.specs.Patched.{covers, sample_laid, mixed_sample, sample_put, PlaceFits}
-use Rattle.jxl_patches.specs.Inner.Rows.{IsRowMixed, top_rows}
+use Rattle.jxl_patches.specs.Patched.{covers}
+use Rattle.jxl_patches.specs.Inner.Rows.{IsRowMixed, sample_put, top_rows}
 use Rattle.jxl_patches.specs.declared.dictionary.Place.{Place}
-use Rattle.jxl_patches.specs.declared.dictionary.PatchMode.{PatchMode}
 
 -- ---- rows of grids of numbers
 
@@ -19,11 +18,11 @@ pub at_row : (g : Grid ℤ) (x y : ℕ) → IsFull g → x < g.width → y < g.h
 at_row g x y full p q = get_or_from_slice_get (row g y) x (at g x y) (pos 0) (get_row g full y q x p ∙ cell_from_at g x y full p q)
 
 module _ (g : Grid ℤ) (full : IsFull g) (y : ℕ) (below : y < g.height) (vs : List ℤ) (long : length vs ≡ g.width) where
-  at_same : (x : ℕ) → x < g.width → at (with_row g y vs) x y ≡ get_or vs x (pos 0)
+  pub at_same : (x : ℕ) → x < g.width → at (with_row g y vs) x y ≡ get_or vs x (pos 0)
   at_same x h =
       at_from_cell (with_row g y vs) x y (get_or vs x (pos 0)) (cell-with_row_same g full y below vs long x h ∙ slice_get-get_or vs x (pos 0) (omega (arith, h, long)))
 
-  at_other : (x j : ℕ) → x < g.width → j < g.height → j ≢ y → at (with_row g y vs) x j ≡ at g x j
+  pub at_other : (x j : ℕ) → x < g.width → j < g.height → j ≢ y → at (with_row g y vs) x j ≡ at g x j
   at_other x j p q ne = at_from_cell (with_row g y vs) x j (at g x j) (cell-with_row_other g full y below vs long x j p q ne ∙ cell_from_at g x j full p q)
 
 -- a part of a row of a full grid
@@ -65,39 +64,41 @@ covers_outside p x y (inr (inl a)) = let h = le-ltb x (p.x + p.source.width) a i
 covers_outside p x y (inr (inr (inl a))) = let h = lt-leb p.y y a in grind (arith, nat_tests)
 covers_outside p x y (inr (inr (inr a))) = let h = le-ltb y (p.y + p.source.height) a in grind (arith, nat_tests)
 
-pub put_inside : (source : Grid ℤ) (p : Place) (mode : PatchMode) (x y : ℕ) (v : ℤ) → IsInside p x y → sample_put source p mode x y v ≡ mixed_sample mode v (sample_laid source p x y)
-put_inside source p mode x y v i = rw (covers_inside p x y i) refl
+pub put_inside : (f : ℕ → ℕ → ℤ → ℤ) (p : Place) (x y : ℕ) (v : ℤ) → IsInside p x y → sample_put f p x y v ≡ f (x - p.x) (y - p.y) v
+put_inside f p x y v i = rw (covers_inside p x y i) refl
 
-pub put_outside : (source : Grid ℤ) (p : Place) (mode : PatchMode) (x y : ℕ) (v : ℤ) → Out p x y → sample_put source p mode x y v ≡ v
-put_outside source p mode x y v o = rw (covers_outside p x y o) refl
+pub put_outside : (f : ℕ → ℕ → ℤ → ℤ) (p : Place) (x y : ℕ) (v : ℤ) → Out p x y → sample_put f p x y v ≡ v
+put_outside f p x y v o = rw (covers_outside p x y o) refl
+
+-- a row that was mixed by a function that gives the same
+pub mixed_by : (h f : ℕ → ℤ → ℤ) (start n : ℕ) (old new : List ℤ) → ((i : ℕ) (v : ℤ) → i < n → h i v ≡ f i v) → IsRowMixed h start n old new → IsRowMixed f start n old new
+mixed_by h f start n old new e m = record { same = m.same; inside = λ i lt. m.inside i lt ∙ e i (get_or old (start + i) (pos 0)) lt; outside = m.outside }
 
 -- ---- one row more
 
-module _ (source : Grid ℤ) (p : Place) (mode : PatchMode) (old g : Grid ℤ) (j : ℕ) (full : IsFull g) (wide : g.width ≡ old.width) (high : g.height ≡ old.height)
-    (fits : PlaceFits p source old) (below : j < p.source.height)
-    (so_far : (x y : ℕ) → x < old.width → y < old.height → at g x y ≡ sample_put source (top_rows p j) mode x y (at old x y))
-    (from vs : List ℤ) (from_at : (i : ℕ) → i < p.source.width → get_or from i (pos 0) ≡ at source (p.source.x0 + i) (p.source.y0 + j))
-    (long_from : length from ≡ p.source.width) (mix : IsRowMixed mode p.x from (row g (p.y + j)) vs) where
+module _ (f : ℕ → ℕ → ℤ → ℤ) (p : Place) (old g : Grid ℤ) (j : ℕ) (full : IsFull g) (wide : g.width ≡ old.width) (high : g.height ≡ old.height)
+    (columns : p.x + p.source.width ≤ old.width) (rows : p.y + p.source.height ≤ old.height) (below : j < p.source.height)
+    (so_far : (x y : ℕ) → x < old.width → y < old.height → at g x y ≡ sample_put f (top_rows p j) x y (at old x y))
+    (vs : List ℤ) (mix : IsRowMixed (λ i v. f i j v) p.x p.source.width (row g (p.y + j)) vs) where
   line : p.y + j < g.height
-  line = let r = fits.rows in omega (arith, r, below, high)
+  line = omega (arith, rows, below, high)
 
   long : length vs ≡ g.width
   long = mix.same ∙ length-row g full (p.y + j) line
 
   -- a cell of this row, in a column of the place
-  now_inside : (x y : ℕ) → x < old.width → y ≡ p.y + j → p.x ≤ x → x < p.x + p.source.width → at (with_row g (p.y + j) vs) x y ≡ mixed_sample mode (at old x y) (sample_laid source p x y)
+  now_inside : (x y : ℕ) → x < old.width → y ≡ p.y + j → p.x ≤ x → x < p.x + p.source.width → at (with_row g (p.y + j) vs) x y ≡ f (x - p.x) (y - p.y) (at old x y)
   now_inside x y h same left right =
       let column : p.x + (x - p.x) ≡ x = omega (arith, left) in
-      let within : x - p.x < length from = omega (arith, long_from, right, left) in
+      let within : x - p.x < p.source.width = omega (arith, right, left) in
       let mixed_in = mix.inside (x - p.x) within in
-      let here : get_or vs x (pos 0) ≡ mixed_sample mode (get_or (row g (p.y + j)) x (pos 0)) (get_or from (x - p.x) (pos 0)) = rw column at mixed_in in
+      let here : get_or vs x (pos 0) ≡ f (x - p.x) j (get_or (row g (p.y + j)) x (pos 0)) = rw column at mixed_in in
       let was : get_or (row g (p.y + j)) x (pos 0) ≡ at g x (p.y + j) = at_row g x (p.y + j) full (omega (arith, h, wide)) line in
       let before : at g x (p.y + j) ≡ at old x (p.y + j) =
-      so_far x (p.y + j) h (omega (arith, line, high)) ∙ put_outside source (top_rows p j) mode x (p.y + j) (at old x (p.y + j)) (inr (inr (inr (omega arith)))) in
+      so_far x (p.y + j) h (omega (arith, line, high)) ∙ put_outside f (top_rows p j) x (p.y + j) (at old x (p.y + j)) (inr (inr (inr (omega arith)))) in
       let down : p.y + j - p.y ≡ j = omega arith in
-      let sample : get_or from (x - p.x) (pos 0) ≡ sample_laid source p x (p.y + j) = from_at (x - p.x) (omega (arith, right, left)) ∙ ap (λ (n : ℕ). at source (p.source.x0 + (x - p.x)) (p.source.y0 + n)) (sym down) in
       let there = at_same g full (p.y + j) line vs long x (omega (arith, h, wide)) in
-      rw same (there ∙ here ∙ ap (λ (v : ℤ). mixed_sample mode v (get_or from (x - p.x) (pos 0))) (was ∙ before) ∙ ap (λ (v : ℤ). mixed_sample mode (at old x (p.y + j)) v) sample)
+      rw same (there ∙ here ∙ ap (λ (v : ℤ). f (x - p.x) j v) (was ∙ before) ∙ ap (λ (n : ℕ). f (x - p.x) n (at old x (p.y + j))) (sym down))
 
   -- any other cell stays
   now_outside : (x y : ℕ) → x < old.width → y < old.height → ((y ≢ p.y + j) ⊎ ((x < p.x) ⊎ (p.x + p.source.width ≤ x))) → at (with_row g (p.y + j) vs) x y ≡ at g x y
@@ -105,18 +106,18 @@ module _ (source : Grid ℤ) (p : Place) (mode : PatchMode) (old g : Grid ℤ) (
   now_outside x y h k (inr out) = elim (cases_eq y (p.y + j)) [
     | inr ne ↦ at_other g full (p.y + j) line vs long x y (omega (arith, h, wide)) (omega (arith, k, high)) ne
     | inl same ↦
-        rw same (at_same g full (p.y + j) line vs long x (omega (arith, h, wide)) ∙ mix.outside x (rw long_from out) ∙ at_row g x (p.y + j) full (omega (arith, h, wide)) line)
+        rw same (at_same g full (p.y + j) line vs long x (omega (arith, h, wide)) ∙ mix.outside x out ∙ at_row g x (p.y + j) full (omega (arith, h, wide)) line)
   ]
 
   pub row_full : IsFull (with_row g (p.y + j) vs)
   row_full = IsFull-with_row g full (p.y + j) line vs long
 
   by_cases : (x y : ℕ) → x < old.width → y < old.height → (IsInside (top_rows p (j + 1)) x y) ⊎ (Out (top_rows p (j + 1)) x y) → (y < p.y + j) ⊎ (p.y + j ≤ y) →
-      at (with_row g (p.y + j) vs) x y ≡ sample_put source (top_rows p (j + 1)) mode x y (at old x y)
+      at (with_row g (p.y + j) vs) x y ≡ sample_put f (top_rows p (j + 1)) x y (at old x y)
   by_cases x y h k (inr out) before =
       let still : (y ≢ p.y + j) ⊎ ((x < p.x) ⊎ (p.x + p.source.width ≤ x)) = elsewhere out in
       let above : Out (top_rows p j) x y = shorter out in
-      now_outside x y h k still ∙ so_far x y h k ∙ put_outside source (top_rows p j) mode x y (at old x y) above ∙ sym (put_outside source (top_rows p (j + 1)) mode x y (at old x y) out)
+      now_outside x y h k still ∙ so_far x y h k ∙ put_outside f (top_rows p j) x y (at old x y) above ∙ sym (put_outside f (top_rows p (j + 1)) x y (at old x y) out)
     where
       elsewhere : Out (top_rows p (j + 1)) x y → (y ≢ p.y + j) ⊎ ((x < p.x) ⊎ (p.x + p.source.width ≤ x))
       elsewhere (inl a) = inr (inl a)
@@ -131,20 +132,20 @@ module _ (source : Grid ℤ) (p : Place) (mode : PatchMode) (old g : Grid ℤ) (
       shorter (inr (inr (inr a))) = inr (inr (inr (omega (arith, a))))
   by_cases x y h k (inl i) (inl before) =
       let same : IsInside (top_rows p j) x y = record { left = i.left; right = i.right; top = i.top; bottom = before } in
-      now_outside x y h k (inl (λ e. omega (arith, before, e))) ∙ so_far x y h k ∙ put_inside source (top_rows p j) mode x y (at old x y) same
-      ∙ sym (put_inside source (top_rows p (j + 1)) mode x y (at old x y) i)
+      now_outside x y h k (inl (λ e. omega (arith, before, e))) ∙ so_far x y h k ∙ put_inside f (top_rows p j) x y (at old x y) same
+      ∙ sym (put_inside f (top_rows p (j + 1)) x y (at old x y) i)
   by_cases x y h k (inl i) (inr after) =
       let b = i.bottom in
       let same : y ≡ p.y + j = omega (arith, after, b) in
-      now_inside x y h same i.left i.right ∙ sym (put_inside source (top_rows p (j + 1)) mode x y (at old x y) i)
+      now_inside x y h same i.left i.right ∙ sym (put_inside f (top_rows p (j + 1)) x y (at old x y) i)
 
   -- the first j + 1 rows of the place are put
-  pub row_put : (x y : ℕ) → x < old.width → y < old.height → at (with_row g (p.y + j) vs) x y ≡ sample_put source (top_rows p (j + 1)) mode x y (at old x y)
+  pub row_put : (x y : ℕ) → x < old.width → y < old.height → at (with_row g (p.y + j) vs) x y ≡ sample_put f (top_rows p (j + 1)) x y (at old x y)
   row_put x y h k = by_cases x y h k (in_or_out (top_rows p (j + 1)) x y) (cases_lt y (p.y + j))
 
 -- no row was put yet
-pub no_row_put : (source : Grid ℤ) (p : Place) (mode : PatchMode) (x y : ℕ) (v : ℤ) → v ≡ sample_put source (top_rows p 0) mode x y v
-no_row_put source p mode x y v = sym (put_outside source (top_rows p 0) mode x y v (none (cases_lt y p.y)))
+pub no_row_put : (f : ℕ → ℕ → ℤ → ℤ) (p : Place) (x y : ℕ) (v : ℤ) → v ≡ sample_put f (top_rows p 0) x y v
+no_row_put f p x y v = sym (put_outside f (top_rows p 0) x y v (none (cases_lt y p.y)))
   where
     none : (y < p.y) ⊎ (p.y ≤ y) → Out (top_rows p 0) x y
     none (inl a) = inr (inr (inl a))

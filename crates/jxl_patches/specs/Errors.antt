@@ -8,6 +8,5 @@ use Rattle.jxl_patches.specs.declared.error.PatchError.TheVariants as errors
 abbrev pub patch_kind : PatchError → ErrorKind
 patch_kind (errors.Invalid name value) = BadEnum name.now value
 patch_kind (errors.Decoder e) = OfDecoder e
-patch_kind errors.Blended = BadProfile (codes "patches that are blended")
 patch_kind errors.TooLarge = BadProfile (codes "patches of too many cells")
 patch_kind errors.OutOfMemory = NoMemory

@@ -1,18 +1,20 @@
 -- The dictionary of patches: which rectangles of saved frames are put where (ISO/IEC 18181-1, frame: LF global, patches).
-use Rattle.std.specs.Prelude.{ℕ, ◌+◌, ◌-◌, ◌*◌, ◌/◌, ◌%◌, ◌==◌, ◌&&◌, nat_lt, nat_le, Bool, false, if◌then◌else◌, List, [], ◌∷◌, ◌++◌, length, get_or, codes, Option, Some, None, is_some, Result, Ok, Err}
+use Rattle.std.specs.Prelude.{ℕ, ◌+◌, ◌-◌, ◌*◌, ◌/◌, ◌%◌, ◌==◌, ◌&&◌, ◌||◌, not, nat_lt, nat_le, Bool, false, if◌then◌else◌, List, [], ◌∷◌, ◌++◌, length, get_or, codes, Option, Some, None, is_some, Ok, Err}
 use Rattle.std.specs.List.{sum_by}
 use Rattle.std.specs.Option.{ok_or, option_and_then, option_map_or}
 use Rattle.jxlm_bits.specs.Decoding.{Meaning}
-use Rattle.jxlm_bits.specs.ErrorKind.{ErrorKind, BadEnum, BadProfile}
-use Rattle.jxlm_bits.specs.Grammar.{Grammar, give, fail, from_result}
+use Rattle.jxlm_bits.specs.ErrorKind.{BadEnum, BadProfile}
+use Rattle.jxlm_bits.specs.Grammar.{Grammar, either, give, from_result}
 use Rattle.jxl_image_header.specs.Fields.{number_meant}
+use Rattle.jxl_frame_header.specs.declared.blending.BlendMode.{BlendMode}
+use Rattle.jxl_frame_header.specs.declared.blending.BlendMode.TheVariants as modes
 use Rattle.jxl_image_header.specs.declared.size.Size.{Size}
 use Rattle.jxlm_bits.specs.Tokens.{Tokens, token, coded_tokens}
 use Rattle.jxlm_bits.specs.Turns.{◌>>=◌, chain}
 use Rattle.jxl_patches.specs.declared.dictionary.Rectangle.{Rectangle}
 use Rattle.jxl_patches.specs.declared.dictionary.Place.{Place}
 use Rattle.jxl_patches.specs.declared.dictionary.PatchMode.{PatchMode}
-use Rattle.jxl_patches.specs.declared.dictionary.PatchMode.TheVariants.{Keep, Replace, Add}
+use Rattle.jxl_patches.specs.declared.dictionary.PatchMode.TheVariants.{Keep, Replace, Add, Blend}
 
 -- the most rectangles that a frame of this size may name; of places four times as many
 abbrev pub most_rectangles : Size → ℕ
@@ -48,21 +50,46 @@ pub record Patches : Type 0 where
 abbrev pub nowhere : Place
 nowhere = record { source = record { slot = 0; x0 = 0; y0 = 0; width = 0; height = 0 }; x = 0; y = 0 }
 
--- the mode of this number: samples are kept, replaced, or added; multiplied or blended by alpha they are not supported
-abbrev pub mode_of : ℕ → Result PatchMode ErrorKind
-mode_of v = if v == 0 then Ok Keep else if v == 1 then Ok Replace else if v == 2 then Ok Add else
-    if nat_lt v 8 then Err (BadProfile (codes "patches that are blended")) else Err (BadEnum (codes "mode of a patch") v)
+-- the number of a mode
+abbrev pub mode_number : {S : Type 0} → Meaning S → Tokens S ℕ
+mode_number d = token d 5 (λ v. number_meant (codes "mode of a patch") (nat_lt v 8) v)
 
--- one mode more
-abbrev pub one_mode : {S : Type 0} → Meaning S → Patches → Tokens S Patches
-one_mode d a = token d 5 (λ v. from_result (mode_of v)) >>= λ m s. give (record { value = record { places = a.places; modes = a.modes ++ m ∷ [] }; state = s })
+-- the alpha channel of the mode of this number, if it takes alpha: coded if there are several extra channels, else the first
+abbrev pub alpha_channel : {S : Type 0} → Meaning S → ℕ → ℕ → Tokens S ℕ
+alpha_channel d kinds mode s = either (nat_lt 3 mode && nat_lt 2 kinds) (token d 8 (λ v. number_meant (codes "alpha channel of a patch") (nat_lt (v + 1) kinds) v) s)
+    (give (record { value = 0; state = s }))
+
+-- whether alpha, or the factor of a product, is clamped: coded for the modes that have one
+abbrev pub clamp_flag : {S : Type 0} → Meaning S → ℕ → Tokens S Bool
+clamp_flag d mode s = either (nat_lt 2 mode) (token d 9 (λ v. give (not (v == 0))) s) (give (record { value = false; state = s }))
+
+-- what the mode of this number from 3 on is for frames: a product; blended over, above and below; added by alpha, above and below
+abbrev pub frame_mode : ℕ → BlendMode
+frame_mode v = if v == 3 then modes.Mul else if nat_lt v 6 then modes.Blend else modes.MulAdd
+
+-- whether the patch of the mode of this number lies below the frame
+abbrev pub is_below : ℕ → Bool
+is_below v = v == 5 || v == 7
+
+-- the mode of this number: samples are kept, replaced, added, or blended as those of frames
+abbrev pub mode_of : ℕ → ℕ → Bool → PatchMode
+mode_of v alpha clamp = if v == 0 then Keep else if v == 1 then Replace else if v == 2 then Add else
+    Blend (record { mode = frame_mode v; below = is_below v; alpha_channel = alpha; clamp = clamp })
+
+-- one mode more, of a place with this number of modes
+abbrev pub one_mode : {S : Type 0} → Meaning S → ℕ → Patches → Tokens S Patches
+one_mode d kinds a = do
+  v ← mode_number d
+  alpha ← alpha_channel d kinds v
+  clamp ← clamp_flag d v
+  λ s. give (record { value = record { places = a.places; modes = a.modes ++ mode_of v alpha clamp ∷ [] }; state = s })
 
 -- a place of a rectangle whose first is place n, told from the last one if it is a later one; and its modes
 abbrev pub one_place : {S : Type 0} → Meaning S → Size → ℕ → ℕ → Rectangle → Patches → Tokens S Patches
 one_place d size kinds n r a = do
   x ← coordinate d (nat_lt n (length a.places)) (get_or a.places (length a.places - 1) nowhere).x r.width size.width
   y ← coordinate d (nat_lt n (length a.places)) (get_or a.places (length a.places - 1) nowhere).y r.height size.height
-  chain (one_mode d) kinds (record { places = a.places ++ (record { source = r; x = x; y = y }) ∷ []; modes = a.modes })
+  chain (one_mode d kinds) kinds (record { places = a.places ++ (record { source = r; x = x; y = y }) ∷ []; modes = a.modes })
 
 -- a rectangle, and its places, one more than is coded: with those before not too many, and of not too many cells
 abbrev pub one_rectangle : {S : Type 0} → Meaning S → Size → ℕ → List (Option Size) → ℕ → Patches → Tokens S Patches

@@ -5,6 +5,7 @@ use Rattle.jxlm_bits.specs.Decoding.{Meaning}
 use Rattle.jxlm_bits.specs.Grammar.{Grammar, give, ◌>>=◌}
 use Rattle.jxlm_base.specs.Grid.{Grid}
 use Rattle.jxl_image_header.specs.Fields.{when}
+use Rattle.jxl_image_header.specs.Images.{Image}
 use Rattle.jxl_image_header.specs.declared.size.Size.{Size}
 use Rattle.jxl_patches.specs.Patches.{Patches, dictionary}
 use Rattle.jxl_patches.specs.Patched.{ArePatched, HaveSides}
@@ -47,7 +48,7 @@ HoldFrames n slots = (k : ℕ) (f : Saved) → get_or slots k None ≡ Some f �
 abbrev pub optional_patches : {D : Type 0} → Meaning D → Bool → Size → ℕ → List (Option Size) → Grammar (Option Patches)
 optional_patches d there size extra sizes = when there (dictionary d size extra sizes (4096 + 4 * (size.width * size.height)) >>= λ p. give (Some p)) None
 
--- Patches, if there are any, are put into channels, of which this number are colours.
-abbrev pub ArePut : Slots → ℕ → Option Patches → List (Grid ℤ) → List (Grid ℤ) → Type 0
-ArePut slots colours None old new = new ≡ old
-ArePut slots colours (Some patches) old new = ArePatched (frames_of slots) colours patches old new
+-- Patches, if there are any, are put into channels of an image, of which this number are colours.
+abbrev pub ArePut : Image → Slots → ℕ → Option Patches → List (Grid ℤ) → List (Grid ℤ) → Type 0
+ArePut image slots colours None old new = new ≡ old
+ArePut image slots colours (Some patches) old new = ArePatched image (frames_of slots) colours patches old new

@@ -1,87 +1,100 @@
 //! Patches put into a frame.
 
-ghost use Rattle.std.specs.Prelude.{◌≡◌, ℕ, ◌+◌, ◌<◌, ◌≤◌, ◌^◌, ◌++◌, length, take, drop, get_or, pos, [], ◌*◌, ◌+ℤ◌};
-ghost use Rattle.std.specs.Int.{int_wrap, w32};
-ghost use Rattle.jxlm_base.specs.Grid.{at};
+ghost use Rattle.std.specs.Prelude.{◌≡◌, ℕ, ◌+◌, ◌<◌, ◌≤◌, ◌^◌, length, get_or, pos, [], ◌*◌, IfOk, MatchResult};
+ghost use Rattle.jxlm_base.specs.Grid.{at, grid as the_grid};
+ghost use Rattle.jxl_image_header.specs.Images.{image_of};
 ghost use Rattle.jxl_patches.specs.Dictionaries.{patches_of, place_at};
-ghost use Rattle.jxl_patches.specs.Patched.{mode_at, kinds_of as the_kinds_of, PlaceFits, Fits, ArePatched};
+ghost use Rattle.jxl_patches.specs.Patched.{alpha_of as the_alpha_of, kind_of as the_kind_of, kinds_of as the_kinds_of, mode_at, patching, PlaceFits, Fits, ArePatched};
 ghost use Rattle.jxl_patches.specs.SavedParts.{frames_in};
-ghost use Rattle.jxl_patches.specs.Inner.Rows.{IsRowMixed, IsPut, FitsChannel, IsPatched, kind_of as the_kind_of};
+ghost use Rattle.jxl_patches.specs.Inner.Rows.{AreCovered, ArePlacePut, IsCovered, IsChannelMixed, IsPut, IsReadyChannel, mixed_cell};
 
 use crate::dictionary::{Dictionary, PatchMode, Place};
+use crate::row::{Mixing, replace};
 use crate::slots::SavedFrames;
-use jxlm_base::grid::AlignedGrid;
+use jxl_blending::grid::Layer;
+use jxl_image_header::image::ImageHeader;
+use jxlm_base::grid::{AlignedGrid, OutOfMemory};
+use std::alloc::Global;
 
-// Writes these over a part of a row.
-fn write_between(row: &mut [i32], start: usize, end: usize, values: &[i32])
-    requires fits { start + length values.now ≡ end }
-    requires inside { end ≤ length row.old }
-    ensures { row.new ≡ take start row.old ++ (values.now ++ drop end row.old) }
+// This number of samples of row `y`, from column `x` on.
+fn part(grid: &AlignedGrid<i32>, x: usize, y: usize, count: usize) -> &[i32]
+    requires columns { x + count ≤ grid.now.width }
+    requires in_rows { y < grid.now.height }
+    ensures len { length result.now ≡ count }
+    ensures cells { (i : ℕ) → i < count → get_or result.now i (pos 0) ≡ at grid.now (x + i) y }
 {
-    row[start..end].copy_from_slice(values);
+    prove!(x <= grid.width() && y < grid.height());
+    let row = grid.get_row(y);
+    &row[x..x + count]
 }
 
-// Samples of a row are replaced, from one on.
-fn replace(row: &mut [i32], start: usize, from: &[i32])
-    requires { start + length from.now ≤ length row.old }
-    ensures { IsRowMixed PatchMode.Replace start from.now row.old row.new }
+// The samples of a grid on which a place lies.
+fn covered(
+    alloc: Global,
+    place: Place,
+    grid: &AlignedGrid<i32>,
+) -> Result<AlignedGrid<i32>, OutOfMemory>
+    requires columns { place.x + place.source.width ≤ grid.now.width }
+    requires in_rows { place.y + place.source.height ≤ grid.now.height }
+    ensures { IfOk result (IsCovered place grid.now) }
 {
-    write_between(row, start, start + from.len(), from);
-}
-
-#[inline(always)]
-#[tactic(auto, using(std::proofs::lemmas::Int::wraps))]
-fn plus(a: i32, b: i32) -> i32
-    ensures { result ≡ int_wrap w32 (a +ℤ b) }
-{
-    a.wrapping_add(b)
-}
-
-// Samples are added to those of a row, from one on.
-fn add(row: &mut [i32], start: usize, from: &[i32])
-    requires { start + length from.now ≤ length row.old }
-    ensures { IsRowMixed PatchMode.Add start from.now row.old row.new }
-{
-    for i in 0..from.len() {
-        row[start + i] = plus(row[start + i], from[i]);
+    let width = place.source.width as usize;
+    let height = place.source.height as usize;
+    let mut samples = AlignedGrid::new(alloc, width, height)?;
+    for j in 0..height {
+        let from = part(grid, place.x as usize, place.y as usize + j, width);
+        let row = samples.get_row_mut(j);
+        replace(row, 0, from);
     }
+    Ok(samples)
 }
 
-fn mix(mode: PatchMode, row: &mut [i32], start: usize, from: &[i32])
-    requires { start + length from.now ≤ length row.old }
-    ensures { IsRowMixed mode start from.now row.old row.new }
+// The same of each channel.
+fn covered_parts(
+    alloc: Global,
+    place: Place,
+    channels: &[AlignedGrid<i32>],
+) -> Result<Vec<AlignedGrid<i32>>, OutOfMemory>
+    requires columns { (c : ℕ) → c < length channels.now →
+        place.x + place.source.width ≤ (get_or channels.now c (the_grid 0 0 [])).width }
+    requires in_rows { (c : ℕ) → c < length channels.now →
+        place.y + place.source.height ≤ (get_or channels.now c (the_grid 0 0 [])).height }
+    ensures { IfOk result (λ v. AreCovered place channels.now v.items) }
 {
-    match mode {
-        PatchMode::Keep => {}
-        PatchMode::Replace => replace(row, start, from),
-        PatchMode::Add => add(row, start, from),
+    let mut parts = Vec::new(alloc);
+    for channel in 0..channels.len() {
+        let samples = covered(alloc, place, &channels[channel])?;
+        parts.push(samples)?;
     }
+    Ok(parts)
 }
 
-// The samples of row `j` of a place's rectangle.
-fn part(source: &AlignedGrid<i32>, place: Place, j: usize) -> &[i32]
-    requires columns { place.source.x0 + place.source.width ≤ source.now.width }
-    requires in_rows { place.source.y0 + j < source.now.height }
-    ensures len { length result.now ≡ place.source.width }
-    ensures cells { (i : ℕ) → i < place.source.width → get_or result.now i (pos 0)
-        ≡ at source.now (place.source.x0 + i) (place.source.y0 + j) }
-{
-    let start = place.source.x0 as usize;
-    prove!(start <= source.width() && j < source.height());
-    let row = source.get_row(place.source.y0 as usize + j);
-    &row[start..start + place.source.width as usize]
-}
-
-// A place is put into a grid.
-fn put(source: &AlignedGrid<i32>, place: Place, mode: PatchMode, grid: &mut AlignedGrid<i32>)
-    requires { PlaceFits place source.now grid.old }
-    ensures { IsPut source.now place mode grid.old grid.new }
+// Puts a place into a grid: the samples of the place's frame, with their alpha, and the alpha on which the place lies.
+fn put(
+    mixing: Mixing<'_>,
+    place: Place,
+    source: Layer<'_>,
+    alpha: &AlignedGrid<i32>,
+    grid: &mut AlignedGrid<i32>,
+)
+    requires samples { PlaceFits place source.samples.now grid.old }
+    requires source_alpha { PlaceFits place source.alpha.now grid.old }
+    requires columns { alpha.now.width ≡ place.source.width }
+    requires in_rows { alpha.now.height ≡ place.source.height }
+    ensures { IsPut (mixed_cell (image_of mixing.entry.image.now) mixing.entry.colours mixing.entry.mode
+        mixing.entry.channel place source.entry.samples.now source.entry.alpha.now alpha.now) place grid.old
+        grid.new }
 {
     prove!(place.x as usize <= grid.width());
+    let x0 = place.source.x0 as usize;
+    let y0 = place.source.y0 as usize;
+    let width = place.source.width as usize;
     for j in 0..place.source.height as usize {
-        let from = part(source, place, j);
+        let from = part(source.samples, x0, y0 + j, width);
+        let from_alpha = part(source.alpha, x0, y0 + j, width);
+        let below = part(alpha, 0, j, width);
         let row = grid.get_row_mut(place.y as usize + j);
-        mix(mode, row, place.x as usize, from);
+        mixing.mix(row, place.x as usize, from, from_alpha, below);
     }
 }
 
@@ -105,6 +118,20 @@ fn kinds_of(colours: usize, channels: usize) -> usize
     1 + channels.saturating_sub(colours)
 }
 
+// The channel whose samples are the alpha of a channel, by a mode.
+fn alpha_of(colours: usize, channels: usize, mode: PatchMode, channel: usize) -> usize
+    requires channels { channels < 2 ^ 63 }
+    requires channel { channel < channels }
+    ensures is { result ≡ the_alpha_of colours channels mode channel }
+    ensures inside { result < channels }
+{
+    let PatchMode::Blend(blending) = mode else {
+        return channel;
+    };
+    let alpha = colours.saturating_add(blending.alpha_channel as usize);
+    if alpha < channels { alpha } else { channel }
+}
+
 impl Dictionary {
     fn nth_place(&self, n: usize) -> Place
         requires { n < length self.now.places.items }
@@ -113,50 +140,102 @@ impl Dictionary {
         self.places[n]
     }
 
-    // The mode of a place for a kind of channels, of this number.
-    fn nth_mode(&self, n: usize, kinds: usize, kind: usize) -> PatchMode
+    // The mode of a place for a channel.
+    fn nth_mode(&self, n: usize, colours: usize, channels: usize, channel: usize) -> PatchMode
         requires place { n < length self.now.places.items }
-        requires kind { kind < kinds }
-        requires modes { length self.now.modes.items ≡ length self.now.places.items * kinds }
-        ensures { result ≡ mode_at (patches_of self.now) kinds kind n }
+        requires channels { channels < 2 ^ 63 }
+        requires channel { channel < channels }
+        requires modes { length self.now.modes.items
+            ≡ length self.now.places.items * the_kinds_of colours channels }
+        ensures { result ≡ mode_at (patches_of self.now) colours channels n channel }
     {
-        self.modes[n * kinds + kind]
+        let kinds = kinds_of(colours, channels);
+        self.modes[n * kinds + kind_of(colours, channel)]
     }
 
-    // All places are put into one channel.
-    fn apply_to(
+    // Puts a place into a channel of a frame, where it covers these samples.
+    fn put_channel(
         &self,
-        kinds: usize,
-        kind: usize,
-        channel: usize,
+        image: &ImageHeader,
+        colours: usize,
         slots: &SavedFrames,
+        n: usize,
+        parts: &[AlignedGrid<i32>],
+        channel: usize,
         grid: &mut AlignedGrid<i32>,
     )
-        requires { FitsChannel (frames_in slots.now) (patches_of self.now) kinds kind channel grid.old }
-        ensures { IsPatched (frames_in slots.now) (patches_of self.now) kinds kind channel grid.old grid.new }
+        requires { IsReadyChannel (frames_in slots.now) colours (patches_of self.now) n parts.now channel grid.old }
+        ensures { IsChannelMixed (image_of image.now) (frames_in slots.now) colours (patches_of self.now) n parts.now
+            channel grid.old grid.new }
     {
-        for n in 0..self.places.len() {
-            let place = self.nth_place(n);
-            let mode = self.nth_mode(n, kinds, kind);
-            let source = slots.channel(place.source.slot, channel);
-            put(source, place, mode, grid);
+        let place = self.nth_place(n);
+        let slot = place.source.slot;
+        let mode = self.nth_mode(n, colours, parts.len(), channel);
+        let alpha = alpha_of(colours, parts.len(), mode, channel);
+        let mixing = Mixing {
+            image,
+            colours,
+            mode,
+            channel,
+        };
+        let samples = slots.channel(slot, channel);
+        let samples_alpha = slots.channel(slot, alpha);
+        let covered = &parts[alpha];
+        let source = Layer {
+            samples,
+            alpha: samples_alpha,
+        };
+        put(mixing, place, source, covered, grid);
+    }
+
+    // Puts a place into all channels.
+    fn put_place(
+        &self,
+        alloc: Global,
+        image: &ImageHeader,
+        colours: usize,
+        slots: &SavedFrames,
+        n: usize,
+        channels: &mut [AlignedGrid<i32>],
+    ) -> Result<(), OutOfMemory>
+        requires fits { Fits (frames_in slots.now) colours (patches_of self.now) channels.old }
+        requires place { n < length self.now.places.items }
+        ensures { IfOk result (λ _. ArePlacePut (patching (image_of image.now) (frames_in slots.now) colours
+            (patches_of self.now) channels.old) n channels.old channels.new) }
+    {
+        let parts = covered_parts(alloc, self.nth_place(n), channels)?;
+        for channel in 0..channels.len() {
+            let grid = &mut channels[channel];
+            self.put_channel(image, colours, slots, n, &parts, channel, grid);
         }
+        Ok(())
     }
 
     /// Puts the patches into the channels of their frame, of which this number are colours, in their order. Each slot
     /// holds the channels of its saved frame, as they were saved; none where it holds no frame. Sums of samples are
-    /// taken modulo 2^32. No channel changes its size, and no cell changes that no place covers.
+    /// taken modulo 2^32; products and blended samples are rounded to the nearest whole number by each patch. No channel
+    /// changes its size, and no cell changes that no place covers.
     ///
     /// It takes time for each cell of each place, in each channel: `parse` bounds them by its limit.
-    pub fn apply(&self, colours: usize, channels: &mut [AlignedGrid<i32>], slots: &SavedFrames)
+    ///
+    /// # Errors
+    ///
+    /// Out of memory: the samples on which a place lies are copied.
+    pub fn apply(
+        &self,
+        alloc: Global,
+        image: &ImageHeader,
+        colours: usize,
+        channels: &mut [AlignedGrid<i32>],
+        slots: &SavedFrames,
+    ) -> Result<(), OutOfMemory>
         requires { Fits (frames_in slots.now) colours (patches_of self.now) channels.old }
-        ensures { ArePatched (frames_in slots.now) colours (patches_of self.now) channels.old channels.new }
+        ensures { IfOk result (λ _. ArePatched (image_of image.now) (frames_in slots.now) colours
+            (patches_of self.now) channels.old channels.new) }
     {
-        let kinds = kinds_of(colours, channels.len());
-        for channel in 0..channels.len() {
-            let kind = kind_of(colours, channel);
-            let grid = &mut channels[channel];
-            self.apply_to(kinds, kind, channel, slots, grid);
+        for n in 0..self.places.len() {
+            self.put_place(alloc, image, colours, slots, n, channels)?;
         }
+        Ok(())
     }
 }

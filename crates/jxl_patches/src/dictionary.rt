@@ -16,6 +16,7 @@ use crate::place::{FrameShape, places};
 use crate::slots::SavedFrames;
 use crate::source::{place_count, rectangle_count, source};
 use crate::token::decoder;
+use jxl_frame_header::blending::BlendMode;
 use jxl_image_header::size::Size;
 use jxlm_bits::bits::Bitstream;
 use jxlm_bits::decoder::Decoder;
@@ -43,6 +44,18 @@ pub struct Place {
     pub y: u32,
 }
 
+/// How a patch is blended with the samples of a channel, as a frame is with the picture below it.
+#[derive(Clone, Copy, Debug, PartialEq, Eq)]
+pub struct PatchBlending {
+    pub mode: BlendMode,
+    /// Whether the patch lies below the samples of the channel, and they are blended over it.
+    pub below: bool,
+    /// Which extra channel is alpha, if the mode takes alpha.
+    pub alpha_channel: u32,
+    /// Whether alpha, or the product's factor, is kept between 0 and 1.
+    pub clamp: bool,
+}
+
 /// What a patch does with the samples of a channel.
 #[derive(Clone, Copy, Debug, PartialEq, Eq)]
 pub enum PatchMode {
@@ -52,6 +65,8 @@ pub enum PatchMode {
     Replace,
     /// Those of the rectangle are added.
     Add,
+    /// They are multiplied, or blended by alpha.
+    Blend(PatchBlending),
 }
 
 /// Patches, in the order in which they are put.
@@ -159,8 +174,8 @@ impl Dictionary {
     /// The first in the order of the bits: the decoder's; `Invalid` of `count of patches`, above 1024 rectangles and one
     /// for each 4 pixels; of `slot of a patch`, that holds no frame; of `rectangle of a patch`, that passes its frame
     /// (with its slot); of `places of a patch`, with those before above four times as many as there may be rectangles;
-    /// `TooLarge`, of cells above the limit; `Invalid` of `place of a patch`, that passes the frame; `Blended`; `Invalid`
-    /// of `mode of a patch`. Or it is out of memory.
+    /// `TooLarge`, of cells above the limit; `Invalid` of `place of a patch`, that passes the frame; of `mode of a patch`;
+    /// of `alpha channel of a patch`, that is no extra channel. Or it is out of memory.
     pub fn parse<D: Decoder>(
         alloc: Global,
         bits: &mut Bitstream<'_>,

@@ -14,9 +14,6 @@ pub enum PatchError {
     /// The entropy decoder returned this error.
     #[error("entropy decoder error: {0}")]
     Decoder(DecoderError),
-    /// Patches are multiplied, or blended by alpha, which is not supported.
-    #[error("patches that are blended")]
-    Blended,
     /// The patches put more cells than the caller allows.
     #[error("patches of too many cells")]
     TooLarge,

@@ -8,6 +8,7 @@ pub mod error;
 pub mod laws;
 pub mod patches;
 mod place;
+mod row;
 pub mod slots;
 mod source;
 mod token;

@@ -3,6 +3,7 @@
 ghost use Rattle.std.specs.Prelude.{◌≡◌, ◌+◌, ◌*◌, ◌<◌, ◌≤◌, ◌^◌, length, IfOk};
 ghost use Rattle.std.specs.Option.{IfSome, option_map};
 ghost use Rattle.jxlm_bits.specs.Bits.{bytes_of, position_of};
+ghost use Rattle.jxl_image_header.specs.Images.{image_of};
 ghost use Rattle.jxl_patches.specs.Dictionaries.{AreWithin, patches_of};
 ghost use Rattle.jxl_patches.specs.Errors.{patch_kind};
 ghost use Rattle.jxlm_bits.specs.Grammar.{ParsesBy};
@@ -12,8 +13,9 @@ ghost use Rattle.jxl_patches.specs.SavedParts.{sizes_in, slots_of};
 use crate::dictionary::Dictionary;
 use crate::error::PatchError;
 use crate::slots::SavedFrames;
+use jxl_image_header::image::ImageHeader;
 use jxl_image_header::size::Size;
-use jxlm_base::grid::AlignedGrid;
+use jxlm_base::grid::{AlignedGrid, OutOfMemory};
 use jxlm_bits::bits::Bitstream;
 use jxlm_bits::decoder::Decoder;
 use std::alloc::Global;
@@ -54,22 +56,31 @@ pub fn read_patches<D: Decoder>(
     Ok(Some(dictionary))
 }
 
-/// Puts patches, if there are any, into channels of this size, of which these numbers are colours and extra ones.
+/// Puts patches, if there are any, into channels of an image, of this size, of which these numbers are colours and extra
+/// ones.
+///
+/// # Errors
+///
+/// Out of memory.
 pub fn put_patches(
+    alloc: Global,
     patches: &Option<Dictionary>,
+    image: &ImageHeader,
     size: Size,
     colours: usize,
     extra: usize,
     slots: &SavedFrames,
     channels: &mut [AlignedGrid<i32>],
-)
+) -> Result<(), OutOfMemory>
     requires fits { IfSome patches.now (λ d. AreWithin size extra (sizes_in slots.now) (patches_of d)) }
     requires held { HoldFrames (colours + extra) (slots_of slots.now) }
     requires sides { AreOfSize (colours + extra) size channels.old }
-    ensures put { ArePut (slots_of slots.now) colours (option_map patches_of patches.now) channels.old channels.new }
-    ensures sides { AreOfSize (colours + extra) size channels.new }
+    ensures put { IfOk result (λ _. ArePut (image_of image.now) (slots_of slots.now) colours
+        (option_map patches_of patches.now) channels.old channels.new) }
+    ensures sides { IfOk result (λ _. AreOfSize (colours + extra) size channels.new) }
 {
     if let Some(dictionary) = patches {
-        dictionary.apply(colours, channels, slots);
+        dictionary.apply(alloc, image, colours, channels, slots)?;
     }
+    Ok(())
 }

@@ -3,13 +3,14 @@
 ghost use Rattle.std.specs.Prelude.{◌≡◌, ◌<◌, ◌^◌, ◌-◌, length, get_or, IfOk, IfSome};
 ghost use Rattle.jxlm_bits.specs.Bits.{bytes_of, position_of};
 ghost use Rattle.jxlm_bits.specs.Turns.{chain};
-ghost use Rattle.jxl_patches.specs.Patches.{coordinate_of as the_moved, nowhere, coordinate as the_coordinate, mode_of as the_mode_of, one_mode, one_place};
+ghost use Rattle.jxl_patches.specs.Patches.{coordinate_of as the_moved, nowhere, coordinate as the_coordinate, alpha_channel as the_alpha_channel, clamp_flag as the_clamp_flag, frame_mode as the_frame_mode, mode_number as the_mode_number, mode_of as the_mode_of, one_mode, one_place};
 ghost use Rattle.jxl_patches.specs.Dictionaries.{patches_of};
-ghost use Rattle.jxl_patches.specs.Inner.Steps.{TokenRead, Checks, StepRead, inside as the_inside};
+ghost use Rattle.jxl_patches.specs.Inner.Steps.{TokenRead, Checks, StepRead, coded_alpha as the_coded_alpha, inside as the_inside};
 
-use crate::dictionary::{Dictionary, PatchMode, Place, Rectangle};
+use crate::dictionary::{Dictionary, PatchBlending, PatchMode, Place, Rectangle};
 use crate::error::{PatchError, Result};
 use crate::token::token;
+use jxl_frame_header::blending::BlendMode;
 use jxl_image_header::size::Size;
 use jxlm_bits::bits::Bitstream;
 use jxlm_bits::decoder::Decoder;
@@ -74,38 +75,121 @@ fn coordinate<D: Decoder>(
     inside(extent, side, value, moved(later, before, value))
 }
 
-fn mode_of(value: u32) -> Result<PatchMode>
-    ensures { Checks result (the_mode_of value) }
+fn mode_number<D: Decoder>(decoder: &mut D, bits: &mut Bitstream<'_>) -> Result<u32>
+    requires { length (D.meaning.cluster_map decoder.old) ≡ 10 }
+    ensures gives { TokenRead (λ v. v) result decoder.new (position_of bits.new)
+        ((the_mode_number D.meaning decoder.old).read (bytes_of bits.old) (position_of bits.old)) }
+    ensures clusters { IfOk result (λ _. D.meaning.cluster_map decoder.new ≡ D.meaning.cluster_map decoder.old) }
+    ensures bytes { bytes_of bits.new ≡ bytes_of bits.old }
 {
-    if value == 0 {
-        Ok(PatchMode::Keep)
-    } else if value == 1 {
-        Ok(PatchMode::Replace)
-    } else if value == 2 {
-        Ok(PatchMode::Add)
-    } else if value < 8 {
-        Err(PatchError::Blended)
+    let value = token(decoder, bits, 5)?;
+    if value < 8 {
+        Ok(value)
     } else {
         let name = "mode of a patch";
         Err(PatchError::Invalid { name, value })
     }
 }
 
-// One mode more.
+// The alpha channel of a mode, where it is coded.
+fn coded_alpha<D: Decoder>(decoder: &mut D, bits: &mut Bitstream<'_>, kinds: usize) -> Result<u32>
+    requires { length (D.meaning.cluster_map decoder.old) ≡ 10 }
+    ensures gives { TokenRead (λ v. v) result decoder.new (position_of bits.new)
+        ((the_coded_alpha D.meaning kinds decoder.old).read (bytes_of bits.old) (position_of bits.old)) }
+    ensures clusters { IfOk result (λ _. D.meaning.cluster_map decoder.new ≡ D.meaning.cluster_map decoder.old) }
+    ensures bytes { bytes_of bits.new ≡ bytes_of bits.old }
+{
+    let value = token(decoder, bits, 8)?;
+    if u64::from(value) + 1 < kinds as u64 {
+        Ok(value)
+    } else {
+        let name = "alpha channel of a patch";
+        Err(PatchError::Invalid { name, value })
+    }
+}
+
+// The alpha channel of the mode of this number.
+fn alpha_channel<D: Decoder>(
+    decoder: &mut D,
+    bits: &mut Bitstream<'_>,
+    kinds: usize,
+    mode: u32,
+) -> Result<u32>
+    requires { length (D.meaning.cluster_map decoder.old) ≡ 10 }
+    ensures gives { TokenRead (λ v. v) result decoder.new (position_of bits.new)
+        ((the_alpha_channel D.meaning kinds mode decoder.old).read (bytes_of bits.old) (position_of bits.old)) }
+    ensures clusters { IfOk result (λ _. D.meaning.cluster_map decoder.new ≡ D.meaning.cluster_map decoder.old) }
+    ensures bytes { bytes_of bits.new ≡ bytes_of bits.old }
+{
+    if 3 < mode && 2 < kinds {
+        coded_alpha(decoder, bits, kinds)
+    } else {
+        Ok(0)
+    }
+}
+
+// Whether the mode of this number clamps.
+fn clamp_flag<D: Decoder>(decoder: &mut D, bits: &mut Bitstream<'_>, mode: u32) -> Result<bool>
+    requires { length (D.meaning.cluster_map decoder.old) ≡ 10 }
+    ensures gives { TokenRead (λ v. v) result decoder.new (position_of bits.new)
+        ((the_clamp_flag D.meaning mode decoder.old).read (bytes_of bits.old) (position_of bits.old)) }
+    ensures clusters { IfOk result (λ _. D.meaning.cluster_map decoder.new ≡ D.meaning.cluster_map decoder.old) }
+    ensures bytes { bytes_of bits.new ≡ bytes_of bits.old }
+{
+    if 2 < mode {
+        let value = token(decoder, bits, 9)?;
+        Ok(value != 0)
+    } else {
+        Ok(false)
+    }
+}
+
+// What the mode of this number from 3 on is for frames.
+fn frame_mode(number: u32) -> BlendMode
+    ensures { result ≡ the_frame_mode number }
+{
+    match number {
+        3 => BlendMode::Mul,
+        0..=5 => BlendMode::Blend,
+        _ => BlendMode::MulAdd,
+    }
+}
+
+// The mode of this number.
+fn mode_of(number: u32, alpha_channel: u32, clamp: bool) -> PatchMode
+    ensures { result ≡ the_mode_of number alpha_channel clamp }
+{
+    match number {
+        0 => PatchMode::Keep,
+        1 => PatchMode::Replace,
+        2 => PatchMode::Add,
+        _ => PatchMode::Blend(PatchBlending {
+            mode: frame_mode(number),
+            below: number == 5 || number == 7,
+            alpha_channel,
+            clamp,
+        }),
+    }
+}
+
+// One mode more, of a place with this number of modes.
 fn mode<D: Decoder>(
     decoder: &mut D,
     bits: &mut Bitstream<'_>,
+    kinds: usize,
     growing: &mut Dictionary,
 ) -> Result<()>
     requires { length (D.meaning.cluster_map decoder.old) ≡ 10 }
     ensures gives { StepRead result decoder.new growing.new (position_of bits.new)
-        ((one_mode D.meaning (patches_of growing.old) decoder.old).read (bytes_of bits.old) (position_of bits.old)) }
+        ((one_mode D.meaning kinds (patches_of growing.old) decoder.old).read (bytes_of bits.old)
+        (position_of bits.old)) }
     ensures clusters { IfOk result (λ _. D.meaning.cluster_map decoder.new ≡ D.meaning.cluster_map decoder.old) }
     ensures bytes { bytes_of bits.new ≡ bytes_of bits.old }
 {
-    let value = token(decoder, bits, 5)?;
-    let mode = mode_of(value)?;
-    growing.modes.push(mode)?;
+    let number = mode_number(decoder, bits)?;
+    let alpha = alpha_channel(decoder, bits, kinds, number)?;
+    let clamp = clamp_flag(decoder, bits, number)?;
+    growing.modes.push(mode_of(number, alpha, clamp))?;
     Ok(())
 }
 
@@ -118,13 +202,13 @@ fn modes<D: Decoder>(
 ) -> Result<()>
     requires { length (D.meaning.cluster_map decoder.old) ≡ 10 }
     ensures gives { StepRead result decoder.new growing.new (position_of bits.new)
-        ((chain (one_mode D.meaning) kinds (patches_of growing.old) decoder.old).read (bytes_of bits.old)
+        ((chain (one_mode D.meaning kinds) kinds (patches_of growing.old) decoder.old).read (bytes_of bits.old)
         (position_of bits.old)) }
     ensures clusters { IfOk result (λ _. length (D.meaning.cluster_map decoder.new) ≡ 10) }
     ensures bytes { bytes_of bits.new ≡ bytes_of bits.old }
 {
     for _ in 0..kinds {
-        mode(decoder, bits, growing)?;
+        mode(decoder, bits, kinds, growing)?;
     }
     Ok(())
 }

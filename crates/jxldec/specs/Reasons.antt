@@ -51,7 +51,6 @@ front_text (fronts.TruncatedSection number) = codes "section " ++ decimal number
 unfoldable pub patch_text : PatchError → List ℕ
 patch_text (patches.Invalid name value) = codes "invalid value " ++ decimal value ++ codes " for " ++ name.now
 patch_text (patches.Decoder error) = codes "entropy decoder error: " ++ decoder_text error
-patch_text patches.Blended = codes "patches that are blended"
 patch_text patches.TooLarge = codes "patches of too many cells"
 patch_text patches.OutOfMemory = codes "out of memory"
 

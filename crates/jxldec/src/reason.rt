@@ -95,7 +95,6 @@ impl fmt::Display for PatchReason {
                 let text = decoder_text(error);
                 write!(f, "entropy decoder error: {text}")
             }
-            PatchError::Blended => f.write_str("patches that are blended"),
             PatchError::TooLarge => f.write_str("patches of too many cells"),
             PatchError::OutOfMemory => f.write_str("out of memory"),
         }

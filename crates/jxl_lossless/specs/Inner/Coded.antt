@@ -71,7 +71,7 @@ module _ {D : Type 0} (d : Meaning D) (image : Image) (slots : Slots) where
     pub dictionary : BeginsWith frame first patches begin
     pub own : List (Grid ℤ)
     pub coded : IsCoded d w32 image trees (frame_size image.size frame) frame.group_dim first begin places own before after
-    pub put : ArePut slots (colour_count image) patches own grids
+    pub put : ArePut image slots (colour_count image) patches own grids
 
   -- the first section begins with patches, or with none, and what comes after them has this error
   pub record FailsAfter (frame : Frame) (trees : TreeLimits) (first : List ℕ) (places : Places) (error : FileError) : Type 0 where

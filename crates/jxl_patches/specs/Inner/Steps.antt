@@ -55,6 +55,10 @@ count_within size done cells r limit v = if nat_le (done + (v + 1)) (4 * most_re
 abbrev pub place_count : {S : Type 0} → Meaning S → Size → ℕ → ℕ → Rectangle → ℕ → Tokens S ℕ
 place_count d size done cells r limit = token d 7 (λ v. from_result (count_within size done cells r limit v))
 
+-- the alpha channel of a mode, where it is coded
+abbrev pub coded_alpha : {S : Type 0} → Meaning S → ℕ → Tokens S ℕ
+coded_alpha d kinds = token d 8 (λ v. number_meant (codes "alpha channel of a patch") (nat_lt (v + 1) kinds) v)
+
 -- a coordinate, from which so much lies within a side
 abbrev pub inside : ℕ → ℕ → ℕ → Option ℕ → Result ℕ ErrorKind
 inside extent side v place = ok_or (option_and_then (λ c. if nat_le (c + extent) side then Some c else None) place) (BadEnum (codes "place of a patch") v)

@@ -3,6 +3,6 @@ use Rattle.jxl_patches.proofs.laws.patches_leave_the_last.Goals as goal
 
 pub returns : goal.returns
 returns c = record {
-  uncovered = λ frames patches kinds kind channel x y n v h. uncovered frames patches kinds kind channel x y v n h;
-  replaced = λ frames patches kinds kind channel x y n m v lt h r after. replaced frames patches kinds kind channel x y v n m lt h r after;
+  uncovered = λ t x y n samples c h. uncovered t x y samples c n h;
+  replaced = λ t x y n m samples c lt h r after. replaced t x y samples c n m lt h r after;
 }

@@ -19,8 +19,8 @@ returns-in_err-mode-clause-gives g c =
     let s = c.loop.decoder in
     let at = position_of c.loop.bits in
     let q = position_of c.mode.new.bits in
-    let one : UnlessMemory error (IsErrorAt ((one_mode d x s).read bytes at) error q) = rw c.loop.invariant.same at c.in_err-mode.ensures.gives in
-    let this = chain_fails (one_mode d) bytes c.args.kinds c.loop.counter at q x s error c.loop-test.true one in
+    let one : UnlessMemory error (IsErrorAt ((one_mode d c.args.kinds x s).read bytes at) error q) = rw c.loop.invariant.same at c.in_err-mode.ensures.gives in
+    let this = chain_fails (one_mode d c.args.kinds) bytes c.args.kinds c.loop.counter at q x s error c.loop-test.true one in
     rw (p.1, p.2) (rw c.loop.invariant.read at this)
 
 pub loop-preserved : goal.loop-preserved
@@ -37,7 +37,7 @@ loop-preserved g c =
     record {
       same = c.mode.ensures.bytes ∙ c.loop.invariant.same;
       clusters = ap (λ (xs : List ℕ). length xs) c.in_ok-mode.ensures.clusters ∙ c.loop.invariant.clusters;
-      read = sym (chain_step (one_mode d) bytes c.args.kinds c.loop.counter at q x y s t c.loop-test.true one) ∙ c.loop.invariant.read;
+      read = sym (chain_step (one_mode d c.args.kinds) bytes c.args.kinds c.loop.counter at q x y s t c.loop-test.true one) ∙ c.loop.invariant.read;
     }
 
 pub returns-clause-gives : goal.returns-clause-gives
@@ -45,5 +45,5 @@ returns-clause-gives g c =
     let d = g.D.Decoder.meaning in
     let x = patches_of c.loop.growing in
     let s = c.loop.decoder in
-    let end = chain_ends (one_mode d) (bytes_of c.args.bits.now) c.args.kinds c.loop.counter (position_of c.loop.bits) x s c.loop-test.false in
+    let end = chain_ends (one_mode d c.args.kinds) (bytes_of c.args.bits.now) c.args.kinds c.loop.counter (position_of c.loop.bits) x s c.loop-test.false in
     sym c.loop.invariant.read ∙ end

@@ -9,6 +9,6 @@ abbrev pub invariant-loop : goal.invariant-loop
 invariant-loop g l = record {
   same : bytes_of l.bits ≡ bytes_of l.fn.bits;
   clusters : length (g.D.Decoder.meaning.cluster_map l.decoder) ≡ 10;
-  read : (chain (one_mode g.D.Decoder.meaning) (l.kinds - l.counter) (patches_of l.growing) l.decoder).read (bytes_of l.fn.bits) (position_of l.bits)
-      ≡ (chain (one_mode g.D.Decoder.meaning) l.kinds (patches_of l.fn.growing) l.fn.decoder).read (bytes_of l.fn.bits) (position_of l.fn.bits);
+  read : (chain (one_mode g.D.Decoder.meaning l.kinds) (l.kinds - l.counter) (patches_of l.growing) l.decoder).read (bytes_of l.fn.bits) (position_of l.bits)
+      ≡ (chain (one_mode g.D.Decoder.meaning l.kinds) l.kinds (patches_of l.fn.growing) l.fn.decoder).read (bytes_of l.fn.bits) (position_of l.fn.bits);
 }

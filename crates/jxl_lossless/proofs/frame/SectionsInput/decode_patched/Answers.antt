@@ -92,12 +92,12 @@ returns-clause-ok g c =
     refl c.new-bits.ensures.bytes c.new-bits.ensures.position patches c.in-Ok.ensures.gives in
     let bytes : bytes_of c.read_patches.new.bits ≡ first = c.in-Ok.ensures.bytes ∙ c.new-bits.ensures.bytes in
     let coded = subst (λ (b : List ℕ). CodedOf d w32 c.args.self b q items c.args.steps.now c.decode_grids.new.steps) bytes c.in_ok-channels.ensures.ok in
-    let put = subst (λ (xs : List (Grid ℤ)). ArePut slots (colour_count image) patches xs changed) c.deref_mut.ensures.value
-    (subst (λ n. ArePut slots n patches c.deref_mut.result.now changed) c.colours.ensures c.put_patches.ensures.put) in
+    let put = subst (λ (xs : List (Grid ℤ)). ArePut image slots (colour_count image) patches xs changed) c.deref_mut.ensures.value
+    (subst (λ n. ArePut image slots n patches c.deref_mut.result.now changed) c.colours.ensures c.in_ok-put_patches.ensures.put) in
     let there : c.args.self.input.frame.now.header.coding.flags.patches ≡ true = search rules in
     let none = none_shifted c.args.self.input.frame.now.header.coding.flags.patches (has_shifts image) there c.requires.ready.input.frame.plain in
     let before = count_channels image size items (are_channels image size items (subst (λ (z : Size). AreGridsOf (channels_given image z).channels items) (sym c.size-size.ensures) c.in_ok-channels.ensures.sides)) in
-    let after : AreOfSize (channel_count image) size changed = rw (sym c.colours.ensures, sym count) c.put_patches.ensures.sides in
+    let after : AreOfSize (channel_count image) size changed = rw (sym c.colours.ensures, sym count) c.in_ok-put_patches.ensures.sides in
     let long : length changed ≡ c.in_ok-channels.channels.len = after.count ∙ sym (c.in_ok-channels.channels.ok.0 ∙ before) in
     rw (with_items_is c.in_ok-channels.channels changed long) (record { patches = patches; begin = q; dictionary = stands; own = items; coded = coded; put = put })
 
@@ -111,6 +111,6 @@ returns-clause-sides g c =
     let there : c.args.self.input.frame.now.header.coding.flags.patches ≡ true = search rules in
     let none = none_shifted c.args.self.input.frame.now.header.coding.flags.patches (has_shifts image) there c.requires.ready.input.frame.plain in
     let before = count_channels image size items (are_channels image size items (subst (λ (z : Size). AreGridsOf (channels_given image z).channels items) (sym c.size-size.ensures) c.in_ok-channels.ensures.sides)) in
-    let after : AreOfSize (channel_count image) size changed = rw (sym c.colours.ensures, sym count) c.put_patches.ensures.sides in
+    let after : AreOfSize (channel_count image) size changed = rw (sym c.colours.ensures, sym count) c.in_ok-put_patches.ensures.sides in
     let long : length changed ≡ c.in_ok-channels.channels.len = after.count ∙ sym (c.in_ok-channels.channels.ok.0 ∙ before) in
     rw (with_items_is c.in_ok-channels.channels changed long) (subst (λ (z : Size). AreChannels image z changed) c.size-size.ensures (of_one_size image size changed none after))

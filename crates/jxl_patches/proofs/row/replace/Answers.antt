@@ -1,6 +1,6 @@
 use Rattle.std.proofs.Common.{◌+◌, length, refl}
 use Rattle.jxl_patches.proofs.MixedRows.{replaced_row}
-use Rattle.jxl_patches.proofs.apply.replace.Goals as goal
+use Rattle.jxl_patches.proofs.row.replace.Goals as goal
 
 pub returns : goal.returns
 returns c =

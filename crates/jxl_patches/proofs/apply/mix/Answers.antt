@@ -1,5 +1,0 @@
-use Rattle.jxl_patches.proofs.MixedRows.{kept_row}
-use Rattle.jxl_patches.proofs.apply.mix.Goals as goal
-
-pub returns-in-Keep : goal.returns-in-Keep
-returns-in-Keep c = rw c.in-Keep.is (kept_row c.args.from.now c.args.row.now c.args.start)
