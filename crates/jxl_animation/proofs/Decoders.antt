@@ -1,5 +1,5 @@
 -- Decoders of frames, before and after a frame.
-use Rattle.std.proofs.Common.{◌≡◌, ℕ, ◌+◌, ◌*◌, ◌^◌, ◌<◌, ◌≤◌, ◌∷◌, ◌++◌, ℤ, Bool, List, [], length, Option, Some, None, Ok, inr, true, false, refl, sym, ap, subst, ◌∙◌, arith}
+use Rattle.std.proofs.Common.{◌≡◌, ℕ, ◌+◌, ◌*◌, ◌^◌, ◌<◌, ◌≤◌, ◌∷◌, ◌++◌, ℤ, Bool, List, [], length, Option, Some, None, Ok, inl, inr, true, false, refl, sym, ap, subst, ◌∙◌, arith}
 use Rattle.std.specs.Prelude.{IfSome, MatchOption, if◌then◌else◌, nat_lt, not, ◌&&◌, ◌||◌}
 use Rattle.jxlm_base.specs.Grid.{Grid}
 use Rattle.jxl_container.specs.Files.{HasCodestream}
@@ -21,8 +21,8 @@ use Rattle.jxl_lossless.proofs.Holding.{hold_none}
 use Rattle.jxl_layers.specs.Compositions.{is_displayed, is_final, picture_size, slots_after}
 use Rattle.jxl_layers.specs.Openings.{IsReadyOpening, Opens}
 use Rattle.jxl_layers.specs.declared.opening.Opening.{Opening}
-use Rattle.jxl_animation.specs.Files.{BeginFrames, FrameOfFileFails, FramesOfFileFail, HasFewerFrames, IsFrameOfFile}
-use Rattle.jxl_animation.specs.Decoders.{IsDecoderOf, IsReadyDecoder, IsReadySource, IsReadyState, bytes_in, image_in, state_of}
+use Rattle.jxl_animation.specs.Files.{BeginFrames, FrameOfFileFails, HasFewerFrames, IsFrameOfFile, IsShownOfFile}
+use Rattle.jxl_animation.specs.Decoders.{HasShown, IsDecoderOf, IsReadyDecoder, IsReadySource, IsReadyState, PictureFails, ShowsPicture, bytes_in, image_in, state_of}
 use Rattle.jxl_animation.specs.Inner.Readings.{GoesOn, IsMade, IsShownIf, IsShownOf, used_after}
 use Rattle.jxl_animation.specs.States.{EndsBefore, FailsAfter, FailsBy, FailsNext, Makes, NextPicture, NoFrame, NoPicture, Passes, ShowsFrames, ShowsNext, ShowsNth, State, first_state, state_after}
 use Rattle.jxl_animation.specs.declared.error.AnimationError.{AnimationError}
@@ -31,6 +31,7 @@ use Rattle.jxl_lossless.specs.declared.error.FileError.TheVariants as files
 use Rattle.jxl_animation.specs.declared.frames.FrameDecoder.{FrameDecoder}
 use Rattle.jxl_animation.specs.declared.frames.Made.{Made}
 use Rattle.jxl_animation.specs.declared.frames.ShownFrame.{ShownFrame}
+use Rattle.jxl_animation.specs.declared.frames.ShownPicture.{ShownPicture}
 use Rattle.jxl_animation.specs.declared.frames.Source.{Source}
 use Rattle.jxl_animation.proofs.States.{hold_after, not_final, one_more, same_state}
 
@@ -267,3 +268,112 @@ module _ (limits : Limits) (file : List ℕ) (number : ℕ) (x : FrameDecoder) (
       fails = record { hidden = []; steps = 0; passes = NoFrame; going = refl; fails = tt };
     };
   })
+
+-- the next frame that is shown, and none
+pub next_some : (x y : FrameDecoder) (n m : ℕ) (r : Option ShownFrame) (f : ShownFrame) → r ≡ Some f →
+    MatchOption r ((x.is_done ≡ true) × (y ≡ x) × (m ≡ n)) (λ g. ShowsNext x.source.limits (bytes_in x.source) (image_in x.source) (state_of x) g (state_of y) n m) →
+    ShowsNext x.source.limits (bytes_in x.source) (image_in x.source) (state_of x) f (state_of y) n m
+next_some x y n m r f is shows =
+    subst (λ (q : Option ShownFrame). MatchOption q ((x.is_done ≡ true) × (y ≡ x) × (m ≡ n)) (λ g. ShowsNext x.source.limits (bytes_in x.source) (image_in x.source) (state_of x) g (state_of y) n m)) is shows
+
+pub next_none : (x y : FrameDecoder) (n m : ℕ) (r : Option ShownFrame) → r ≡ None →
+    MatchOption r ((x.is_done ≡ true) × (y ≡ x) × (m ≡ n)) (λ g. ShowsNext x.source.limits (bytes_in x.source) (image_in x.source) (state_of x) g (state_of y) n m) →
+    (x.is_done ≡ true) × (y ≡ x) × (m ≡ n)
+next_none x y n m r is none =
+    subst (λ (q : Option ShownFrame). MatchOption q ((x.is_done ≡ true) × (y ≡ x) × (m ≡ n)) (λ g. ShowsNext x.source.limits (bytes_in x.source) (image_in x.source) (state_of x) g (state_of y) n m)) is none
+
+-- the same, upright
+pub shows_picture : (x y : FrameDecoder) (n m : ℕ) (f : ShownFrame) (p : Picture) → y.source ≡ x.source →
+    ShowsNext x.source.limits (bytes_in x.source) (image_in x.source) (state_of x) f (state_of y) n m → IsUpright (image_in y.source) f.channels.items (image_of p.header) p.channels.items →
+    bytes_if p.profile ≡ bytes_if y.source.profile → ShowsPicture x (record { duration = f.duration; timecode = f.timecode; picture = p }) y n m
+shows_picture x y n m f p source shows upright profile = record {
+  frame = f;
+  shows = shows;
+  upright = subst (λ (s : Source). IsUpright (image_in s) f.channels.items (image_of p.header) p.channels.items) source upright;
+  profile = profile ∙ ap (λ (s : Source). bytes_if s.profile) source;
+  duration = refl;
+  timecode = refl;
+}
+
+-- of a file: none of its pictures was shown yet
+pub none_shown : (limits : Limits) (file : List ℕ) (x : FrameDecoder) → IsDecoderOf limits file x → HasShown limits file 0 0 x
+none_shown limits file x is = record {
+  start = x.start;
+  found = is.found;
+  opens = is.opens;
+  limits_are = is.limits_are;
+  shows = subst (λ (s : State). ShowsFrames limits (bytes_in x.source) (image_in x.source) (first_state x.start) 0 0 s 0) (sym is.first) NoPicture;
+}
+
+-- after this number of its pictures decoder x goes on to y
+module _ (limits : Limits) (file : List ℕ) (number n m : ℕ) (x y : FrameDecoder) (has : HasShown limits file number n x) where
+  next_by : (f : ShownFrame) → ShowsNext x.source.limits (bytes_in x.source) (image_in x.source) (state_of x) f (state_of y) n m → ShowsNext limits (bytes_in x.source) (image_in x.source) (state_of x) f (state_of y) n m
+  next_by f shows = subst (λ (l : Limits). ShowsNext l (bytes_in x.source) (image_in x.source) (state_of x) f (state_of y) n m) has.limits_are shows
+
+  pub shown_more : (f : ShownFrame) → y.source ≡ x.source → ShowsNext x.source.limits (bytes_in x.source) (image_in x.source) (state_of x) f (state_of y) n m → HasShown limits file (number + 1) m y
+  shown_more f source shows = record {
+    start = has.start;
+    found = subst (λ (s : Source). HasCodestream file (Ok (bytes_in s))) (sym source) has.found;
+    opens = subst (λ (s : Source). Opens limits (bytes_in s) (image_in s) (bytes_if s.profile) has.start) (sym source) has.opens;
+    limits_are = ap (λ (s : Source). s.limits) source ∙ has.limits_are;
+    shows = subst (λ (s : Source). ShowsFrames limits (bytes_in s) (image_in s) (first_state has.start) 0 (number + 1) (state_of y) m) (sym source)
+        (NextPicture number (state_of x) n f (state_of y) m has.shows (next_by f shows));
+  }
+
+  pub shown_of_file : (p : ShownPicture) → ShowsPicture x p y n m → IsShownOfFile limits file number p
+  shown_of_file p shows = record {
+    frame = record {
+      bytes = bytes_in x.source;
+      image = image_in x.source;
+      start = has.start;
+      begin = record { found = has.found; opens = subst (λ (icc : Option (List ℕ)). Opens limits (bytes_in x.source) (image_in x.source) icc has.start) (sym shows.profile) has.opens };
+      shown = shows.frame;
+      after = state_of y;
+      steps = m;
+      shows = record { middle = state_of x; steps = n; before = has.shows; next = next_by shows.frame shows.shows };
+      upright = shows.upright;
+    };
+    duration = shows.duration;
+    timecode = shows.timecode;
+  }
+
+  pub none_of_file : x.is_done ≡ true → HasFewerFrames limits file number
+  none_of_file done = record {
+    bytes = bytes_in x.source;
+    image = image_in x.source;
+    icc = bytes_if x.source.profile;
+    start = has.start;
+    begin = record { found = has.found; opens = has.opens };
+    after = state_of x;
+    steps = n;
+    ends = record { count = number; few = omega arith; shows = has.shows; ended = done };
+  }
+
+  failed : (e : AnimationError) (t : State) → FailsBy limits (bytes_in x.source) (image_in x.source) (first_state has.start) number t 0 e → FrameOfFileFails limits file number e
+  failed e t fails = inr (record {
+    bytes = bytes_in x.source;
+    image = image_in x.source;
+    icc = bytes_if x.source.profile;
+    start = has.start;
+    begin = record { found = has.found; opens = has.opens };
+    after = t;
+    fails = fails;
+  })
+
+  pub fails_of_file : (e : AnimationError) → PictureFails x y n m e → FrameOfFileFails limits file number e
+  fails_of_file e (inl fails) = failed e (state_of y) (record {
+    count = number;
+    few = omega arith;
+    middle = state_of x;
+    steps = n;
+    shows = has.shows;
+    fails = subst (λ (l : Limits). FailsAfter l (bytes_in x.source) (image_in x.source) (state_of x) (state_of y) n e) has.limits_are fails;
+  })
+  fails_of_file e (inr passed) = subst (λ (f : AnimationError). FrameOfFileFails limits file number f) (sym passed.2) (failed (errors.File files.OutOfMemory) (first_state has.start) (record {
+    count = 0;
+    few = omega arith;
+    middle = first_state has.start;
+    steps = 0;
+    shows = NoPicture;
+    fails = record { hidden = []; steps = 0; passes = NoFrame; going = refl; fails = tt };
+  }))

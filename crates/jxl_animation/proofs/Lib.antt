@@ -1,3 +1,3 @@
 mod States
 mod Pictures
-mod Decoders
+pub mod Decoders

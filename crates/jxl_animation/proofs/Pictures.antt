@@ -1,5 +1,5 @@
 -- The pictures that frames make, with all channels.
-use Rattle.std.proofs.Common.{◌≡◌, ℕ, ℤ, Bool, true, false, List, Option, Result, Ok, Err, Some, None, refl, subst}
+use Rattle.std.proofs.Common.{◌≡◌, ℤ, Bool, true, false, List, Option, Result, Ok, Err, Some, None, refl, subst}
 use Rattle.std.specs.Prelude.{IfOk, MatchBool, if◌then◌else◌, is_some, not, ◌&&◌, ◌||◌}
 use Rattle.std.specs.Global.{Vec}
 use Rattle.std.specs.List.{list_all}

@@ -1,5 +1,5 @@
 -- Where decoders of frames are, and what fails there.
-use Rattle.std.proofs.Common.{◌≡◌, ℕ, ◌+◌, ◌-◌, ◌<◌, ◌≤◌, ℤ, Bool, true, false, List, [], ◌∷◌, ◌++◌, length, drop, Option, Result, Ok, Err, Some, None, refl, sym, ap, subst, ◌∙◌, arith}
+use Rattle.std.proofs.Common.{◌≡◌, ℕ, ◌+◌, ◌-◌, ◌<◌, ◌≤◌, ℤ, Bool, true, false, List, [], ◌∷◌, ◌++◌, drop, refl, sym, ap, subst, ◌∙◌, arith}
 use Rattle.std.specs.Prelude.{if◌then◌else◌, not, nat_lt, ◌&&◌, ◌||◌}
 use Rattle.jxlm_base.specs.Grid.{Grid}
 use Rattle.jxlm_bits.specs.ErrorKind.{UnlessMemory, UnlessNoMemory, kind_of}
@@ -8,12 +8,11 @@ use Rattle.jxlm_bits.specs.declared.error.Error.{Error}
 use Rattle.jxl_coding.specs.Parse.{decoder_at}
 use Rattle.jxl_coding.specs.Tokens.{entropy}
 use Rattle.jxl_image_header.specs.Images.{Image}
-use Rattle.jxl_image_header.specs.declared.size.Size.{Size}
 use Rattle.jxl_frame_header.specs.Frames.{Frame, frame_header, frame_size, is_saved}
 use Rattle.jxl_picture.specs.Limits.{cells_of}
 use Rattle.jxl_picture.specs.Pictures.{AreChannels}
 use Rattle.jxl_picture.specs.declared.limits.Limits.{Limits}
-use Rattle.jxl_codestream.specs.Fronts.{FailsAt, FrameAt, PartsFail, PartsStand, StandsAt}
+use Rattle.jxl_codestream.specs.Fronts.{FailsAt, FrameAt, PartsFail, PartsStand}
 use Rattle.jxl_codestream.specs.declared.error.FrontError.{FrontError}
 use Rattle.jxl_codestream.specs.declared.error.FrontError.TheVariants as fronts
 use Rattle.jxl_codestream.proofs.Fronts.{fails_at}
@@ -24,10 +23,8 @@ use Rattle.jxl_lossless.specs.Saved.{HoldChannels}
 use Rattle.jxl_lossless.proofs.Holding.{hold_more}
 use Rattle.jxl_lossless.specs.declared.error.FileError.{FileError}
 use Rattle.jxl_lossless.specs.declared.error.FileError.TheVariants as files
-use Rattle.jxl_animation.specs.States.{ComesNext, FailsAfter, FailsNext, FileFailsNext, HeaderGoesOn, Makes, NoFrame, OneMore, Passes, ShowsNext, State, state_after, used_before}
-use Rattle.jxl_animation.specs.declared.error.AnimationError.{AnimationError}
+use Rattle.jxl_animation.specs.States.{ComesNext, FailsNext, HeaderGoesOn, Makes, OneMore, Passes, State, state_after, used_before}
 use Rattle.jxl_animation.specs.declared.error.AnimationError.TheVariants as errors
-use Rattle.jxl_animation.specs.declared.frames.ShownFrame.{ShownFrame}
 
 -- states are the same by their parts
 pub same_state : (s t : State) → s.slots ≡ t.slots → s.start ≡ t.start → s.used ≡ t.used → s.done ≡ t.done → s ≡ t

@@ -1,15 +1,22 @@
 -- What a decoder of frames holds.
-use Rattle.std.specs.Prelude.{◌≡◌, ℕ, ◌*◌, ◌^◌, ◌<◌, ◌≤◌, List, length, Option, None, Ok}
+use Rattle.std.specs.Prelude.{◌≡◌, ◌⊎◌, ℕ, ◌+◌, ◌*◌, ◌^◌, ◌<◌, ◌≤◌, List, length, Option, Result, Ok, MatchOption, MatchResult}
 use Rattle.jxl_container.specs.Files.{HasCodestream, stream_of}
 use Rattle.jxl_image_header.specs.Images.{Image, image_of}
 use Rattle.jxl_codestream.specs.FrontParts.{HasLowShifts, bytes_if}
 use Rattle.jxl_picture.specs.Limits.{channel_count}
+use Rattle.jxl_picture.specs.Orientations.{IsUpright}
 use Rattle.jxl_picture.specs.declared.limits.Limits.{Limits}
 use Rattle.jxl_patches.specs.SavedParts.{slots_of}
 use Rattle.jxl_lossless.specs.Saved.{HoldChannels}
+use Rattle.jxl_lossless.specs.declared.error.FileError.TheVariants as files
 use Rattle.jxl_layers.specs.Openings.{Opens}
-use Rattle.jxl_animation.specs.States.{State, first_state}
+use Rattle.jxl_animation.specs.Files.{FrameOfFileFails, HasFewerFrames, IsShownOfFile}
+use Rattle.jxl_animation.specs.States.{FailsAfter, ShowsFrames, ShowsNext, State, first_state}
+use Rattle.jxl_animation.specs.declared.error.AnimationError.{AnimationError}
+use Rattle.jxl_animation.specs.declared.error.AnimationError.TheVariants as errors
 use Rattle.jxl_animation.specs.declared.frames.FrameDecoder.{FrameDecoder}
+use Rattle.jxl_animation.specs.declared.frames.ShownFrame.{ShownFrame}
+use Rattle.jxl_animation.specs.declared.frames.ShownPicture.{ShownPicture}
 use Rattle.jxl_animation.specs.declared.frames.Source.{Source}
 
 -- the bytes of the codestream, its image header, and its profile
@@ -46,3 +53,32 @@ pub record IsDecoderOf (limits : Limits) (file : List ℕ) (x : FrameDecoder) : 
   pub opens : Opens limits (bytes_in x.source) (image_in x.source) (bytes_if x.source.profile) x.start
   pub limits_are : x.source.limits ≡ limits
   pub first : state_of x ≡ first_state x.start
+
+-- A decoder of the frames of this file, after this number of pictures, and of steps in trees.
+pub record HasShown (limits : Limits) (file : List ℕ) (number steps : ℕ) (x : FrameDecoder) : Type 0 where
+  pub start : ℕ
+  pub found : HasCodestream file (Ok (bytes_in x.source))
+  pub opens : Opens limits (bytes_in x.source) (image_in x.source) (bytes_if x.source.profile) start
+  pub limits_are : x.source.limits ≡ limits
+  pub shows : ShowsFrames limits (bytes_in x.source) (image_in x.source) (first_state start) 0 number (state_of x) steps
+
+-- The next picture that is shown, upright, with the profile of the file. The decoder goes on, and the steps in trees are counted.
+pub record ShowsPicture (x : FrameDecoder) (p : ShownPicture) (y : FrameDecoder) (n m : ℕ) : Type 0 where
+  pub frame : ShownFrame
+  pub shows : ShowsNext x.source.limits (bytes_in x.source) (image_in x.source) (state_of x) frame (state_of y) n m
+  pub upright : IsUpright (image_in x.source) frame.channels.items (image_of p.picture.header) p.picture.channels.items
+  pub profile : bytes_if p.picture.profile ≡ bytes_if x.source.profile
+  pub duration : p.duration ≡ frame.duration
+  pub timecode : p.timecode ≡ frame.timecode
+
+-- why there is no next picture: a frame has this error; or the picture was passed, and memory is wanting for it upright
+abbrev pub PictureFails : FrameDecoder → FrameDecoder → ℕ → ℕ → AnimationError → Type 0
+PictureFails x y n m e =
+    FailsAfter x.source.limits (bytes_in x.source) (image_in x.source) (state_of x) (state_of y) n e ⊎
+    ((frame : ShownFrame) × ShowsNext x.source.limits (bytes_in x.source) (image_in x.source) (state_of x) frame (state_of y) n m × (e ≡ errors.File files.OutOfMemory))
+
+-- what comes next of a file, after this number of pictures: the picture with this number, or none, or an error of the frames up to it
+abbrev pub IsNextOfFile : Limits → List ℕ → ℕ → FrameDecoder → ℕ → Result (Option ShownPicture) AnimationError → Type 0
+IsNextOfFile limits file number y steps r =
+    MatchResult r (λ o. MatchOption o (HasFewerFrames limits file number)
+    (λ p. IsShownOfFile limits file number p × HasShown limits file (number + 1) steps y)) (FrameOfFileFails limits file number)

@@ -1,5 +1,5 @@
 -- The pictures that a file shows, and what is wrong with it (ISO/IEC 18181-1 and 18181-2).
-use Rattle.std.specs.Prelude.{◌⊎◌, ℕ, List, Option, Ok, Err}
+use Rattle.std.specs.Prelude.{◌≡◌, ◌⊎◌, ℕ, List, Option, Ok, Err}
 use Rattle.jxl_container.specs.Files.{HasCodestream, UnlessMemory}
 use Rattle.jxl_image_header.specs.Images.{Image, image_of}
 use Rattle.jxl_codestream.specs.FrontParts.{bytes_if}
@@ -12,6 +12,7 @@ use Rattle.jxl_animation.specs.States.{EndsBefore, FailsBy, ShowsNth, State, fir
 use Rattle.jxl_animation.specs.declared.error.AnimationError.{AnimationError}
 use Rattle.jxl_animation.specs.declared.error.AnimationError.TheVariants as errors
 use Rattle.jxl_animation.specs.declared.frames.ShownFrame.{ShownFrame}
+use Rattle.jxl_animation.specs.declared.frames.ShownPicture.{ShownPicture}
 
 -- what each error says of a file
 abbrev pub FileNotOpened : Limits → List ℕ → AnimationError → Type 0
@@ -36,6 +37,12 @@ pub record IsFrameOfFile (limits : Limits) (file : List ℕ) (number : ℕ) (pic
   pub steps : ℕ
   pub shows : ShowsNth limits bytes image (first_state start) number shown after 0 steps
   pub upright : IsUpright image shown.channels.items (image_of picture.header) picture.channels.items
+
+-- This is the picture with this number among those that a file shows, with its duration and its time code.
+pub record IsShownOfFile (limits : Limits) (file : List ℕ) (number : ℕ) (p : ShownPicture) : Type 0 where
+  pub frame : IsFrameOfFile limits file number p.picture
+  pub duration : p.duration ≡ frame.shown.duration
+  pub timecode : p.timecode ≡ frame.shown.timecode
 
 -- It shows at most this number.
 pub record HasFewerFrames (limits : Limits) (file : List ℕ) (number : ℕ) : Type 0 where

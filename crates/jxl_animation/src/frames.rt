@@ -1,6 +1,6 @@
 //! The frames of a file, one by one.
 
-ghost use Rattle.std.specs.Prelude.{◌≡◌, ◌≤◌, ◌+◌, ◌&&◌, IfErr, IfOk, IfSome, MatchOption, None, drop, length, false, true};
+ghost use Rattle.std.specs.Prelude.{◌≡◌, ℕ, ◌≤◌, ◌+◌, ◌&&◌, List, IfErr, IfOk, IfSome, MatchOption, None, drop, length, false, true};
 ghost use Rattle.jxlm_bits.specs.Bits.{bytes_of, position_of};
 ghost use Rattle.jxlm_transform.specs.Params.{IsGroupDim};
 ghost use Rattle.jxl_coding.specs.Parse.{decoder_at};
@@ -10,7 +10,8 @@ ghost use Rattle.jxl_frame_header.specs.Frames.{frame_of, frame_size, has_shifts
 ghost use Rattle.jxl_frame_header.specs.Passes.{IsPassCount};
 ghost use Rattle.jxl_picture.specs.Orientations.{IsUpright};
 ghost use Rattle.jxl_picture.specs.Pictures.{AreChannels, IsWhole};
-ghost use Rattle.jxl_codestream.specs.FrontParts.{IsReadyFrame, frame_at};
+ghost use Rattle.jxl_picture.specs.declared.limits.Limits.{Limits};
+ghost use Rattle.jxl_codestream.specs.FrontParts.{IsReadyFrame, bytes_if, frame_at};
 ghost use Rattle.jxl_codestream.specs.Fronts.{end_of};
 ghost use Rattle.jxl_patches.specs.SavedParts.{slots_of};
 ghost use Rattle.jxl_lossless.specs.Frames.{IsFrame};
@@ -25,7 +26,7 @@ use jxl_codestream::frame::{FrameFront, FrameStart};
 use jxl_coding::decoder::EntropyDecoder;
 use jxl_container::codestream::{Codestream, find_codestream};
 use jxl_frame_header::frame::FrameHeader;
-use jxl_image_header::image::ImageHeader;
+use jxl_image_header::image::{Animation, ImageHeader};
 use jxl_image_header::size::Size;
 use jxl_layers::compose::compose;
 use jxl_layers::layer::{is_displayed, is_final, is_kept, is_taken, picture_size, spare_cells};
@@ -48,6 +49,17 @@ pub struct ShownFrame {
     pub timecode: u32,
     /// Its channels: of colours as large as the picture, before it is turned upright.
     pub channels: Vec<AlignedGrid<i32>>,
+}
+
+/// A picture that is shown, upright.
+#[derive(Drop)]
+pub struct ShownPicture {
+    /// For how many units of time it is shown.
+    pub duration: u32,
+    /// Its time code, 0 where the animation has none.
+    pub timecode: u32,
+    /// The picture, upright, with the profile of the file.
+    pub picture: Picture,
 }
 
 /// What the frames are decoded from: the codestream, its headers, and the limits.
@@ -93,6 +105,39 @@ fn copies(
         all.push(copy)?;
     }
     Ok(all)
+}
+
+// A copy of what the headers say.
+fn copy_of_header(alloc: Global, header: &ImageHeader) -> Result<ImageHeader, OutOfMemory>
+    ensures { IfOk result (λ h. image_of h ≡ image_of header.now) }
+{
+    Ok(ImageHeader {
+        size: header.size,
+        orientation: header.orientation,
+        intrinsic_size: header.intrinsic_size,
+        preview: header.preview,
+        animation: header.animation,
+        bit_depth: header.bit_depth,
+        modular_16bit_buffers: header.modular_16bit_buffers,
+        ec_info: Vec::from_slice(alloc, &header.ec_info)?,
+        xyb_encoded: header.xyb_encoded,
+        colour_encoding: header.colour_encoding,
+        tone_mapping: header.tone_mapping,
+        extensions: header.extensions,
+    })
+}
+
+// A copy of the profile, if there is one.
+fn copy_of_profile(alloc: Global, profile: &Option<Vec<u8>>) -> Result<Option<Vec<u8>>, OutOfMemory>
+    ensures { IfOk result (λ p. bytes_if p ≡ bytes_if profile.now) }
+{
+    match profile {
+        Some(bytes) => {
+            let copy = Vec::from_slice(alloc, bytes)?;
+            Ok(Some(copy))
+        }
+        None => Ok(None),
+    }
 }
 
 // Saves what a frame made in a picture of this size, if others may use it.
@@ -152,7 +197,7 @@ fn keep_and_show(
 }
 
 impl<'a> FrameDecoder<'a> {
-    ghost use Rattle.jxl_animation.specs.Decoders.{IsDecoderOf, IsReadyDecoder, bytes_in, image_in, state_of};
+    ghost use Rattle.jxl_animation.specs.Decoders.{HasShown, IsDecoderOf, IsNextOfFile, IsReadyDecoder, PictureFails, ShowsPicture, bytes_in, image_in, state_of};
     ghost use Rattle.jxl_animation.specs.States.{ComesNext, EndsBefore, FailsAfter, FailsBy, FailsNext, HeaderGoesOn, ShowsNext, ShowsNth, state_after};
     ghost use Rattle.jxl_animation.specs.Inner.Readings.{GoesOn, IsMade, used_after};
 
@@ -203,6 +248,13 @@ impl<'a> FrameDecoder<'a> {
         ensures { result.now ≡ self.now.source }
     {
         &self.source
+    }
+
+    /// When the pictures change, and how often they are shown; none where the file is no animation.
+    pub fn animation(&self) -> Option<Animation>
+        ensures { result ≡ (image_in self.now.source).animation }
+    {
+        self.source.image.animation
     }
 
     /// Whether no frame is left.
@@ -468,6 +520,61 @@ impl<'a> FrameDecoder<'a> {
         }
         let last = self.next(alloc, steps)?;
         Ok(last)
+    }
+
+    /// These channels as a picture, upright, with copies of what the headers say of it and of the profile.
+    pub fn to_picture(
+        &self,
+        alloc: Global,
+        channels: Vec<AlignedGrid<i32>>,
+    ) -> Result<Picture, OutOfMemory>
+        ensures upright { IfOk result (λ p. IsUpright (image_in self.now.source) channels.items (image_of p.header)
+            p.channels.items) }
+        ensures profile { IfOk result (λ p. bytes_if p.profile ≡ bytes_if self.now.source.profile) }
+    {
+        let header = copy_of_header(alloc, &self.source.image)?;
+        let profile = copy_of_profile(alloc, &self.source.profile)?;
+        let coded = Picture {
+            header,
+            channels,
+            profile,
+        };
+        let shown = coded.upright(alloc)?;
+        Ok(shown)
+    }
+
+    /// The next picture that is shown, upright, or none after the last one.
+    ///
+    /// # Errors
+    ///
+    /// As of `next`. If memory is short for the upright picture alone, the decoder has passed this picture.
+    pub fn next_picture(
+        &mut self,
+        alloc: Global,
+        steps: &mut Steps,
+    ) -> Result<Option<ShownPicture>, AnimationError>
+        requires ready { IsReadyDecoder self.old }
+        ensures ok { IfOk result (λ r. MatchOption r
+            ((self.old.is_done ≡ true) × (self.new ≡ self.old) × (steps.new ≡ steps.old))
+            (λ shown. ShowsPicture self.old shown self.new steps.old steps.new)) }
+        ensures whole { IfOk result (λ r. IfSome r (λ shown. IsWhole (image_of shown.picture.header)
+            shown.picture.channels.items)) }
+        ensures err { IfErr result (PictureFails self.old self.new steps.old steps.new) }
+        ensures of_file { (limits : Limits) (file : List ℕ) (number : ℕ) → HasShown limits file number steps.old self.old
+            → IsNextOfFile limits file number self.new steps.new result }
+        ensures source { self.new.source ≡ self.old.source }
+        ensures ready { IsReadyDecoder self.new }
+    {
+        let next = self.next(alloc, steps)?;
+        let Some(frame) = next else {
+            return Ok(None);
+        };
+        let picture = self.to_picture(alloc, frame.channels)?;
+        Ok(Some(ShownPicture {
+            duration: frame.duration,
+            timecode: frame.timecode,
+            picture,
+        }))
     }
 
     /// These channels as a picture, upright, with what the headers say of it.

@@ -5,4 +5,4 @@ pub mod error;
 pub mod frames;
 
 pub use error::AnimationError;
-pub use frames::{FrameDecoder, ShownFrame, decode_frame};
+pub use frames::{FrameDecoder, ShownFrame, ShownPicture, decode_frame};
