@@ -1,12 +1,14 @@
 -- Bits that were written from the last to the first.
-use Rattle.std.proofs.Common.{◌≡◌, ℕ, ◌+◌, ◌-◌, ◌*◌, ◌/◌, ◌%◌, ◌^◌, ◌<◌, ◌≤◌, List, [], ◌∷◌, ◌++◌, length, get_or, drop, sym, ap, ◌∙◌, arith, append_assoc}
-use Rattle.std.proofs.lemmas.List.{append-nil, drop_more, drop_all}
+use Rattle.std.proofs.Common.{◌≡◌, ℕ, ◌+◌, ◌-◌, ◌*◌, ◌/◌, ◌%◌, ◌^◌, ◌<◌, ◌≤◌, zero, suc, List, [], ◌∷◌, ◌++◌, length, get_or, take, drop, sym, ap, ◌∙◌, arith, append_assoc}
+use Rattle.std.proofs.lemmas.List.{append-nil, drop_more, drop_all, length-drop, take_all, take-append-drop}
+use Rattle.std.proofs.Math.Seq.{take-add}
+use Rattle.std.specs.List.{flat_map}
+use Rattle.std.specs.Simd.{first_chunks}
 use Rattle.std.proofs.lemmas.Nat.{pow_pos, pow-add, shr_high, mul-mod_first, mod_below, mod-pow-add, shr-shr, div-add-mod'}
-use Rattle.std.proofs.Math.Nat.{add-mul-mod_self_right, add-mul, mul_assoc, mul_comm, mul-le-mul_left}
-use Rattle.jxlm_bit_writer.specs.Written.{digits}
+use Rattle.std.proofs.Math.Nat.{add-mul-mod_self_right, add-mul, mul_assoc, mul_comm, mul-le-mul_left, suc-mul, zero-mul}
+use Rattle.jxlm_bit_writer.specs.Written.{digits, words_back}
 use Rattle.jxlm_bit_writer.proofs.BitLists.{digits_low}
 use Rattle.jxlm_bit_writer.proofs.HeldBits.{digits_split, digits_mod}
-use Rattle.jxl_coding_stream_write.specs.Inner.Backward.{words_back}
 
 -- the low digits of a number are those of its remainder
 pub digits_wrapped : (k m x : ℕ) → k ≤ m → digits k (x % 2 ^ m) ≡ digits k x
@@ -130,6 +132,17 @@ module _ (value count n number : ℕ) (small : number < 2 ^ 32) (few : count < 6
       ∙ ap (λ xs. xs ++ words_back words) (sym halves)
       ∙ append_assoc (digits n (number % 2 ^ n)) (digits count value) (words_back words)
 
+  -- the same where the code computes the numbers of bits otherwise
+  pub word_same_by : (r s l m : ℕ) → r ≡ rest → s ≡ last → l ≡ number / 2 ^ n → m ≡ number / 2 ^ r →
+      (((value + (18446744073709551616 - l)) % 18446744073709551616 * 2 ^ s % 18446744073709551616) + m) % 18446744073709551616 % 18446744073709551616 ≡ high % 18446744073709551616
+  word_same_by r s l m is_rest is_last e f =
+      ap (λ k. (((value + (18446744073709551616 - l)) % 18446744073709551616 * 2 ^ k % 18446744073709551616) + m) % 18446744073709551616 % 18446744073709551616) is_last
+      ∙ word_same l m e (f ∙ ap (λ k. number / 2 ^ k) is_rest)
+
+  pub word_kept_by : (r word kept : ℕ) (words new : List ℕ) → r ≡ rest → word % 18446744073709551616 ≡ high % 18446744073709551616 → kept ≡ number → new ≡ words ++ word ∷ [] →
+      digits r kept ++ words_back new ≡ digits n (number % 2 ^ n) ++ (digits count value ++ words_back words)
+  word_kept_by r word kept words new is_rest same k e = ap (λ m. digits m kept ++ words_back new) is_rest ∙ word_kept word kept words new same k e
+
 -- a piece of no bits
 pub none_before : (n piece : ℕ) (bits : List ℕ) → n ≡ 0 → bits ≡ digits n piece ++ bits
 none_before n piece bits e = sym (ap (λ k. digits k piece ++ bits) e)
@@ -155,6 +168,60 @@ put_more start a b words i lt so_far more =
 
 pub put_all : (start a words : List ℕ) (i : ℕ) → length words ≤ i → a ≡ start ++ words_back (drop (length words - i) words) → a ≡ start ++ words_back words
 put_all start a words i le e = let z : length words - i ≡ 0 = omega (arith, le) in e ∙ ap (λ (n : ℕ). start ++ words_back (drop n words)) z
+
+-- the words of two lists
+words_both : (xs ys : List ℕ) → words_back (xs ++ ys) ≡ words_back ys ++ words_back xs
+words_both [] ys = sym (append-nil (words_back ys))
+words_both (x ∷ xs) ys = ap (λ (zs : List ℕ). zs ++ digits 64 x) (words_both xs ys) ∙ append_assoc (words_back ys) (words_back xs) (digits 64 x)
+
+-- the words of blocks
+abbrev in_blocks : List (List ℕ) → List ℕ
+in_blocks blocks = words_back (flat_map (λ x. x) blocks)
+
+-- blocks of words from the end on
+pub blocks_none : (start : List ℕ) (blocks : List (List ℕ)) → start ≡ start ++ in_blocks (drop (length blocks - 0) blocks)
+blocks_none start blocks = sym (ap (λ (xs : List (List ℕ)). start ++ in_blocks xs) (drop_all (length blocks - 0) blocks (omega arith)) ∙ append-nil start)
+
+pub blocks_more : (start a b : List ℕ) (blocks : List (List ℕ)) (i : ℕ) → i < length blocks → a ≡ start ++ in_blocks (drop (length blocks - i) blocks) →
+    b ≡ a ++ words_back (get_or blocks (length blocks - 1 - i) []) → b ≡ start ++ in_blocks (drop (length blocks - (i + 1)) blocks)
+blocks_more start a b blocks i lt so_far more =
+    let k : ℕ = length blocks - 1 - i in
+    let block : List ℕ = get_or blocks k [] in
+    let next : k + 1 ≡ length blocks - i = omega (arith, lt) in
+    let same : k ≡ length blocks - (i + 1) = omega arith in
+    let first : drop k blocks ≡ block ∷ drop (k + 1) blocks = drop_more blocks k [] (omega (arith, lt)) in
+    let e : in_blocks (drop (length blocks - (i + 1)) blocks) ≡ in_blocks (drop (length blocks - i) blocks) ++ words_back block =
+    ap (λ (n : ℕ). in_blocks (drop n blocks)) (sym same) ∙ ap in_blocks first ∙ words_both block (flat_map (λ x. x) (drop (k + 1) blocks))
+    ∙ ap (λ (n : ℕ). in_blocks (drop n blocks) ++ words_back block) next in
+    more ∙ ap (λ (xs : List ℕ). xs ++ words_back block) so_far ∙ append_assoc start (in_blocks (drop (length blocks - i) blocks)) (words_back block)
+    ∙ ap (λ (xs : List ℕ). start ++ xs) (sym e)
+
+pub blocks_all : (start a : List ℕ) (blocks : List (List ℕ)) (i : ℕ) → length blocks ≤ i → a ≡ start ++ in_blocks (drop (length blocks - i) blocks) → a ≡ start ++ in_blocks blocks
+blocks_all start a blocks i le e = let z : length blocks - i ≡ 0 = omega (arith, le) in e ∙ ap (λ (n : ℕ). start ++ in_blocks (drop n blocks)) z
+
+-- the first chunks of a list, joined
+chunks_joined : (n k : ℕ) (xs : List ℕ) → flat_map (λ x. x) (first_chunks n k xs) ≡ take (k * n) xs
+chunks_joined n zero xs = ap (λ (m : ℕ). take m xs) (sym (zero-mul n))
+chunks_joined n (suc k) xs =
+    let m : suc k * n ≡ k * n + n = suc-mul k n in
+    let e : n + k * n ≡ suc k * n = omega (arith, m) in
+    ap (λ ys. take n xs ++ ys) (chunks_joined n k (drop n xs)) ∙ sym (take-add n (k * n) xs) ∙ ap (λ m. take m xs) e
+
+-- a list is its first elements, fewer than eight, and blocks of eight
+whole_blocks : (xs : List ℕ) → take (length xs % 8) xs ++ flat_map (λ x. x) (first_chunks 8 (length xs / 8) (drop (length xs % 8) xs)) ≡ xs
+whole_blocks xs =
+    let l : length (drop (length xs % 8) xs) ≡ length xs - length xs % 8 = length-drop (length xs % 8) xs in
+    ap (λ ys. take (length xs % 8) xs ++ ys) (chunks_joined 8 (length xs / 8) (drop (length xs % 8) xs) ∙ take_all (length xs / 8 * 8) (drop (length xs % 8) xs) (omega (arith, l)))
+    ∙ take-append-drop (length xs % 8) xs
+
+pub blocks_put : (start a b first words : List ℕ) (blocks : List (List ℕ)) → first ≡ take (length words % 8) words → blocks ≡ first_chunks 8 (length words / 8) (drop (length words % 8) words) →
+    a ≡ start ++ in_blocks blocks → b ≡ a ++ words_back first → b ≡ start ++ words_back words
+blocks_put start a b first words blocks is_first are_blocks e f =
+    f ∙ ap (λ (xs : List ℕ). xs ++ words_back first) e ∙ append_assoc start (in_blocks blocks) (words_back first)
+    ∙ ap (λ (xs : List ℕ). start ++ xs) (sym (words_both first (flat_map (λ x. x) blocks)))
+    ∙ ap (λ (xs : List ℕ). start ++ words_back (xs ++ flat_map (λ x. x) blocks)) is_first
+    ∙ ap (λ (bs : List (List ℕ)). start ++ words_back (take (length words % 8) words ++ flat_map (λ x. x) bs)) are_blocks
+    ∙ ap (λ (xs : List ℕ). start ++ words_back xs) (whole_blocks words)
 
 -- two additions are one
 pub joined : (a b d first rest : List ℕ) → b ≡ a ++ first → d ≡ b ++ rest → d ≡ a ++ (first ++ rest)

@@ -1,8 +1,9 @@
 //! Bits written from the last to the first.
 
 ghost use Rattle.std.specs.Prelude.{◌≡◌, ◌<◌, ◌≤◌, ◌/◌, ◌%◌, ◌^◌, ◌++◌, IfOk};
-ghost use Rattle.jxlm_bit_writer.specs.Written.{digits};
-ghost use Rattle.jxl_coding_stream_write.specs.Inner.Backward.{bits_back, words_back};
+ghost use Rattle.std.specs.List.{flat_map};
+ghost use Rattle.jxlm_bit_writer.specs.Written.{digits, words_back};
+ghost use Rattle.jxl_coding_stream_write.specs.Inner.Backward.{bits_back};
 
 use crate::first_bits::FirstBits;
 use jxl_coding_write::piece::BitPiece;
@@ -31,8 +32,8 @@ pub(crate) fn prepend_lowest(
         let value = (above << width).wrapping_add(u64::from(number));
         return Ok(FirstBits { value, count });
     }
-    let rest = count - 64;
-    let last = above << (64 - first.count);
+    let rest = count % 64;
+    let last = above << (width - rest);
     words.push(last.wrapping_add(u64::from(number >> rest)))?;
     Ok(FirstBits {
         value: u64::from(number),
@@ -57,15 +58,37 @@ pub(crate) fn prepend(
     Ok(first)
 }
 
+/// Adds the bits of blocks of words, the last word first.
+fn put_blocks(bits: &mut BitWriter, blocks: &[[u64; 8]]) -> Result<(), AllocError>
+    ensures { IfOk result (λ _. bits.new ≡ bits.old ++ words_back (flat_map (λ x. x) blocks.now)) }
+{
+    let n = blocks.len();
+    for i in 0..n {
+        bits.put_block(&blocks[n - 1 - i])?;
+    }
+    Ok(())
+}
+
+/// Adds the bits of words one by one, the last word first.
+fn put_each(bits: &mut BitWriter, words: &[u64]) -> Result<(), AllocError>
+    ensures { IfOk result (λ _. bits.new ≡ bits.old ++ words_back words.now) }
+{
+    let n = words.len();
+    for i in 0..n {
+        bits.put_word(words[n - 1 - i])?;
+    }
+    Ok(())
+}
+
 /// Adds the bits of words, the last word first. The writer is a local value while they are added, so it is in registers.
+#[inline(never)]
 fn put_words(alloc: Global, bits: &mut BitWriter, words: &[u64]) -> Result<(), AllocError>
     ensures { IfOk result (λ _. bits.new ≡ bits.old ++ words_back words.now) }
 {
     let mut writer = mem::replace(bits, BitWriter::new(alloc));
-    let n = words.len();
-    for i in 0..n {
-        writer.put_word(words[n - 1 - i])?;
-    }
+    let (first, blocks) = words.as_rchunks::<8>();
+    put_blocks(&mut writer, blocks)?;
+    put_each(&mut writer, first)?;
     *bits = writer;
     Ok(())
 }

@@ -105,6 +105,9 @@ put_word bytes new held count n value small few most full e =
     ∙ ap (λ xs. bits_of bytes ++ xs) (parts ∙ ap (λ k. digits k sum) whole)
     ∙ put_held bytes held count n value small few most
 
+pub wrapped_sum : (a b : ℕ) → (a + b % 18446744073709551616) % 18446744073709551616 ≡ (a + b) % 18446744073709551616
+wrapped_sum a b = omega arith
+
 -- 64 bits more: with those held, the lowest 64 become bytes
 module _ (held count word : ℕ) (small : held < 2 ^ count) (few : count < 32) where
   abbrev all : ℕ
@@ -116,7 +119,7 @@ module _ (held count word : ℕ) (small : held < 2 ^ count) (few : count < 32) w
   above_word : word / 4294967296 / 2 ^ (32 - count) ≡ word / 2 ^ (64 - count)
   above_word = let e : 32 + (32 - count) ≡ 64 - count = omega (arith, few) in shr-shr word 32 (32 - count) ∙ ap (λ k. word / 2 ^ k) e
 
-  above_bytes : word / 4294967296 / 2 ^ (32 - count) ≡ all / 18446744073709551616
+  pub above_bytes : word / 4294967296 / 2 ^ (32 - count) ≡ all / 18446744073709551616
   above_bytes =
       let e : count + (64 - count) ≡ 64 = omega (arith, few) in
       above_word ∙ ap (λ x. x / 2 ^ (64 - count)) (sym above_all) ∙ shr-shr all count (64 - count) ∙ ap (λ k. all / 2 ^ k) e
@@ -136,15 +139,12 @@ module _ (held count word : ℕ) (small : held < 2 ^ count) (few : count < 32) w
       ap (λ xs. bits_of xs ++ rest) e
       ∙ ap (λ xs. xs ++ rest) (flat_map-append (digits 8) bytes (to_le_bytes w64 low))
       ∙ append_assoc (bits_of bytes) (bits_of (to_le_bytes w64 low)) rest
-      ∙ ap (λ xs. bits_of bytes ++ (xs ++ rest)) (first_bytes 8 low ∙ ap (digits 64) (wrapped held (word * 2 ^ count)) ∙ digits_mod 64 all)
+      ∙ ap (λ xs. bits_of bytes ++ (xs ++ rest)) (first_bytes 8 low ∙ ap (digits 64) (wrapped_sum held (word * 2 ^ count)) ∙ digits_mod 64 all)
       ∙ ap (λ x. bits_of bytes ++ (digits 64 all ++ digits count x)) above_bytes
       ∙ ap (λ xs. bits_of bytes ++ xs) (sym (digits_split 64 count all) ∙ ap (λ k. digits k all) turned ∙ digits_split count 64 all)
       ∙ ap (λ xs. bits_of bytes ++ (xs ++ digits 64 (all / 2 ^ count))) (digits_low count held word)
       ∙ ap (λ x. bits_of bytes ++ (digits count held ++ digits 64 x)) above_all
       ∙ sym (append_assoc (bits_of bytes) (digits count held) (digits 64 word))
-    where
-      wrapped : (a b : ℕ) → (a + b % 18446744073709551616) % 18446744073709551616 ≡ (a + b) % 18446744073709551616
-      wrapped a b = omega arith
 
 -- what digits a held number has beyond its own: zeros
 zeros_above : (n v k : ℕ) → v < 2 ^ n → digits (n + k) v ≡ digits n v ++ replicate k 0

@@ -1,4 +1,5 @@
 pub mod BitLists
+pub mod Blocks
 pub mod FieldLaws
 pub mod HeldBits
 pub mod WriteLaws

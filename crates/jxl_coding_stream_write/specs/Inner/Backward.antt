@@ -1,12 +1,7 @@
 -- Bits that were written from the last to the first.
-use Rattle.std.specs.Prelude.{ℕ, List, [], ◌∷◌, ◌++◌}
-use Rattle.jxlm_bit_writer.specs.Written.{digits}
+use Rattle.std.specs.Prelude.{ℕ, List, ◌++◌}
+use Rattle.jxlm_bit_writer.specs.Written.{digits, words_back}
 use Rattle.jxl_coding_stream_write.specs.declared.first_bits.FirstBits.{FirstBits}
-
--- the bits of words of 64 bits, the last word first
-abbrev pub words_back : List ℕ → List ℕ
-words_back [] = []
-words_back (word ∷ words) = words_back words ++ digits 64 word
 
 -- the first bits, and those of the words
 abbrev pub bits_back : FirstBits → List ℕ → List ℕ

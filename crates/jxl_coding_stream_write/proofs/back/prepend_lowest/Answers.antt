@@ -1,6 +1,6 @@
-use Rattle.std.proofs.Common.{◌%◌, ◌^◌, ◌∙◌, arith}
+use Rattle.std.proofs.Common.{◌≡◌, ◌+◌, ◌-◌, ◌%◌, ◌^◌, ◌∙◌, arith}
 use Rattle.std.proofs.lemmas.Nat.{pow_pos, mod_below}
-use Rattle.jxl_coding_stream_write.proofs.Bits.{held_before, lowest_wrapped_by, word_kept, word_same}
+use Rattle.jxl_coding_stream_write.proofs.Bits.{held_before, lowest_wrapped_by, word_kept_by, word_same_by}
 use Rattle.jxl_coding_stream_write.proofs.back.prepend_lowest.Goals as goal
 
 pub returns-then-count-lt64 : goal.returns-then-count-lt64
@@ -12,7 +12,10 @@ returns-then-count-lt64 c =
 pub returns : goal.returns
 returns c =
     let few = c.args.first.few in
+    let narrow = c.requires.width in
     let full = c.if-count-lt64.false in
-    word_kept c.args.first.value c.args.first.count c.args.width c.args.number c.ranges.number.fits c.args.first.few (omega (arith, full)) _ c.from-3.result c.args.words.now.items c.push.new.self.items
-    (word_same c.args.first.value c.args.first.count c.args.width c.args.number c.ranges.number.fits c.args.first.few (omega (arith, full)) c.from.result c.from-2.result (c.from.ensures ∙ c.requires.lead) c.from-2.ensures)
+    let is_rest : (c.args.first.count + c.args.width) % 64 ≡ c.args.first.count + c.args.width - 64 = omega (arith, few, narrow, full) in
+    let is_last : c.args.width - (c.args.first.count + c.args.width) % 64 ≡ 64 - c.args.first.count = omega (arith, few, narrow, full) in
+    word_kept_by c.args.first.value c.args.first.count c.args.width c.args.number c.ranges.number.fits c.args.first.few (omega (arith, full)) _ _ c.from-3.result c.args.words.now.items c.push.new.self.items is_rest
+    (word_same_by c.args.first.value c.args.first.count c.args.width c.args.number c.ranges.number.fits c.args.first.few (omega (arith, full)) _ _ c.from.result c.from-2.result is_rest is_last (c.from.ensures ∙ c.requires.lead) c.from-2.ensures)
     c.from-3.ensures c.in_ok-push.ensures.items

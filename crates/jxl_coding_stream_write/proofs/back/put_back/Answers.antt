@@ -1,6 +1,5 @@
 use Rattle.std.proofs.Common.{◌++◌, ◌∙◌, ap, append_assoc}
-use Rattle.jxlm_bit_writer.specs.Written.{digits}
-use Rattle.jxl_coding_stream_write.specs.Inner.Backward.{words_back}
+use Rattle.jxlm_bit_writer.specs.Written.{digits, words_back}
 use Rattle.jxl_coding_stream_write.proofs.back.put_back.Goals as goal
 
 pub returns : goal.returns

@@ -1,11 +1,10 @@
-use Rattle.jxl_coding_stream_write.proofs.Bits.{put_none, put_more, put_all}
+use Rattle.std.proofs.Common.{◌++◌, ◌∙◌, ap}
+use Rattle.std.specs.List.{flat_map}
+use Rattle.jxlm_bit_writer.specs.Written.{words_back}
+use Rattle.jxl_coding_stream_write.proofs.Bits.{blocks_put}
 use Rattle.jxl_coding_stream_write.proofs.back.put_words.Goals as goal
 
-pub loop-i-init : goal.loop-i-init
-loop-i-init c = rw c.replace-writer.ensures.value (put_none c.args.bits.now c.args.words.now)
-
-pub loop-i-preserved : goal.loop-i-preserved
-loop-i-preserved c = put_more c.args.bits.now c.loop-i.writer c.put_word.new.self c.args.words.now c.loop-i.i c.loop-i-test.true c.loop-i.invariant c.in_ok-put_word.ensures
-
 pub returns : goal.returns
-returns c = put_all c.args.bits.now c.loop-i.writer c.args.words.now c.loop-i.i c.loop-i-test.false c.loop-i.invariant
+returns c =
+    let e = c.in_ok-put_blocks.ensures ∙ ap (λ xs. xs ++ words_back (flat_map (λ x. x) c.as_rchunks.result.1.now)) c.replace-writer.ensures.value in
+    blocks_put c.args.bits.now c.put_blocks.new.bits c.put_each.new.bits c.as_rchunks.result.0.now c.args.words.now c.as_rchunks.result.1.now c.as_rchunks.ensures.front c.as_rchunks.ensures.back e c.in_ok-put_each.ensures

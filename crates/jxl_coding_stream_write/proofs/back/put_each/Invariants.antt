@@ -1,0 +1,6 @@
+use Rattle.std.proofs.Common.{◌≡◌, ◌++◌, ◌-◌, drop, length}
+use Rattle.jxlm_bit_writer.specs.Written.{words_back}
+use Rattle.jxl_coding_stream_write.proofs.back.put_each.Given as goal
+
+abbrev pub invariant-loop-i : goal.invariant-loop-i
+invariant-loop-i l = l.bits ≡ l.fn.bits ++ words_back (drop (length l.words - l.i) l.words)
