@@ -3,6 +3,7 @@
 #![tactic(auto)]
 
 mod near;
+mod places;
 pub mod residuals;
 pub mod rows;
 mod table;

@@ -140,15 +140,15 @@ impl Near {
         }
     }
 
-    /// What one of these predictors makes of the neighbours.
-    pub(crate) fn predicted(self, kind: usize) -> i32 {
-        match kind {
-            0 => self.gradient(),
-            1 => self.west,
-            2 => self.north,
-            4 => self.average(),
-            5 => self.select(),
-            _ => 0,
-        }
+    /// What each of [`PREDICTORS`] makes of the neighbours.
+    pub(crate) fn predicted(self) -> [i32; 6] {
+        [
+            self.gradient(),
+            self.west,
+            self.north,
+            0,
+            self.average(),
+            self.select(),
+        ]
     }
 }

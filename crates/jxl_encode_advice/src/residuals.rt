@@ -1,6 +1,7 @@
 //! Trees that choose a predictor and a code by the slopes of the samples nearby.
 
 use crate::near::{Near, PREDICTORS};
+use crate::places::{Places, places_on};
 use crate::rows::{Rows, Source};
 use crate::table::Table;
 use jxl_encode_learn::axis::Axis;
@@ -22,19 +23,24 @@ pub struct Care {
 }
 
 /// Counts the residuals of a sample.
-fn add_sample(table: &mut Table, near: Near, sample: i32) {
-    let class = near.class(&table.axes);
-    for kind in 0..table.kinds {
-        let residual = sample.wrapping_sub(near.predicted(kind));
-        table.add(class, kind, symbol_of(residual));
+fn add_sample(table: &mut Table, places: &[Places], near: Near, sample: i32) {
+    let mut class: usize = 0;
+    for axis in places {
+        class = class.wrapping_add(axis.of(near.property(axis.property)));
+    }
+    let mut at = table.start(class, 0);
+    for predicted in &near.predicted() {
+        let symbol = symbol_of(sample.wrapping_sub(*predicted));
+        table.add_at(at.wrapping_add(symbol));
+        at = at.wrapping_add(SYMBOLS);
     }
 }
 
 /// Counts the residuals of a row.
-fn add_row(table: &mut Table, channel: i32, rows: &Rows) {
+fn add_row(table: &mut Table, places: &[Places], channel: i32, rows: &Rows) {
     for x in 0..rows.here.len() {
         let near = Near::of(channel, rows, x);
-        add_sample(table, near, rows.here[x]);
+        add_sample(table, places, near, rows.here[x]);
     }
 }
 
@@ -46,6 +52,7 @@ pub fn is_taken(y: usize, step: usize) -> bool {
 /// Counts the residuals of a channel, in one row of `step`.
 fn add_channel(
     table: &mut Table,
+    places: &[Places],
     rows: &mut Rows,
     source: Source<'_>,
     channel: usize,
@@ -54,7 +61,7 @@ fn add_channel(
     for y in 0..source.height(channel) {
         if is_taken(y, step) {
             rows.go(source, channel, y)?;
-            add_row(table, channel.min(255) as i32, rows);
+            add_row(table, places, channel.min(255) as i32, rows);
         }
     }
     Ok(())
@@ -92,9 +99,10 @@ pub fn scheme_of_first(
 ) -> Result<Scheme, OutOfMemory> {
     let step = (samples_in(source.channels) / care.samples.max(1)).max(1);
     let mut table = Table::new(alloc, axes, PREDICTORS.len(), SYMBOLS)?;
+    let places = places_on(alloc, &table)?;
     let mut rows = Rows::new(alloc);
     for channel in 0..count {
-        add_channel(&mut table, &mut rows, source, channel, step)?;
+        add_channel(&mut table, &places, &mut rows, source, channel, step)?;
     }
     let prices = Prices {
         scale: step as u64,

@@ -3,6 +3,7 @@
 use crate::near::GROUP_SIDE;
 use jxlm_base::grid::{AlignedGrid, OutOfMemory};
 use std::alloc::Global;
+use std::mem;
 
 /// The channels of a picture, and the kind of colour transform by which the first three are coded.
 #[derive(Clone, Copy)]
@@ -26,6 +27,8 @@ pub(crate) struct Rows {
     pub(crate) earlier: Vec<i32>,
     /// How many rows of its group are above.
     pub(crate) depth: usize,
+    // The channel and the row after this one.
+    next: (usize, usize),
 }
 
 /// The sample of a channel of luma and two differences, of these colours.
@@ -125,7 +128,14 @@ impl Rows {
             higher: Vec::new(alloc),
             earlier: Vec::new(alloc),
             depth: 0,
+            next: (0, 0),
         }
+    }
+
+    /// Goes one row down: the rows around the last one are those above.
+    fn go_down(&mut self) {
+        mem::swap(&mut self.higher, &mut self.above);
+        mem::swap(&mut self.above, &mut self.here);
     }
 
     /// Goes to a row of a channel.
@@ -136,12 +146,17 @@ impl Rows {
         y: usize,
     ) -> Result<(), OutOfMemory> {
         self.depth = y % GROUP_SIDE;
+        if y > 0 && self.next == (channel, y) {
+            self.go_down();
+        } else {
+            source.copy(&mut self.above, channel, y.saturating_sub(1))?;
+            source.copy(&mut self.higher, channel, y.saturating_sub(2))?;
+        }
         source.copy(&mut self.here, channel, y)?;
-        source.copy(&mut self.above, channel, y.saturating_sub(1))?;
-        source.copy(&mut self.higher, channel, y.saturating_sub(2))?;
         if channel > 0 {
             source.copy(&mut self.earlier, channel.saturating_sub(1), y)?;
         }
+        self.next = (channel, y.saturating_add(1));
         Ok(())
     }
 }

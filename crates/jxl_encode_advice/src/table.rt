@@ -68,7 +68,7 @@ impl Table {
     }
 
     /// Where the count of the first symbol of a class is.
-    fn start(&self, class: usize, kind: usize) -> usize {
+    pub(crate) fn start(&self, class: usize, kind: usize) -> usize {
         class
             .wrapping_mul(self.kinds)
             .wrapping_add(kind)
@@ -77,40 +77,49 @@ impl Table {
 
     /// Counts a sample.
     pub(crate) fn add(&mut self, class: usize, kind: usize, symbol: usize) {
-        let at = self.start(class, kind).wrapping_add(symbol);
+        self.add_at(self.start(class, kind).wrapping_add(symbol));
+    }
+
+    /// Counts a sample more at this place.
+    pub(crate) fn add_at(&mut self, at: usize) {
         if let Some(count) = self.counts.get_mut(at) {
-            *count = count.saturating_add(1);
+            *count = count.wrapping_add(1);
+        }
+    }
+
+    /// How far apart the classes are that differ by one on an axis.
+    pub(crate) fn stride(&self, axis: usize) -> usize {
+        self.strides.get(axis).copied().unwrap_or(1)
+    }
+
+    /// The counts of a class.
+    fn class(&self, class: usize, kind: usize) -> &[u32] {
+        let start = self.start(class, kind);
+        let end = start.saturating_add(self.symbols);
+        if start <= end && end <= self.counts.len() {
+            &self.counts[start..end]
+        } else {
+            &[]
         }
     }
 
     /// Whether a sample of a class is counted.
     fn occurs(&self, class: usize) -> bool {
-        let start = self.start(class, 0);
-        for symbol in 0..self.symbols {
-            if self
-                .counts
-                .get(start.wrapping_add(symbol))
-                .copied()
-                .unwrap_or(0)
-                > 0
-            {
-                return true;
-            }
+        let mut any = 0;
+        for count in self.class(class, 0) {
+            any |= *count;
         }
-        false
+        any != 0
     }
 
     /// Adds the counts of a class, from this place on.
     fn add_class(&self, sums: &mut [u32], from: usize, class: usize, kind: usize) {
-        let start = self.start(class, kind);
-        for symbol in 0..self.symbols {
-            let count = self
-                .counts
-                .get(start.wrapping_add(symbol))
-                .copied()
-                .unwrap_or(0);
-            if let Some(sum) = sums.get_mut(from.wrapping_add(symbol)) {
-                *sum = sum.saturating_add(count);
+        let counts = self.class(class, kind);
+        let room = sums.len().saturating_sub(from);
+        for symbol in 0..counts.len().min(room) {
+            let at = from.wrapping_add(symbol);
+            if at < sums.len() {
+                sums[at] = sums[at].wrapping_add(counts[symbol]);
             }
         }
     }
@@ -140,7 +149,7 @@ impl Counted for Table {
     }
 
     fn place(&self, class: usize, axis: usize) -> usize {
-        let stride = self.strides.get(axis).copied().unwrap_or(1);
+        let stride = self.stride(axis);
         let size = match self.axes.get(axis) {
             Some(axis) => axis.size(),
             None => 1,

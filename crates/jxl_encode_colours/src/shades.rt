@@ -23,7 +23,10 @@ const MAX_CLUSTERS: usize = 24;
 const DECISION: u64 = 30;
 
 /// The price of a sample that is not as most are, in bits.
-const OTHER: u64 = 9;
+const OTHER: u32 = 9;
+
+/// The most samples that are not as most are, where a decision costs more than they do.
+const FEW: u32 = DECISION as u32 / OTHER;
 
 /// How many colours are looked at for the sample that most have.
 const CANDIDATES: usize = 24;
@@ -99,7 +102,7 @@ impl Maker<'_> {
                 clusters: Vec::new(alloc),
                 cost: 0,
             },
-            clusters: Clusters::new(alloc, 1, MAX_CLUSTERS),
+            clusters: Clusters::new(alloc, 1, MAX_CLUSTERS)?,
             flat: None,
             residuals: zeros(alloc, 1)?,
             pending: Vec::new(alloc),
@@ -123,13 +126,24 @@ impl Maker<'_> {
         }
     }
 
+    /// Whether all but a few samples of these colours have one sample of the channel.
+    fn is_cheap(&self, channel: usize, start: usize, end: usize) -> bool {
+        for at in start..end.min(start.saturating_add(CANDIDATES)) {
+            let sample = self.colour(channel, at).sample(channel);
+            if self.others(channel, start, end, sample, FEW) <= FEW {
+                return true;
+            }
+        }
+        false
+    }
+
     /// The sample of a channel that most samples of these colours have, and how many have another.
     fn most(&self, channel: usize, start: usize, end: usize) -> (i32, u32) {
         let mut best = self.colour(channel, start).sample(channel);
         let mut least = u32::MAX;
         for at in start..end.min(start.saturating_add(CANDIDATES)) {
             let sample = self.colour(channel, at).sample(channel);
-            let others = self.others(channel, start, end, sample);
+            let others = self.others(channel, start, end, sample, least);
             if others < least {
                 least = others;
                 best = sample;
@@ -138,10 +152,14 @@ impl Maker<'_> {
         (best, least)
     }
 
-    /// How many samples of these colours have another sample of the channel than this.
-    fn others(&self, channel: usize, start: usize, end: usize, sample: i32) -> u32 {
+    /// How many samples of these colours have another sample of the channel than this; where they are more than `most`, any
+    /// number above it.
+    fn others(&self, channel: usize, start: usize, end: usize, sample: i32, most: u32) -> u32 {
         let mut sum: u32 = 0;
         for at in start..end {
+            if sum > most {
+                break;
+            }
             if self.colour(channel, at).sample(channel) != sample {
                 sum = sum.saturating_add(self.count(channel, at));
             }
@@ -211,10 +229,8 @@ impl Maker<'_> {
 
     /// Adds a node of the later channels.
     fn add_shades(&mut self, channel: usize, start: usize, end: usize) -> Result<(), OutOfMemory> {
-        let (offset, others) = self.most(channel, start, end);
-        let cheap = u64::from(others).saturating_mul(OTHER) <= DECISION;
         if let Some(before) = self.property(channel, start, end) {
-            if !cheap && self.pending.len() < self.limit {
+            if self.pending.len() < self.limit && !self.is_cheap(channel, start, end) {
                 let at = self.cut(channel, start, end, before);
                 let value = self.colour(channel, at.saturating_sub(1)).sample(before);
                 let property = 17u32.saturating_add((before.min(4) as u32).saturating_mul(4));
@@ -232,6 +248,7 @@ impl Maker<'_> {
                 return Ok(());
             }
         }
+        let (offset, others) = self.most(channel, start, end);
         self.count_residuals(channel, start, end, offset);
         let cluster = self.cluster_of(others)?;
         self.scheme.clusters.push(cluster)?;

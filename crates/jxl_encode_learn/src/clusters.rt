@@ -1,6 +1,7 @@
 //! Leaves of which samples are alike have one code.
 
-use crate::costs::cost_of_both;
+use crate::costs::Bits;
+use crate::counts::zeros;
 use crate::symbols::SYMBOLS;
 use jxlm_base::grid::OutOfMemory;
 use std::alloc::Global;
@@ -12,6 +13,9 @@ pub struct Clusters {
     most: usize,
     counts: Vec<u32>,
     costs: Vec<u64>,
+    bits: Bits,
+    // The counts of a cluster with more symbols.
+    sums: Vec<u32>,
 }
 
 /// The counts of the symbols of one cluster.
@@ -25,15 +29,24 @@ fn counts_at(counts: &[u32], cluster: usize) -> &[u32] {
     }
 }
 
+/// Puts the counts of two lists together.
+fn add_both(sums: &mut [u32], first: &[u32], second: &[u32]) {
+    for symbol in 0..sums.len().min(first.len()).min(second.len()) {
+        sums[symbol] = first[symbol].wrapping_add(second[symbol]);
+    }
+}
+
 impl Clusters {
     /// No clusters, of which there are to be at most this number.
-    pub fn new(alloc: Global, scale: u64, most: usize) -> Clusters {
-        Clusters {
+    pub fn new(alloc: Global, scale: u64, most: usize) -> Result<Clusters, OutOfMemory> {
+        Ok(Clusters {
             scale,
             most: most.min(255),
             counts: Vec::new(alloc),
             costs: Vec::new(alloc),
-        }
+            bits: Bits::new(alloc)?,
+            sums: zeros(alloc, 1)?,
+        })
     }
 
     /// What all clusters cost.
@@ -46,14 +59,15 @@ impl Clusters {
     }
 
     /// What a cluster costs with these symbols more, and how much more that is.
-    fn joined(&self, cluster: usize, counts: &[u32]) -> (u64, u64) {
-        let cost = cost_of_both(self.scale, counts, counts_at(&self.counts, cluster));
+    fn joined(&mut self, cluster: usize, counts: &[u32]) -> (u64, u64) {
+        add_both(&mut self.sums, counts, counts_at(&self.counts, cluster));
+        let cost = self.bits.cost_with_head(self.scale, &self.sums);
         let old = self.costs.get(cluster).copied().unwrap_or(0);
         (cost, cost.saturating_sub(old))
     }
 
     /// The cluster that these symbols make dearer by the least, and less than this.
-    fn nearest(&self, counts: &[u32], most: u64) -> Option<usize> {
+    fn nearest(&mut self, counts: &[u32], most: u64) -> Option<usize> {
         let mut least = most;
         let mut best = None;
         for cluster in 0..self.costs.len() {
@@ -82,7 +96,7 @@ impl Clusters {
 
     /// Puts a leaf of these symbols into the best cluster, or into a new one; returns which.
     pub fn put(&mut self, counts: &[u32]) -> Result<u8, OutOfMemory> {
-        let own = cost_of_both(self.scale, counts, &[]);
+        let own = self.bits.cost_with_head(self.scale, counts);
         let most = if self.costs.len() < self.most {
             own
         } else {

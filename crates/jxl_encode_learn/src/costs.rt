@@ -1,9 +1,23 @@
 //! What symbols cost, in bits times 65,536.
 
-use crate::symbols::bits_after;
+use crate::symbols::{SYMBOLS, bits_after};
+use jxlm_base::grid::OutOfMemory;
+use std::alloc::Global;
 
 /// One bit.
 pub const BIT: u64 = 65536;
+
+/// The sum of the counts of a code.
+const WHOLE: u32 = 4096;
+
+/// The bits of the head of a code of one symbol.
+const ONLY_HEAD: u64 = 21;
+
+/// The bits of the head of another code, beside its counts.
+const HEAD: u64 = 24;
+
+/// More bits than a symbol has, times 65,536.
+const MOST: u64 = 64 * 65536;
 
 /// What a code and a tree cost beside the samples.
 #[derive(Clone, Copy)]
@@ -32,164 +46,145 @@ fn log2(number: u32) -> u64 {
         .saturating_add(bend.saturating_mul(22512) / 65536)
 }
 
-/// The counts of symbols: those of a list, and those of another added or taken away.
-#[derive(Clone, Copy)]
-pub(crate) struct Counts<'a> {
-    pub(crate) counts: &'a [u32],
-    pub(crate) more: &'a [u32],
-    pub(crate) less: &'a [u32],
-}
-
 /// What is known of all symbols.
 #[derive(Clone, Copy)]
-pub(crate) struct Sums {
-    /// The number of samples.
-    pub(crate) total: u32,
-    /// The number of symbols that occur.
-    pub(crate) kinds: u64,
-    /// The greatest symbol that occurs.
-    pub(crate) last: usize,
-    /// The count of the most frequent symbol.
-    pub(crate) most: u32,
+struct Sums {
+    // The number of samples.
+    total: u32,
+    // The number of symbols that occur.
+    kinds: u32,
+    // The count of the most frequent symbol.
+    most: u32,
 }
 
-impl Sums {
-    /// The same, and a symbol of this count.
-    fn with(self, symbol: usize, count: u32) -> Sums {
-        if count == 0 {
-            return self;
-        }
-        Sums {
-            total: self.total.saturating_add(count),
-            kinds: self.kinds.saturating_add(1),
-            last: symbol,
-            most: self.most.max(count),
-        }
-    }
-
-    /// The bits of a sample of a symbol of this count, times 65,536.
-    fn bits(self, count: u32) -> u64 {
-        let room = 4096u64.saturating_sub(self.kinds);
-        let part = u64::from(count).saturating_mul(room) / u64::from(self.total).max(1);
-        let share = part.saturating_add(1).min(4096) as u32;
-        BIT.saturating_mul(12).saturating_sub(log2(share))
-    }
+/// The bits of a symbol, times 65,536: by its share of a code, and those that follow it.
+#[derive(Drop)]
+pub(crate) struct Bits {
+    shares: Vec<u32>,
+    after: Vec<u32>,
 }
 
-impl Counts<'_> {
-    /// The count of a symbol.
-    fn at(self, symbol: usize) -> u32 {
-        let more = self.more.get(symbol).copied().unwrap_or(0);
-        let less = self.less.get(symbol).copied().unwrap_or(0);
-        self.counts
-            .get(symbol)
-            .copied()
-            .unwrap_or(0)
-            .saturating_add(more)
-            .saturating_sub(less)
+/// What is known of symbols of these counts.
+fn sums_of(counts: &[u32]) -> Sums {
+    let mut sums = Sums {
+        total: 0,
+        kinds: 0,
+        most: 0,
+    };
+    for symbol in 0..counts.len() {
+        let count = counts[symbol];
+        sums.total = sums.total.wrapping_add(count);
+        sums.kinds = sums.kinds.wrapping_add(count.min(1));
+        sums.most = sums.most.max(count);
     }
+    sums
+}
 
-    /// What is known of all symbols.
-    fn sums(self) -> Sums {
-        let mut sums = Sums {
-            total: 0,
-            kinds: 0,
-            last: 0,
-            most: 0,
-        };
-        for symbol in 0..self.counts.len() {
-            sums = sums.with(symbol, self.at(symbol));
+/// The greatest symbol that occurs.
+fn last_of(counts: &[u32]) -> usize {
+    let mut last: usize = 0;
+    for symbol in 0..counts.len() {
+        if counts[symbol] > 0 {
+            last = symbol;
         }
-        sums
+    }
+    last
+}
+
+/// The bits of a symbol by each share of a code.
+fn bits_of_shares(alloc: Global) -> Result<Vec<u32>, OutOfMemory> {
+    let mut shares = Vec::new(alloc);
+    for share in 0..WHOLE + 1 {
+        let bits = BIT.saturating_mul(12).saturating_sub(log2(share.max(1)));
+        shares.push(bits.min(MOST) as u32)?;
+    }
+    Ok(shares)
+}
+
+/// The bits that follow each symbol.
+fn bits_of_rest(alloc: Global) -> Result<Vec<u32>, OutOfMemory> {
+    let mut after = Vec::new(alloc);
+    for symbol in 0..SYMBOLS {
+        let bits = bits_after(symbol).saturating_mul(BIT);
+        after.push(bits.min(MOST) as u32)?;
+    }
+    Ok(after)
+}
+
+impl Bits {
+    /// Those of all symbols.
+    pub(crate) fn new(alloc: Global) -> Result<Bits, OutOfMemory> {
+        Ok(Bits {
+            shares: bits_of_shares(alloc)?,
+            after: bits_of_rest(alloc)?,
+        })
     }
 
-    /// What the samples cost by a code of their own.
-    fn samples(self, sums: Sums) -> u64 {
+    /// What samples of a symbol of this count cost, of which one has this share of 2^32 parts of a code.
+    fn of(&self, symbol: usize, count: u32, part: u64) -> u64 {
+        let count = u64::from(count);
+        let share = (count.wrapping_mul(part) >> 32).wrapping_add(1);
+        let own = self.shares.get(share as usize).copied().unwrap_or(0);
+        let rest = self.after.get(symbol).copied().unwrap_or(0);
+        u64::from(own.wrapping_add(rest)).wrapping_mul(count)
+    }
+
+    /// What samples of these counts cost by a code of their own.
+    fn samples(&self, counts: &[u32], sums: Sums) -> u64 {
+        let room = u64::from(WHOLE.saturating_sub(sums.kinds));
+        let part = ((room << 32) / u64::from(sums.total.max(1))).wrapping_add(1);
         let mut cost: u64 = 0;
-        for symbol in 0..self.counts.len() {
-            let count = self.at(symbol);
+        for symbol in 0..counts.len() {
+            let count = counts[symbol];
             if count > 0 {
-                let bits = sums
-                    .bits(count)
-                    .saturating_add(bits_after(symbol).saturating_mul(BIT));
-                cost = cost.saturating_add(bits.saturating_mul(u64::from(count)));
+                cost = cost.wrapping_add(self.of(symbol, count, part));
             }
         }
         cost
     }
 
-    /// What the samples cost in a leaf with a code of its own.
-    pub(crate) fn cost(self, prices: Prices) -> u64 {
-        let sums = self.sums();
+    /// What the bits after samples of only one symbol cost.
+    fn after_only(&self, counts: &[u32], sums: Sums) -> u64 {
+        let rest = self.after.get(last_of(counts)).copied().unwrap_or(0);
+        u64::from(rest).saturating_mul(u64::from(sums.total))
+    }
+
+    /// What symbols of these counts cost in a leaf with a code of its own.
+    pub(crate) fn cost(&self, prices: Prices, counts: &[u32]) -> u64 {
+        let sums = sums_of(counts);
         if sums.kinds < 2 {
-            let after = bits_after(sums.last).saturating_mul(u64::from(sums.total));
-            return after.saturating_mul(prices.scale).saturating_mul(BIT);
+            return self.after_only(counts, sums).saturating_mul(prices.scale);
         }
         let others = u64::from(sums.total.saturating_sub(sums.most));
         let own = prices
             .leaf
-            .saturating_add(prices.symbol.saturating_mul(sums.kinds))
+            .saturating_add(prices.symbol.saturating_mul(u64::from(sums.kinds)))
             .saturating_mul(BIT);
-        self.samples(sums)
+        self.samples(counts, sums)
             .saturating_add(others.saturating_mul(prices.other).saturating_mul(BIT))
             .saturating_mul(prices.scale)
             .saturating_add(own)
     }
 
-    /// What the samples cost by a code, with its head.
-    pub(crate) fn cost_with_head(self, scale: u64) -> u64 {
-        let sums = self.sums();
+    /// What symbols of these counts cost by a code with its head.
+    pub(crate) fn cost_with_head(&self, scale: u64, counts: &[u32]) -> u64 {
+        let sums = sums_of(counts);
         if sums.kinds < 2 {
-            let after = bits_after(sums.last).saturating_mul(u64::from(sums.total));
-            return after
+            return self
+                .after_only(counts, sums)
                 .saturating_mul(scale)
-                .saturating_add(ONLY_HEAD)
-                .saturating_mul(BIT);
+                .saturating_add(ONLY_HEAD.saturating_mul(BIT));
         }
-        let last = sums.last.saturating_add(sums.last.saturating_sub(16)) as u64;
-        let absent = last.saturating_add(1).saturating_sub(sums.kinds);
+        let last = last_of(counts);
+        let last = last.saturating_add(last.saturating_sub(16)) as u64;
+        let kinds = u64::from(sums.kinds);
+        let absent = last.saturating_add(1).saturating_sub(kinds);
         let head = absent
             .saturating_mul(5)
-            .saturating_add(sums.kinds.saturating_mul(9))
+            .saturating_add(kinds.saturating_mul(9))
             .saturating_add(HEAD);
-        self.samples(sums)
+        self.samples(counts, sums)
             .saturating_mul(scale)
             .saturating_add(head.saturating_mul(BIT))
     }
-}
-
-/// The bits of the head of a code of one symbol.
-const ONLY_HEAD: u64 = 21;
-
-/// The bits of the head of another code, beside its counts.
-const HEAD: u64 = 24;
-
-/// What symbols of these counts cost in a leaf with a code of its own.
-pub(crate) fn cost_of(prices: Prices, counts: &[u32]) -> u64 {
-    Counts {
-        counts,
-        more: &[],
-        less: &[],
-    }
-    .cost(prices)
-}
-
-/// What symbols of these counts, less those of others, cost in a leaf with a code of its own.
-pub(crate) fn cost_of_rest(prices: Prices, counts: &[u32], less: &[u32]) -> u64 {
-    Counts {
-        counts,
-        more: &[],
-        less,
-    }
-    .cost(prices)
-}
-
-/// What symbols of the counts of two lists together cost by one code.
-pub(crate) fn cost_of_both(scale: u64, counts: &[u32], more: &[u32]) -> u64 {
-    Counts {
-        counts,
-        more,
-        less: &[],
-    }
-    .cost_with_head(scale)
 }

@@ -1,7 +1,7 @@
 //! A tree learnt from counted samples: a decision stands where it saves more bits than it costs.
 
 use crate::axis::Axis;
-use crate::costs::{BIT, Prices, cost_of, cost_of_rest};
+use crate::costs::{BIT, Bits, Prices};
 use crate::counted::Counted;
 use crate::counts::{clear, zeros};
 use crate::symbols::SYMBOLS;
@@ -45,10 +45,12 @@ pub(crate) struct Learner<'a, C> {
     table: &'a C,
     prices: Prices,
     classes: Vec<usize>,
-    // The counts of a span, of the classes at each place of an axis, and of those up to a cut.
+    bits: Bits,
+    // The counts of a span, of the classes at each place of an axis, of those up to a cut, and of those behind it.
     whole: Vec<u32>,
     places: Vec<u32>,
     below: Vec<u32>,
+    above: Vec<u32>,
     // The number of symbols up to the greatest of the span.
     symbols: usize,
 }
@@ -62,15 +64,33 @@ fn widest(axes: &[Axis]) -> usize {
     most
 }
 
-/// Adds counts, those from a place on, to the first of others, of this number. Returns whether one is not 0.
-fn add_from(sums: &mut [u32], counts: &[u32], from: usize, symbols: usize) -> bool {
+/// The counts of this number of symbols from a place on.
+fn piece(counts: &[u32], from: usize, symbols: usize) -> &[u32] {
+    let end = from.saturating_add(symbols);
+    if from <= end && end <= counts.len() {
+        &counts[from..end]
+    } else {
+        &[]
+    }
+}
+
+/// Takes counts from those above a cut and adds them to those below. Returns whether one is not 0.
+fn move_counts(above: &mut [u32], below: &mut [u32], counts: &[u32]) -> bool {
     let mut any = 0;
-    for symbol in 0..symbols.min(sums.len()) {
-        let count = counts.get(from.wrapping_add(symbol)).copied().unwrap_or(0);
+    for symbol in 0..counts.len().min(below.len()).min(above.len()) {
+        let count = counts[symbol];
         any |= count;
-        sums[symbol] = sums[symbol].saturating_add(count);
+        below[symbol] = below[symbol].wrapping_add(count);
+        above[symbol] = above[symbol].wrapping_sub(count);
     }
     any != 0
+}
+
+/// Puts counts in the place of others.
+fn copy_counts(target: &mut [u32], counts: &[u32]) {
+    for symbol in 0..target.len().min(counts.len()) {
+        target[symbol] = counts[symbol];
+    }
 }
 
 /// The number of symbols up to the greatest that occurs.
@@ -82,15 +102,6 @@ fn symbols_in(counts: &[u32]) -> usize {
         }
     }
     symbols
-}
-
-/// The counts of the first symbols, of this number.
-fn first_of(counts: &[u32], symbols: usize) -> &[u32] {
-    if symbols <= counts.len() {
-        &counts[..symbols]
-    } else {
-        counts
-    }
 }
 
 /// The classes of a span.
@@ -121,10 +132,12 @@ impl<C: Counted> Learner<'_, C> {
         Ok(Learner {
             table,
             prices,
+            bits: Bits::new(alloc)?,
             classes,
             whole: zeros(alloc, 1)?,
             places: zeros(alloc, widest(table.axes()))?,
             below: zeros(alloc, 1)?,
+            above: zeros(alloc, 1)?,
             symbols: 0,
         })
     }
@@ -152,14 +165,17 @@ impl<C: Counted> Learner<'_, C> {
 
     /// What the samples cost that are counted.
     fn cost(&self) -> u64 {
-        cost_of(self.prices, first_of(&self.whole, self.symbols))
+        self.bits
+            .cost(self.prices, piece(&self.whole, 0, self.symbols))
     }
 
-    /// What the samples cost on both sides of a cut, of which those below are counted.
+    /// What the samples cost on both sides of a cut.
     fn cut_cost(&self) -> u64 {
-        let whole = first_of(&self.whole, self.symbols);
-        let below = first_of(&self.below, self.symbols);
-        cost_of(self.prices, below).saturating_add(cost_of_rest(self.prices, whole, below))
+        let above = piece(&self.above, 0, self.symbols);
+        let below = piece(&self.below, 0, self.symbols);
+        self.bits
+            .cost(self.prices, below)
+            .saturating_add(self.bits.cost(self.prices, above))
     }
 
     /// The predictor of a leaf.
@@ -195,6 +211,7 @@ impl<C: Counted> Learner<'_, C> {
     fn count_places(&mut self, span: Span, axis: usize) {
         clear(&mut self.places);
         clear(&mut self.below);
+        copy_counts(&mut self.above, &self.whole);
         let classes = classes_of(&self.classes, span);
         self.table
             .add_places(&mut self.places, classes, span.kind, axis);
@@ -206,7 +223,8 @@ impl<C: Counted> Learner<'_, C> {
         let mut best = best;
         for place in 0..size.saturating_sub(1) {
             let from = place.wrapping_mul(SYMBOLS);
-            if add_from(&mut self.below, &self.places, from, self.symbols) {
+            let counts = piece(&self.places, from, self.symbols);
+            if move_counts(&mut self.above, &mut self.below, counts) {
                 let cost = self.cut_cost();
                 best = cheaper(best, Cut { axis, place, cost });
             }

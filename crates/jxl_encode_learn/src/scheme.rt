@@ -124,7 +124,7 @@ pub fn scheme_of<C: Counted>(
             clusters: Vec::new(alloc),
             cost: 0,
         },
-        clusters: Clusters::new(alloc, prices.scale, most),
+        clusters: Clusters::new(alloc, prices.scale, most)?,
         residuals: zeros(alloc, 1)?,
     };
     for node in &learnt {
