@@ -32,6 +32,12 @@ const EARLIER: u32 = 19;
 /// The property that is the greatest error of the weighted predictor nearby.
 const MAX_ERROR: u32 = 15;
 
+/// Rows are taken in bands of this many.
+const BAND: usize = 8;
+
+/// How many rows above a band are walked, so that the errors of the weighted predictor are as if all rows were.
+const BEFORE: usize = 2;
+
 /// The samples of a picture that are taken, and what is known of the row that is walked.
 #[derive(Drop)]
 struct Taker<'a> {
@@ -85,14 +91,20 @@ fn sample_at(row: &[i32], x: usize) -> i32 {
 }
 
 impl Taker<'_> {
-    /// Goes to a row of a channel.
-    fn go(&mut self, alloc: Global, channel: usize, y: usize) -> Result<(), OutOfMemory> {
+    /// Goes to a row of a channel, anew if the row above was not walked.
+    fn go(
+        &mut self,
+        alloc: Global,
+        channel: usize,
+        y: usize,
+        anew: bool,
+    ) -> Result<(), OutOfMemory> {
         self.source.copy(&mut self.here, channel, y)?;
         mem::swap(&mut self.earlier, &mut self.above);
         if channel > 0 {
             self.source.copy(&mut self.earlier, channel - 1, y)?;
         }
-        if y % SIDE == 0 {
+        if anew || y % SIDE == 0 {
             self.above.truncate(0);
             self.walks = walks_of(alloc, self.here.len())?;
         }
@@ -160,16 +172,22 @@ impl Taker<'_> {
         Ok(())
     }
 
-    /// Takes the samples of a channel, in one row of `step`.
+    /// Takes the samples of a channel, in one band of `step`.
     fn take_channel(
         &mut self,
         alloc: Global,
         channel: usize,
         step: usize,
     ) -> Result<(), OutOfMemory> {
+        let mut anew = true;
         for y in 0..self.source.height(channel) {
-            self.go(alloc, channel, y)?;
-            self.walk_row(channel, is_taken(y, step))?;
+            let taken = is_taken(y / BAND, step);
+            let walked = taken || is_taken(y.saturating_add(BEFORE) / BAND, step);
+            if walked {
+                self.go(alloc, channel, y, anew)?;
+                self.walk_row(channel, taken)?;
+            }
+            anew = !walked;
         }
         Ok(())
     }

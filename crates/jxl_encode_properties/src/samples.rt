@@ -104,7 +104,7 @@ impl Counted for Samples {
         for class in classes {
             let symbol = symbols.get(*class).copied().unwrap_or(0) as usize;
             if let Some(sum) = sums.get_mut(symbol) {
-                *sum = sum.saturating_add(1);
+                *sum = sum.wrapping_add(1);
             }
         }
     }
@@ -117,7 +117,7 @@ impl Counted for Samples {
             let symbol = symbols.get(*class).copied().unwrap_or(0) as usize;
             let at = place.wrapping_mul(SYMBOLS).wrapping_add(symbol);
             if let Some(sum) = sums.get_mut(at) {
-                *sum = sum.saturating_add(1);
+                *sum = sum.wrapping_add(1);
             }
         }
     }
