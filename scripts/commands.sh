@@ -449,6 +449,18 @@ encode_rows() {
     cmp -s c.jxl grey.jxl
     judge $? 'bytes after the samples change the file'
 
+    # Noise of 16 values that repeats: 64 by 16 samples, 16 times. If no token is copied, each of the 16,384 samples takes 4 bits.
+    noise=$(for n in 0 1 2 3 4 5 6 7 8 9; do for m in 0 1 2; do printf %s "$n$m" | md5sum | head -c 32; done; done
+        for n in 0 1; do printf %s "$n" | md5sum | head -c 32; done)
+    { printf 'P5\n64 256\n255\n'; for n in 1 2 3 4 5 6 7 8 9 10 11 12 13 14 15 16; do printf %s "$noise"; done; } > repeated.pgm
+    for effort in usual best; do
+        expect 0 - repeated.pgm --effort $effort -o c.jxl
+        test "$(wc -c < c.jxl)" -lt 4096
+        judge $? "noise that repeats is not copied at effort $effort: $(wc -c < c.jxl) bytes, 8,192 without copies"
+        "$decoder" c.jxl -o again.pgm && cmp -s repeated.pgm again.pgm
+        judge $? "noise that repeats is another picture at effort $effort"
+    done
+
     # Boxes, Exif data and XMP data.
     expect 0 - grey.pgm --container -o c.jxl
     test "$(head -c 8 c.jxl | tail -c 4)" = 'JXL '
