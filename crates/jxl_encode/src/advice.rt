@@ -75,9 +75,6 @@ const GREEN: u32 = 10;
 /// The kinds of colour transform that are green, red or blue, and the differences of the others to it.
 const SHADES: [u32; 3] = [GREEN, 3, 17];
 
-/// All efforts.
-const EFFORTS: [Effort; 3] = [Effort::Fast, Effort::Usual, Effort::Best];
-
 /// The most nodes of the tree of a picture of few colours, nearly.
 const MAX_NODES: usize = 16383;
 
@@ -371,20 +368,23 @@ fn add_ways_of(
     add_way(list, by_errors(alloc, picture, care_of(effort).1, tried)?)
 }
 
-/// The number of efforts up to this one: a greater effort tries what a lower one does.
-fn efforts_to(effort: Effort) -> usize {
+/// The efforts of which the ways are tried: at the greatest those of all, and where samples repeat also those of a lower one,
+/// by which copies are often shorter.
+fn efforts_of(effort: Effort, repeats: bool) -> &'static [Effort] {
     match effort {
-        Effort::Fast => 1,
-        Effort::Usual => 2,
-        Effort::Best => 3,
+        Effort::Fast => &[Effort::Fast],
+        Effort::Usual if repeats => &[Effort::Fast, Effort::Usual],
+        Effort::Usual => &[Effort::Usual],
+        Effort::Best => &[Effort::Fast, Effort::Usual, Effort::Best],
     }
 }
 
-/// Ways to code a picture.
+/// Ways to code a picture, of which samples repeat if `repeats` says so.
 pub(crate) fn advices_for(
     alloc: Global,
     picture: &Picture,
     effort: Effort,
+    repeats: bool,
 ) -> Result<Vec<Advice>, OutOfMemory> {
     let header = &picture.header;
     let depth = header.bit_depth;
@@ -397,7 +397,7 @@ pub(crate) fn advices_for(
     } else {
         &[None, Some(LUMA)]
     };
-    for effort in EFFORTS.iter().take(efforts_to(effort)) {
+    for effort in efforts_of(effort, repeats) {
         add_ways_of(alloc, &mut list, picture, *effort, colours)?;
     }
     Ok(list)

@@ -75,9 +75,9 @@ pub(crate) fn encode_codestream<P: Progress>(
     requires codable { IsCodable picture.now }
     ensures { IfOk result (λ v. IsCodestreamOf picture.now v.items) }
 {
-    let advices = advices_for(alloc, picture, effort)?;
-    let own = own_trees(alloc, picture, effort, &advices)?;
     let copies = are_copied(alloc, picture, effort)?;
+    let advices = advices_for(alloc, picture, effort, copies)?;
+    let own = own_trees(alloc, picture, effort, &advices)?;
     if let Some(bytes) = shortest(alloc, picture, &advices, &own, copies, progress)? {
         return Ok(bytes);
     }
