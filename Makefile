@@ -32,8 +32,11 @@ demo-groups: ## decode examples/groups.hex, a picture of two groups, without any
 	@python3 -c 'import sys; sys.stdout.buffer.write(bytes.fromhex(sys.stdin.read()))' < examples/groups.hex \
 	    | (cd crates/jxlmod && rt try -- sections 3 1 1 8 i32 2)
 
-bench: jxldec ## time jxldec beside djxl, which must be installed: docs/SPEED.md has the other measurements
-	@sh scripts/bench_djxl.sh crates/jxldec/out/jxldec
+bench: jxldec ## time jxldec beside djxl, by turns; with CRATE=PROGRAM also jxlbench beside the Rust crate: docs/SPEED.md
+	@python3 scripts/bench_clock.py files crates/jxldec/out/jxldec
+	@if [ -n "$(CRATE)" ]; then \
+	    (cd crates/jxlbench && rt run -- $$(cat args) < stdin > /dev/null) && \
+	    python3 scripts/bench_clock.py pictures crates/jxlbench/out/jxlbench $(CRATE); fi
 
 compare-djxl: jxldec ## decode what cjxl encodes, and compare with djxl, which must both be installed
 	@sh scripts/compare_djxl.sh crates/jxldec/out/jxldec
