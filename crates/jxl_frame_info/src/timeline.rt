@@ -168,12 +168,13 @@ impl Source<'_> {
 impl Timeline {
     ghost use Rattle.jxl_frame_info.specs.Timelines.{IsTimelineOf, TimelineFails};
 
-    /// Reads the headers of the frames of a codestream: no sample is decoded. Whether frames can be composed is not looked
-    /// at. Sizes are compared with the limits as when frames are decoded.
+    /// Reads the headers of the frames of a codestream: no sample is decoded. Whether frames can be composed is not
+    /// looked at. Sizes are compared with the limits as when frames are decoded.
     ///
     /// # Errors
     ///
-    /// Those of the image header and of the profile; what is wrong with the frames is the `reason`. Or it is out of memory.
+    /// Those of the image header and of the profile; what is wrong with the frames is the `reason`. Or it is out of
+    /// memory.
     pub fn read(alloc: Global, bytes: &[u8], limits: &Limits) -> Result<Timeline, TimelineError>
         ensures ok { IfOk result (IsTimelineOf limits.now bytes.now) }
         ensures err { IfErr result (TimelineFails limits.now bytes.now) }

@@ -7,21 +7,20 @@ use Rattle.jxlm_bits.specs.ErrorKind.{ErrorAt}
 use Rattle.jxl_animation.specs.Files.{HasFewerFrames, IsFrameOfFile}
 use Rattle.jxl_coding.specs.Parse.{decoder_at}
 use Rattle.jxl_coding.specs.Tokens.{entropy}
-use Rattle.jxl_container.specs.Files.{HasLaterError, stream_of}
+use Rattle.jxl_container.specs.Files.{stream_of}
 use Rattle.jxl_container.proofs.FileLaws.{one_codestream}
 use Rattle.jxl_container.specs.Metadata.{HasExif, HasXmp}
 use Rattle.jxl_container.specs.declared.error.FileError.{FileError as BoxError}
 use Rattle.jxl_image_header.specs.Images.{Image, image_header, image_of}
 use Rattle.jxl_image_header.specs.declared.image.ImageHeader.{ImageHeader}
-use Rattle.jxl_image_header.specs.declared.size.Size.{Size}
 use Rattle.jxl_codestream.specs.Fronts.{FrontFails, StandsAt}
-use Rattle.jxl_codestream.specs.FrontParts.{AreFramesOf, bytes_if}
+use Rattle.jxl_codestream.specs.FrontParts.{AreFramesOf}
 use Rattle.jxl_codestream.specs.declared.error.FrontError.{FrontError}
 use Rattle.jxl_codestream.specs.declared.error.FrontError.TheVariants as fronts
 use Rattle.jxl_codestream.specs.declared.front.Frames.{Frames}
 use Rattle.jxl_info.specs.Headers.{HeadersOfFile, IsReason, IsSupported}
 use Rattle.jxl_info.specs.Reasons.{is_refusal}
-use Rattle.jxl_lossless.specs.Files.{IsReadOf, error_of, header_of, later_error_of, reason_of, upright}
+use Rattle.jxl_lossless.specs.Files.{IsReadOf, error_of, header_of, reason_of, upright}
 use Rattle.jxl_lossless.specs.Pictures.{FileFails, IsPictureOfFile}
 use Rattle.jxl_lossless.specs.declared.error.FileError.TheVariants as files
 use Rattle.jxl_lossless.specs.declared.file.JxlFile.{JxlFile}
@@ -34,15 +33,15 @@ use Rattle.jxl_picture.specs.declared.limits.Limits.{Limits}
 use Rattle.jxl_picture.specs.declared.picture.Picture.{Picture}
 use Rattle.jxl_png_write.specs.Headers.{alpha_of, alpha_suits, is_side, is_whole, suits_png}
 use Rattle.jxldec.specs.Contents.{content_text}
-use Rattle.jxldec.specs.Formats.{IsWrittenAs, chosen, suits_output}
+use Rattle.jxldec_lines.specs.Formats.{chosen, suits_output}
 use Rattle.jxldec.specs.Layers.{has_frames, is_of_layers}
-use Rattle.jxldec.specs.Losses.{loss_in}
-use Rattle.jxldec.specs.Texts.{FramesHaveNoFormat, HasNoFormat, IsAboveLimits, IsTextOfFile, IsTextOfFrame}
-use Rattle.jxldec.specs.Warnings.{kinds_left_out}
-use Rattle.jxldec.specs.declared.failures.Failure.{Failure}
-use Rattle.jxldec.specs.declared.format.OutputFormat.{OutputFormat}
-use Rattle.jxldec.specs.declared.format.OutputFormat.TheVariants.{Netpbm, Png}
-use Rattle.jxldec.specs.declared.run.Output.{Output}
+use Rattle.jxldec.specs.Texts.{FramesHaveNoFormat, HasNoFormat, InfoFails, IsAboveLimits, IsFound, IsTextOf, IsTextOfFile, IsTextOfFrame}
+use Rattle.jxldec_lines.specs.declared.failures.Failure.{Failure}
+use Rattle.jxldec_lines.specs.declared.failures.Failure.TheVariants as failures
+use Rattle.jxl_command.specs.declared.extra.Extra.TheVariants as extras
+use Rattle.jxldec_lines.specs.declared.format.OutputFormat.{OutputFormat}
+use Rattle.jxldec_lines.specs.declared.format.OutputFormat.TheVariants.{Netpbm, Png}
+use Rattle.jxldec.specs.declared.content.Output.{Output}
 
 module _ (limits : Limits) (bytes : List ℕ) (header : ImageHeader) where
   supported : (frames : Result Frames FrontError) → MatchResult frames (AreFramesOf (entropy decoder_at) limits bytes header) (FrontFails (entropy decoder_at) limits bytes) →
@@ -114,7 +113,7 @@ module _ (limits : Limits) (file : List ℕ) (read : JxlFile) (is : IsReadOf lim
   }
 
   -- the image header is the one of its frames
-  frames_image : (number : ℕ) (picture : Picture) (frame : IsFrameOfFile limits file number picture) → image_of (header_of read) ≡ frame.image
+  pub frames_image : (number : ℕ) (picture : Picture) (frame : IsFrameOfFile limits file number picture) → image_of (header_of read) ≡ frame.image
   frames_image number picture frame =
       let bytes : stream_of read.stream ≡ frame.bytes = same_bytes (stream_of read.stream) frame.bytes (one_codestream file (Ok (stream_of read.stream)) (Ok frame.bytes) is.found frame.begin.found) in
       one_image (stream_of read.stream) (image_of (header_of read)) frame.image is.front.end frame.begin.opens.end is.front.header
@@ -177,49 +176,18 @@ choice_of_frame limits file read is number picture frame asked format e =
     choice_kept asked frame.image (image_of picture.header) format
     (subst (λ (i : Image). chosen asked i ≡ Some format) (frames_image limits file read is number picture frame) e) frame.upright.header
 
--- what is written is the file's picture in the format
-pub text_of_file : (limits : Limits) (file : List ℕ) (asked : Option OutputFormat) (picture : Picture) (steps : ℕ) (format : OutputFormat) (exif xmp : Option (List ℕ)) →
-    IsPictureOfFile limits file picture 0 steps → HasExif file exif → HasXmp file xmp → chosen asked (image_of picture.header) ≡ Some format → (result : Result Output Failure) →
-    IfOk result (λ o. IsWrittenAs format (image_of picture.header) picture.channels.items (bytes_if picture.profile) exif xmp (content_text o.content)) →
-    IfOk result (λ o. string_bytes o.left_out.channels ≡ kinds_left_out format (image_of picture.header).ec_info) →
-    IfOk result (λ o. o.left_out.loss ≡ loss_in format (image_of picture.header)) →
+-- what is written of a picture of the file is the picture of the file, or that with a number
+pub text_of_file : (limits : Limits) (file : List ℕ) (asked : Option OutputFormat) (picture : Picture) (steps : ℕ) → IsPictureOfFile limits file picture 0 steps → (result : Result Output Failure) →
+    IfOk result (λ o. IsTextOf file picture asked (content_text o.content) (string_bytes o.left_out.channels) o.left_out.loss) →
     IfOk result (λ o. IsTextOfFile limits file asked (content_text o.content) (string_bytes o.left_out.channels) o.left_out.loss)
-text_of_file limits file asked picture steps format exif xmp is has_exif has_xmp suited (Ok o) written without meant = record {
-  picture = picture;
-  steps = steps;
-  is = is;
-  exif = exif;
-  exif_is = has_exif;
-  xmp = xmp;
-  xmp_is = has_xmp;
-  format = format;
-  suited = suited;
-  written = written;
-  without = without;
-  meant = meant;
-}
-text_of_file limits file asked picture steps format exif xmp is has_exif has_xmp suited (Err e) written without meant = tt
+text_of_file limits file asked picture steps is (Ok o) written = record { picture = picture; steps = steps; is = is; written = written }
+text_of_file limits file asked picture steps is (Err e) written = tt
 
-pub text_of_frame : (limits : Limits) (file : List ℕ) (number : ℕ) (asked : Option OutputFormat) (picture : Picture) (format : OutputFormat) (exif xmp : Option (List ℕ)) →
-    IsFrameOfFile limits file number picture → HasExif file exif → HasXmp file xmp → chosen asked (image_of picture.header) ≡ Some format → (result : Result Output Failure) →
-    IfOk result (λ o. IsWrittenAs format (image_of picture.header) picture.channels.items (bytes_if picture.profile) exif xmp (content_text o.content)) →
-    IfOk result (λ o. string_bytes o.left_out.channels ≡ kinds_left_out format (image_of picture.header).ec_info) →
-    IfOk result (λ o. o.left_out.loss ≡ loss_in format (image_of picture.header)) →
+pub text_of_frame : (limits : Limits) (file : List ℕ) (number : ℕ) (asked : Option OutputFormat) (picture : Picture) → IsFrameOfFile limits file number picture → (result : Result Output Failure) →
+    IfOk result (λ o. IsTextOf file picture asked (content_text o.content) (string_bytes o.left_out.channels) o.left_out.loss) →
     IfOk result (λ o. IsTextOfFrame limits file number asked (content_text o.content) (string_bytes o.left_out.channels) o.left_out.loss)
-text_of_frame limits file number asked picture format exif xmp is has_exif has_xmp suited (Ok o) written without meant = record {
-  picture = picture;
-  is = is;
-  exif = exif;
-  exif_is = has_exif;
-  xmp = xmp;
-  xmp_is = has_xmp;
-  format = format;
-  suited = suited;
-  written = written;
-  without = without;
-  meant = meant;
-}
-text_of_frame limits file number asked picture format exif xmp is has_exif has_xmp suited (Err e) written without meant = tt
+text_of_frame limits file number asked picture is (Ok o) written = record { picture = picture; is = is; written = written }
+text_of_frame limits file number asked picture is (Err e) written = tt
 
 -- a picture that was decoded is the one with this number, or there are fewer
 module _ (limits : Limits) (file : List ℕ) (number : ℕ) (r : Option Picture) where
@@ -232,8 +200,15 @@ module _ (limits : Limits) (file : List ℕ) (number : ℕ) (r : Option Picture)
   pub whole_if : (p : Picture) → r ≡ Some p → IfSome r (λ p. IsWhole (image_of p.header) p.channels.items) → IsWhole (image_of p.header) p.channels.items
   whole_if p is whole = subst (λ (o : Option Picture). IfSome o (λ p. IsWhole (image_of p.header) p.channels.items)) is whole
 
--- what is left out has the error of the boxes after the codestream
-pub later_kept : (limits : Limits) (file : List ℕ) (read : JxlFile) → IsReadOf limits file read → (error : Option BoxError) → error ≡ later_error_of read → (result : Result Output Failure) →
-    IfOk result (λ o. o.left_out.later_error ≡ error) → IfOk result (λ o. HasLaterError file o.left_out.later_error)
-later_kept limits file read is error same (Ok o) kept = subst (λ (e : Option BoxError). HasLaterError file e) (sym (kept ∙ same)) is.later
-later_kept limits file read is error same (Err e) kept = tt
+-- data that were found are those of the file
+pub found_so : (wanted : Bool) (Has : Option (List ℕ) → Type 0) (found here : Option (List ℕ)) → Has found → IsFound wanted (λ bytes. found ≡ Some bytes) here → IsFound wanted (λ bytes. Has (Some bytes)) here
+found_so true Has found here has is = (is.0, subst Has is.1 has, is.2)
+found_so false Has found here has is = is
+
+-- data that are missing are a failure
+module _ (limits : Limits) (file : List ℕ) (found : Option (List ℕ)) (failure : Failure) (none : found ≡ None) where
+  pub exif_missing : HasExif file found → failure ≡ failures.Missing extras.Exif → InfoFails limits file failure
+  exif_missing has e = subst (λ (f : Failure). InfoFails limits file f) (sym e) (subst (λ (o : Option (List ℕ)). HasExif file o) none has)
+
+  pub xmp_missing : HasXmp file found → failure ≡ failures.Missing extras.Xmp → InfoFails limits file failure
+  xmp_missing has e = subst (λ (f : Failure). InfoFails limits file f) (sym e) (subst (λ (o : Option (List ℕ)). HasXmp file o) none has)

@@ -1,17 +1,15 @@
 -- Files that have several pictures, or layers.
-use Rattle.std.proofs.Common.{◌≡◌, ℕ, List, inl, inr, true, Bool, Option, Result, Ok, Err, Some, None, refl, sym, subst}
+use Rattle.std.proofs.Common.{◌≡◌, ℕ, List, inr, true, Option, Result, Ok, Err}
 use Rattle.std.specs.Prelude.{IfErr, IfOk, string_bytes}
-use Rattle.jxl_codestream.specs.declared.error.FrontError.{FrontError}
-use Rattle.jxl_lossless.specs.declared.error.FileError.{FileError}
 use Rattle.jxl_lossless.specs.declared.error.FileError.TheVariants as files
 use Rattle.jxl_picture.specs.declared.limits.Limits.{Limits}
 use Rattle.jxldec.specs.Contents.{content_text}
 use Rattle.jxldec.specs.Layers.{is_layered}
 use Rattle.jxldec.specs.Texts.{CountsFrames, FrameTextFails, HasLayers, IsPictureText, IsTextOfFrame, PictureFails, TextFails}
-use Rattle.jxldec.specs.declared.failures.Failure.{Failure}
-use Rattle.jxldec.specs.declared.failures.Failure.TheVariants as failures
-use Rattle.jxldec.specs.declared.format.OutputFormat.{OutputFormat}
-use Rattle.jxldec.specs.declared.run.Output.{Output}
+use Rattle.jxldec_lines.specs.declared.failures.Failure.{Failure}
+use Rattle.jxldec_lines.specs.declared.failures.Failure.TheVariants as failures
+use Rattle.jxldec_lines.specs.declared.format.OutputFormat.{OutputFormat}
+use Rattle.jxldec.specs.declared.content.Output.{Output}
 
 -- a still picture is not made for this reason
 pub has_layers : (limits : Limits) (file : List ℕ) (asked : Option OutputFormat) (failure : Failure) → TextFails limits file asked failure → is_layered failure ≡ true → HasLayers limits file

@@ -1,4 +1,3 @@
-pub mod Texts
 pub mod FileReading
 pub mod Saving
 pub mod Layered

@@ -1,17 +1,17 @@
 -- What is written beside the picture of a file, and what its failures say.
-use Rattle.std.proofs.Common.{◌≡◌, ℕ, inl, ◌++◌, List, [], Bool, true, false, Option, Some, None, refl, sym, subst}
-use Rattle.std.specs.Io.KnownBytes.{Appends, Consumes, IsAtEnd}
+use Rattle.std.proofs.Common.{◌≡◌, ℕ, inl, List, [], Bool, true, false, Option, Some, None, sym, subst}
+use Rattle.std.specs.Io.KnownBytes.{Appends}
 use Rattle.std.proofs.lemmas.List.{append-nil}
 use Rattle.jxl_netpbm.specs.Output.{AppendsBeginning}
 use Rattle.jxl_picture.specs.declared.limits.Limits.{Limits}
 use Rattle.jxl_command.specs.Streams.{IsKept, IsReadWhole}
-use Rattle.jxldec.specs.Failures.{IsOfSaving}
-use Rattle.jxldec.specs.Texts.{AskedFails, FrameTextFails, InfoFails, InputFails, IsAsked, IsBegun, IsFound, IsSaved, ListFails, TextFails}
-use Rattle.jxldec.specs.declared.failures.Failure.{Failure}
-use Rattle.jxldec.specs.declared.failures.Failure.TheVariants as failures
+use Rattle.jxldec_lines.specs.Failures.{IsOfSaving}
+use Rattle.jxldec.specs.Texts.{AskedFails, FrameTextFails, InfoFails, InputFails, IsBegun, IsFound, IsSaved, ListFails, TextFails}
+use Rattle.jxldec_lines.specs.declared.failures.Failure.{Failure}
+use Rattle.jxldec_lines.specs.declared.failures.Failure.TheVariants as failures
 use Rattle.jxldec.specs.declared.options.Task.{Task}
 use Rattle.jxldec.specs.declared.options.Task.TheVariants as tasks
-use Rattle.jxldec.specs.declared.format.OutputFormat.{OutputFormat}
+use Rattle.jxldec_lines.specs.declared.format.OutputFormat.{OutputFormat}
 
 -- data that were found and kept are saved
 pub saved : (wanted : Bool) (Has : List ℕ → Type 0) (found held holds : Option (List ℕ)) (Flushed Stays : Type 0) →

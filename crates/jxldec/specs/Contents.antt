@@ -3,8 +3,8 @@ use Rattle.std.specs.Prelude.{◌≡◌, ℕ, List, [], true}
 use Rattle.jxl_image_header.specs.Images.{image_of}
 use Rattle.jxl_netpbm.specs.Formats.{suits, text_of}
 use Rattle.jxl_picture.specs.Pictures.{IsWhole}
-use Rattle.jxldec.specs.declared.run.Content.{Content}
-use Rattle.jxldec.specs.declared.run.Content.TheVariants.{Headers, Nothing, Picture, Png}
+use Rattle.jxldec.specs.declared.content.Content.{Content}
+use Rattle.jxldec.specs.declared.content.Content.TheVariants.{Headers, Nothing, Picture, Png}
 
 -- the bytes that are written: those that the headers tell, the PNG file or the text of the picture in the format, or none
 abbrev pub content_text : Content → List ℕ

@@ -5,8 +5,8 @@ use Rattle.jxl_codestream.specs.declared.error.FrontError.TheVariants as fronts
 use Rattle.jxl_frame_header.specs.declared.refusal.Refusal.TheVariants as frames
 use Rattle.jxl_image_header.specs.declared.refusal.Refusal.TheVariants as images
 use Rattle.jxl_lossless.specs.declared.error.FileError.TheVariants as files
-use Rattle.jxldec.specs.declared.failures.Failure.{Failure}
-use Rattle.jxldec.specs.declared.failures.Failure.TheVariants as failures
+use Rattle.jxldec_lines.specs.declared.failures.Failure.{Failure}
+use Rattle.jxldec_lines.specs.declared.failures.Failure.TheVariants as failures
 
 -- the error is that the file has several pictures, or layers
 abbrev pub is_of_layers : FrontError → Bool

@@ -1,11 +1,4 @@
-pub mod Causes
-pub mod Failures
-pub mod Formats
-pub mod Inner
-pub mod Layers
-pub mod Losses
-pub mod Options
-pub mod Reasons
 pub mod Contents
+pub mod Layers
+pub mod Options
 pub mod Texts
-pub mod Warnings

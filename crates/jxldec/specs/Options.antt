@@ -1,12 +1,17 @@
 -- What the command line asks for.
-use Rattle.std.specs.Prelude.{◌≡◌, ◌⊎◌, ℕ, ◌^◌, List, map, Option, codes}
+use Rattle.std.specs.Prelude.{◌≡◌, ◌⊎◌, ℕ, ◌^◌, List, map, Option, if◌then◌else◌, codes}
 use Rattle.std.specs.Option.{unwrap_or}
 use Rattle.std.specs.Char.{to_ascii_lowercase}
 use Rattle.jxl_netpbm.specs.declared.format.Format.{Format}
 use Rattle.jxl_netpbm.specs.declared.format.Format.TheVariants as formats
 use Rattle.jxl_picture.specs.declared.limits.Limits.{Limits}
-use Rattle.jxldec.specs.declared.format.OutputFormat.{OutputFormat}
-use Rattle.jxldec.specs.declared.format.OutputFormat.TheVariants.{Netpbm, Png}
+use Rattle.jxl_command.specs.Extras.{path_of}
+use Rattle.jxldec_lines.specs.Failures.{is_of_output}
+use Rattle.jxldec_lines.specs.declared.failures.Failure.{Failure}
+use Rattle.jxldec_lines.specs.declared.failures.Failure.TheVariants as failures
+use Rattle.jxldec_lines.specs.declared.format.OutputFormat.{OutputFormat}
+use Rattle.jxldec_lines.specs.declared.format.OutputFormat.TheVariants.{Netpbm, Png}
+use Rattle.jxldec.specs.declared.options.Options.{Options}
 
 -- the word is a name of a format, which is an ending of its files, too: PNM is PGM for grey and PPM for red, green and blue
 abbrev pub IsName : List ℕ → OutputFormat → Type 0
@@ -40,3 +45,8 @@ limits_of pixels bytes decisions codewords = record {
   decisions = unwrap_or decisions 128;
   codewords = unwrap_or codewords (2 ^ 26);
 }
+
+-- the name of what fails: of where other data are written, of the output, or of the file
+abbrev pub subject : Options → Failure → List ℕ
+subject options (failures.Unsaved extra error) = path_of options.paths extra
+subject options failure = if is_of_output failure then options.output_name.now else options.input.now

@@ -1,5 +1,6 @@
 -- What the program writes of a file: its picture, or what its headers tell.
-use Rattle.std.specs.Prelude.{◌≡◌, ◌⊎◌, ◌++◌, ℕ, List, [], length, not, Bool, true, false, MatchBool, MatchOption, Option, Some, None, Ok, is_some, if◌then◌else◌}
+use Rattle.std.specs.Prelude.{◌≡◌, ◌⊎◌, ◌++◌, ℕ, List, [], length, not, Bool, true, false, MatchBool, MatchOption, Option, Some, None, Ok, is_some}
+use Rattle.std.specs.Option.{option_copied}
 use Rattle.std.specs.Io.KnownBytes.{Appends, Consumes, IsAtEnd}
 use Rattle.jxl_codestream.specs.FrontParts.{bytes_if}
 use Rattle.jxl_coding.specs.Parse.{decoder_at}
@@ -29,50 +30,54 @@ use Rattle.jxl_lossless.specs.Pictures.{FileFails, IsPictureOfFile, ProfileOfFil
 use Rattle.jxl_codestream.specs.declared.error.FrontError.{FrontError}
 use Rattle.jxl_codestream.specs.declared.error.FrontError.TheVariants as fronts
 use Rattle.jxl_image_header.specs.declared.size.Size.{Size}
-use Rattle.jxldec.specs.Failures.{failure_line, is_of_output, subject}
-use Rattle.jxldec.specs.Formats.{IsWrittenAs, chosen}
+use Rattle.jxldec_lines.specs.Failures.{failure_line, is_of_output}
+use Rattle.jxldec_lines.specs.Formats.{IsWrittenAs, chosen}
+use Rattle.jxldec.specs.Options.{subject}
 use Rattle.jxldec.specs.Layers.{has_frames, is_of_layers, lists_frames}
-use Rattle.jxldec.specs.Losses.{has_loss, loss_in, unless_saved}
-use Rattle.jxldec.specs.Warnings.{has_more, kinds_left_out, one_frame, warnings}
-use Rattle.jxldec.specs.declared.failures.Failure.{Failure}
-use Rattle.jxldec.specs.declared.failures.Failure.TheVariants as failures
-use Rattle.jxldec.specs.declared.format.OutputFormat.{OutputFormat}
-use Rattle.jxldec.specs.declared.loss.Loss.{Loss}
-use Rattle.jxldec.specs.declared.loss.Loss.TheVariants.{Nothing}
+use Rattle.jxldec_lines.specs.Losses.{has_loss, loss_in, unless_saved}
+use Rattle.jxldec_lines.specs.Warnings.{has_more, kinds_left_out, one_frame, warnings}
+use Rattle.jxldec_lines.specs.declared.failures.Failure.{Failure}
+use Rattle.jxldec_lines.specs.declared.failures.Failure.TheVariants as failures
+use Rattle.jxldec_lines.specs.declared.format.OutputFormat.{OutputFormat}
+use Rattle.jxldec_lines.specs.declared.loss.Loss.{Loss}
+use Rattle.jxldec_lines.specs.declared.loss.Loss.TheVariants.{Nothing}
+use Rattle.jxldec.specs.declared.content.Beside.{Beside}
 use Rattle.jxldec.specs.declared.options.Options.{Options}
 use Rattle.jxldec.specs.declared.options.Task.{Task}
 use Rattle.jxldec.specs.declared.options.Task.TheVariants as tasks
-use Rattle.jxldec.specs.declared.warning.FrameCount.{FrameCount}
+use Rattle.jxldec_lines.specs.declared.warning.FrameCount.{FrameCount}
 
--- The text is the picture of the file in a format, in PNG with its profile, Exif and XMP data; of its channels these kinds are left out, and
--- of its meaning this.
+-- What a file has beside its picture: Exif and XMP data, if present, and the first error of the boxes after the codestream.
+pub record IsBeside (file : List ℕ) (beside : Beside) : Type 0 where
+  pub exif : HasExif file (option_copied beside.exif)
+  pub xmp : HasXmp file (option_copied beside.xmp)
+  pub later : HasLaterError file beside.later_error
+
+-- The text is this picture of a file in a format, in PNG with its profile and the Exif and XMP data of the file; of its channels these
+-- kinds are left out, and of its meaning this.
+pub record IsTextOf (file : List ℕ) (picture : Picture) (asked : Option OutputFormat) (text others : List ℕ) (loss : Loss) : Type 0 where
+  pub exif : Option (List ℕ)
+  pub exif_is : HasExif file exif
+  pub xmp : Option (List ℕ)
+  pub xmp_is : HasXmp file xmp
+  pub format : OutputFormat
+  pub suited : chosen asked (image_of picture.header) ≡ Some format
+  pub written : IsWrittenAs format (image_of picture.header) picture.channels.items (bytes_if picture.profile) exif xmp text
+  pub without : others ≡ kinds_left_out format (image_of picture.header).ec_info
+  pub meant : loss ≡ loss_in format (image_of picture.header)
+
+-- The text is the picture of the file.
 pub record IsTextOfFile (limits : Limits) (file : List ℕ) (asked : Option OutputFormat) (text others : List ℕ) (loss : Loss) : Type 0 where
   pub picture : Picture
   pub steps : ℕ
   pub is : IsPictureOfFile limits file picture 0 steps
-  pub exif : Option (List ℕ)
-  pub exif_is : HasExif file exif
-  pub xmp : Option (List ℕ)
-  pub xmp_is : HasXmp file xmp
-  pub format : OutputFormat
-  pub suited : chosen asked (image_of picture.header) ≡ Some format
-  pub written : IsWrittenAs format (image_of picture.header) picture.channels.items (bytes_if picture.profile) exif xmp text
-  pub without : others ≡ kinds_left_out format (image_of picture.header).ec_info
-  pub meant : loss ≡ loss_in format (image_of picture.header)
+  pub written : IsTextOf file picture asked text others loss
 
--- The same of the picture with this number among those that the file shows, from 0 on.
+-- It is the picture with this number among those that the file shows, from 0 on.
 pub record IsTextOfFrame (limits : Limits) (file : List ℕ) (number : ℕ) (asked : Option OutputFormat) (text others : List ℕ) (loss : Loss) : Type 0 where
   pub picture : Picture
   pub is : IsFrameOfFile limits file number picture
-  pub exif : Option (List ℕ)
-  pub exif_is : HasExif file exif
-  pub xmp : Option (List ℕ)
-  pub xmp_is : HasXmp file xmp
-  pub format : OutputFormat
-  pub suited : chosen asked (image_of picture.header) ≡ Some format
-  pub written : IsWrittenAs format (image_of picture.header) picture.channels.items (bytes_if picture.profile) exif xmp text
-  pub without : others ≡ kinds_left_out format (image_of picture.header).ec_info
-  pub meant : loss ≡ loss_in format (image_of picture.header)
+  pub written : IsTextOf file picture asked text others loss
 
 -- The headers of the file are supported, of a picture that is not written in the format that is asked for, or in any.
 pub record HasNoFormat (limits : Limits) (file : List ℕ) (asked : Option OutputFormat) : Type 0 where

@@ -3,11 +3,11 @@
 ghost use Rattle.std.specs.Prelude.{◌≡◌};
 ghost use Rattle.jxldec.specs.Layers.{is_layered as the_is_layered, is_of_layers as the_is_of_layers, lists_frames as the_lists_frames};
 
-use crate::failures::Failure;
 use jxl_codestream::error::FrontError;
 use jxl_frame_header::refusal::Refusal;
 use jxl_image_header::refusal::Refusal as ImageRefusal;
 use jxl_lossless::FileError;
+use jxldec_lines::failures::Failure;
 
 // Whether what is not supported of a frame is only that it is a layer.
 fn is_layer(refusal: Refusal) -> bool
@@ -31,8 +31,8 @@ pub fn is_of_layers(error: FrontError) -> bool
     }
 }
 
-/// Whether the headers of a file that is not decoded as a still picture, for this reason, are those of several pictures, or
-/// of layers.
+/// Whether the headers of a file that is not decoded as a still picture, for this reason, are those of several pictures,
+/// or of layers.
 pub fn lists_frames(reason: Option<FrontError>) -> bool
     ensures { result ≡ the_lists_frames reason }
 {

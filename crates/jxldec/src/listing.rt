@@ -7,9 +7,8 @@ ghost use Rattle.jxl_info.specs.Headers.{is_boxed as the_is_boxed};
 ghost use Rattle.jxl_info.specs.Texts.{info_text as the_info_text, reason_line};
 ghost use Rattle.jxldec.specs.Layers.{lists_frames as the_lists_frames};
 ghost use Rattle.jxldec.specs.Texts.{AreListed, FrameTextFails, IsInfoOfFrames, IsPrinted, ListFails};
-ghost use Rattle.jxldec.specs.declared.format.OutputFormat.{OutputFormat as TheFormat};
+ghost use Rattle.jxldec_lines.specs.declared.format.OutputFormat.{OutputFormat as TheFormat};
 
-use crate::failures::Failure;
 use crate::layers::lists_frames;
 use jxl_animation::AnimationError;
 use jxl_codestream::error::FrontError;
@@ -21,6 +20,7 @@ use jxl_info::headers::{Headers, is_boxed};
 use jxl_info::reasons::{append_reason, is_refusal};
 use jxl_info::text::info_text;
 use jxl_lossless::{FileError, Limits};
+use jxldec_lines::failures::Failure;
 use jxlm_base::grid::OutOfMemory;
 use std::alloc::Global;
 

@@ -1,20 +1,13 @@
 //! Decodes a lossless JPEG XL file to a picture in PNG or a netpbm format, or tells what its headers say.
 #![tactic(auto)]
 
-mod cause;
-mod codes;
-mod failures;
-mod format;
+mod content;
 mod layers;
 mod listing;
-mod loss;
 mod meter;
 mod options;
-mod reason;
 mod run;
-mod warning;
 
-use crate::failures::Failure;
 use crate::meter::SectionMeter;
 use crate::options::Options;
 use crate::run::{report, run};
@@ -23,6 +16,7 @@ use jxl_command::extra::{Extra, Extras};
 use jxl_command::input::InputFile;
 use jxl_command::meter::Meter;
 use jxl_command::output::OutputFile;
+use jxldec_lines::failures::Failure;
 use std::env;
 use std::io::Read;
 use std::process::ExitCode;

@@ -3,16 +3,15 @@
 ghost use Rattle.std.specs.Prelude.{◌≡◌, ◌≢◌, MatchOption, Some, map};
 ghost use Rattle.std.specs.Option.{option_copied};
 ghost use Rattle.std.specs.Path.{path_extension};
-ghost use Rattle.jxldec.specs.Failures.{subject};
-ghost use Rattle.jxldec.specs.Options.{IsNoFormat, IsNoNetpbm, IsWordOf, limits_of as the_limits};
-ghost use Rattle.jxldec.specs.declared.format.OutputFormat.TheVariants.{Netpbm};
+ghost use Rattle.jxldec.specs.Options.{IsNoFormat, IsNoNetpbm, IsWordOf, limits_of as the_limits, subject};
+ghost use Rattle.jxldec_lines.specs.declared.format.OutputFormat.TheVariants.{Netpbm};
 
-use crate::failures::Failure;
-use crate::format::OutputFormat;
 use clap::{Arg, ArgAction, ArgMatches, Command};
 use jxl_command::extra::ExtraPaths;
 use jxl_netpbm::format::Format;
 use jxl_picture::limits::Limits;
+use jxldec_lines::failures::Failure;
+use jxldec_lines::format::OutputFormat;
 use std::alloc::{AllocError, Global};
 use std::path::Path;
 

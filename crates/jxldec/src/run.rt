@@ -8,27 +8,25 @@ ghost use Rattle.jxl_command.specs.Streams.{IsKept, IsReadWhole, IsReported};
 ghost use Rattle.jxl_container.specs.Files.{HasLaterError};
 ghost use Rattle.jxl_container.specs.Metadata.{HasExif, HasXmp};
 ghost use Rattle.jxl_image_header.specs.Images.{image_of};
-ghost use Rattle.jxl_lossless.specs.Files.{IsReadOf, header_of, reason_of};
+ghost use Rattle.jxl_lossless.specs.Files.{IsReadOf, IsReadyFile, header_of, reason_of};
 ghost use Rattle.jxl_lossless.specs.Pictures.{ProfileOfFile};
 ghost use Rattle.jxl_netpbm.specs.Output.{AppendsBeginning};
 ghost use Rattle.jxl_picture.specs.Pictures.{IsWhole};
 ghost use Rattle.jxl_picture.specs.declared.limits.Limits.{Limits as TheLimits};
 ghost use Rattle.jxldec.specs.Contents.{IsWritable, content_text};
-ghost use Rattle.jxldec.specs.Failures.{IsOfContent, IsOfSaving, failure_line, is_of_output};
-ghost use Rattle.jxldec.specs.Formats.{IsWrittenAs, chosen, suits_output};
+ghost use Rattle.jxldec_lines.specs.Failures.{IsOfContent, IsOfSaving, failure_line, is_of_output};
+ghost use Rattle.jxldec_lines.specs.Formats.{IsWrittenAs, chosen, suits_output};
 ghost use Rattle.jxldec.specs.Layers.{has_frames};
-ghost use Rattle.jxldec.specs.Losses.{has_loss, loss_in};
+ghost use Rattle.jxldec_lines.specs.Losses.{has_loss, loss_in};
 ghost use Rattle.jxldec.specs.Texts.{AskedFails, CountsFrames, FrameTextFails, InfoFails, InputFails, IsAsked, IsDone, IsFailed, IsFound, IsInfo, IsPictureText, IsSaved, IsTextOfFile, IsTextOfFrame, IsWritten, ListFails, PictureFails, TextFails};
-ghost use Rattle.jxldec.specs.Warnings.{has_more, kinds_left_out, one_frame, warnings};
-ghost use Rattle.jxldec.specs.declared.format.OutputFormat.{OutputFormat as TheFormat};
-ghost use Rattle.jxldec.specs.declared.loss.Loss.TheVariants.{Nothing as NoLoss};
+ghost use Rattle.jxldec_lines.specs.Warnings.{has_more, kinds_left_out, one_frame, warnings};
+ghost use Rattle.jxldec_lines.specs.declared.format.OutputFormat.{OutputFormat as TheFormat};
+ghost use Rattle.jxldec_lines.specs.declared.loss.Loss.TheVariants.{Nothing as NoLoss};
 
-use crate::failures::Failure;
-use crate::format::{OutputFormat, format_for};
+use crate::content::{Beside, Content, Output, pass_on};
 use crate::layers::{is_layered, is_of_layers};
 use crate::listing::{text_of_headers, timeline_of_file};
 use crate::options::{Options, Task};
-use crate::warning::{FrameCount, LeftOut, warn};
 use jxl_animation::decode_frame;
 use jxl_codestream::error::FrontError;
 use jxl_coding::decoder::EntropyDecoder;
@@ -37,36 +35,15 @@ use jxl_command::extra::{Extra, Extras};
 use jxl_command::input::read_whole;
 use jxl_command::meter::Line;
 use jxl_command::output::{Flush, write_flushed};
-use jxl_container::error::FileError as BoxError;
 use jxl_container::metadata::{find_exif, find_xmp};
 use jxl_image_header::image::ImageHeader;
 use jxl_info::headers::{Headers, HeadersError};
-use jxl_lossless::{FileError, JxlFile, Limits, Picture, Progress, Steps};
-use jxl_netpbm::format::Format;
-use jxl_netpbm::output::{WriteError, write_whole};
-use jxl_png_write::upright::upright_png;
+use jxl_lossless::{FileError, JxlFile, Limits, Progress, Steps};
+use jxldec_lines::failures::Failure;
+use jxldec_lines::format::{OutputFormat, format_for};
+use jxldec_lines::warning::{FrameCount, LeftOut, warn};
 use std::alloc::Global;
 use std::io::{Read, Write};
-
-/// What is written of a file.
-#[derive(Drop)]
-pub enum Content {
-    /// What its headers tell.
-    Headers(Vec<u8>),
-    /// Nothing.
-    Nothing,
-    /// Its picture, in a format that suits it.
-    Picture { picture: Picture, format: Format },
-    /// A PNG file of its picture.
-    Png(Vec<u8>),
-}
-
-/// What is written of a file, and what that leaves out.
-#[derive(Drop)]
-pub struct Output {
-    pub content: Content,
-    pub left_out: LeftOut,
-}
 
 // What the headers of a file tell.
 fn info_of_file(alloc: Global, file: &[u8], limits: &Limits) -> Result<Output, Failure>
@@ -87,6 +64,21 @@ fn info_of_file(alloc: Global, file: &[u8], limits: &Limits) -> Result<Output, F
         }
         Err(HeadersError::File(error)) => Err(Failure::File(FileError::File(error))),
         Err(HeadersError::Front(error)) => Err(Failure::File(FileError::Front(error))),
+    }
+}
+
+// Reads a file up to the sections of its frames.
+fn read_file<'a>(alloc: Global, file: &'a [u8], limits: &Limits) -> Result<JxlFile<'a>, Failure>
+    ensures ok { IfOk result (IsReadOf limits.now file.now) }
+    ensures ready { IfOk result IsReadyFile }
+    ensures err { IfErr result (InfoFails limits.now file.now) }
+    ensures of_text { (asked : Option TheFormat) → IfErr result (TextFails limits.now file.now asked) }
+    ensures of_frame { (number : ℕ) (asked : Option TheFormat) → IfErr result (FrameTextFails limits.now file.now number
+        asked) }
+{
+    match JxlFile::read(alloc, file, limits) {
+        Ok(read) => Ok(read),
+        Err(error) => Err(Failure::File(error)),
     }
 }
 
@@ -114,8 +106,8 @@ fn support(read: &JxlFile<'_>, limits: &Limits) -> Result<(), Failure>
     }
 }
 
-// The format in which the picture of a file is written that was read by these limits. If the file is not decoded, or the
-// picture has no such format, the error comes before any sample is decoded.
+// The format in which the picture of a file is written that was read by these limits. If the file is not decoded, or
+// the picture has no such format, the error comes before any sample is decoded.
 fn format_of_file(
     read: &JxlFile<'_>,
     asked: Option<OutputFormat>,
@@ -135,58 +127,6 @@ fn format_of_file(
     }
 }
 
-// What is written of a picture in a format that suits it: of a PNG file the bytes are made.
-fn content_of(
-    alloc: Global,
-    picture: Picture,
-    format: OutputFormat,
-    exif: Option<&[u8]>,
-    xmp: Option<&[u8]>,
-) -> Result<Content, Failure>
-    requires whole { IsWhole (image_of picture.header) picture.channels.items }
-    requires suits { suits_output format (image_of picture.header) ≡ true }
-    ensures text { IfOk result (λ content. IsWrittenAs format (image_of picture.header) picture.channels.items
-        (bytes_if picture.profile) (option_copied exif.entry) (option_copied xmp.entry) (content_text content)) }
-    ensures writable { IfOk result IsWritable }
-    ensures err { IfErr result (λ failure. failure ≡ Failure.OutOfMemory) }
-{
-    match format {
-        OutputFormat::Netpbm(format) => Ok(Content::Picture { picture, format }),
-        OutputFormat::Png => match upright_png(alloc, &picture, exif, xmp) {
-            Ok(file) => Ok(Content::Png(file)),
-            Err(_) => Err(Failure::OutOfMemory),
-        },
-    }
-}
-
-// A picture in a format that suits it, and what that leaves out, from a file with this error after its codestream.
-fn output_of(
-    alloc: Global,
-    picture: Picture,
-    format: OutputFormat,
-    exif: Option<&[u8]>,
-    xmp: Option<&[u8]>,
-    later_error: Option<BoxError>,
-) -> Result<Output, Failure>
-    requires whole { IsWhole (image_of picture.header) picture.channels.items }
-    requires suits { suits_output format (image_of picture.header) ≡ true }
-    ensures text { IfOk result (λ o. IsWrittenAs format (image_of picture.header) picture.channels.items
-        (bytes_if picture.profile) (option_copied exif.entry) (option_copied xmp.entry) (content_text o.content)) }
-    ensures writable { IfOk result (λ o. IsWritable o.content) }
-    ensures channels { IfOk result (λ o. string_bytes o.left_out.channels
-        ≡ kinds_left_out format (image_of picture.header).ec_info) }
-    ensures loss { IfOk result (λ o. o.left_out.loss ≡ loss_in format (image_of picture.header)) }
-    ensures frames { IfOk result (λ o. o.left_out.frames ≡ one_frame) }
-    ensures later { IfOk result (λ o. o.left_out.later_error ≡ later_error) }
-    ensures err { IfErr result (λ failure. failure ≡ Failure.OutOfMemory) }
-{
-    let Ok(left_out) = LeftOut::of(alloc, format, &picture.header, later_error) else {
-        return Err(Failure::OutOfMemory);
-    };
-    let content = content_of(alloc, picture, format, exif, xmp)?;
-    Ok(Output { content, left_out })
-}
-
 /// The picture of a file, with the format that is asked for, or that of its kind. If the headers stand and there is no
 /// such format, or the picture is above the limits, no sample is decoded.
 pub fn picture_of_file<P: Progress + Line>(
@@ -203,17 +143,12 @@ pub fn picture_of_file<P: Progress + Line>(
     ensures later { IfOk result (λ o. HasLaterError file.now o.left_out.later_error) }
     ensures err { IfErr result (TextFails limits.now file.now asked) }
 {
-    let read = match JxlFile::read(alloc, file, limits) {
-        Ok(read) => read,
-        Err(error) => return Err(Failure::File(error)),
-    };
+    let read = read_file(alloc, file, limits)?;
     let format = format_of_file(&read, asked, limits)?;
-    let later_error = read.later_error();
-    let exif = read.exif();
-    let xmp = read.xmp();
+    let beside = Beside::of(&read);
     let mut steps = Steps::new();
     match read.decode(alloc, &mut steps, progress) {
-        Ok(picture) => output_of(alloc, picture, format, exif, xmp, later_error),
+        Ok(picture) => Output::of(alloc, picture, format, beside),
         Err(error) => Err(Failure::File(error)),
     }
 }
@@ -249,17 +184,12 @@ pub fn frame_of_file(
     ensures later { IfOk result (λ o. HasLaterError file.now o.left_out.later_error) }
     ensures err { IfErr result (FrameTextFails limits.now file.now number asked) }
 {
-    let read = match JxlFile::read(alloc, file, limits) {
-        Ok(read) => read,
-        Err(error) => return Err(Failure::File(error)),
-    };
+    let read = read_file(alloc, file, limits)?;
     support_frames(&read, limits)?;
     let Some(format) = format_for(asked, read.header()) else {
         return Err(Failure::NoFormat);
     };
-    let later_error = read.later_error();
-    let exif = read.exif();
-    let xmp = read.xmp();
+    let beside = Beside::of(&read);
     let decoded = match decode_frame(alloc, file, number, limits) {
         Ok(decoded) => decoded,
         Err(error) => return Err(Failure::Frames(error)),
@@ -267,13 +197,14 @@ pub fn frame_of_file(
     let Some(picture) = decoded else {
         return Err(Failure::NoFrame(number));
     };
-    output_of(alloc, picture, format, exif, xmp, later_error)
+    Output::of(alloc, picture, format, beside)
 }
 
 // How many pictures a file shows, as far as its headers tell.
 fn count_of_file(alloc: Global, file: &[u8], limits: &Limits) -> Result<FrameCount, Failure>
     ensures ok { IfOk result (CountsFrames limits.now file.now) }
-    ensures err { (number : ℕ) (asked : Option TheFormat) → IfErr result (FrameTextFails limits.now file.now number asked) }
+    ensures err { (number : ℕ) (asked : Option TheFormat)
+        → IfErr result (FrameTextFails limits.now file.now number asked) }
 {
     let timeline = timeline_of_file(alloc, file, limits)?;
     Ok(FrameCount {
@@ -338,13 +269,11 @@ fn nothing_of_file(alloc: Global, file: &[u8], limits: &Limits) -> Result<Output
     ensures later { IfOk result (λ o. HasLaterError file.now o.left_out.later_error) }
     ensures err { IfErr result (InfoFails limits.now file.now) }
 {
-    match JxlFile::read(alloc, file, limits) {
-        Ok(read) => Ok(Output {
-            content: Content::Nothing,
-            left_out: LeftOut::boxes(alloc, read.later_error()),
-        }),
-        Err(error) => Err(Failure::File(error)),
-    }
+    let read = read_file(alloc, file, limits)?;
+    Ok(Output {
+        content: Content::Nothing,
+        left_out: LeftOut::boxes(alloc, read.later_error()),
+    })
 }
 
 // What is asked of the file for the output: what its headers tell, its picture, or nothing.
@@ -368,46 +297,6 @@ fn output_asked<P: Progress + Line>(
     }
 }
 
-// Writes the content, a piece at a time. Out of memory, it has written nothing.
-fn write_content<W: Flush>(alloc: Global, output: &mut W, content: &Content) -> Result<(), Failure>
-    requires { IsWritable content.now }
-    ensures ok { OnOk result (Appends (W.contents output.old) (W.contents output.new) (content_text content.now)) }
-    ensures begun { OnErr result (AppendsBeginning (W.contents output.old) (W.contents output.new)
-        (content_text content.now)) }
-    ensures kept { IfErr result (λ failure. failure ≡ Failure.OutOfMemory → output.new ≡ output.old) }
-    ensures err { IfErr result IsOfContent }
-{
-    match content {
-        Content::Headers(text) | Content::Png(text) => match write_whole(output, text) {
-            Ok(()) => Ok(()),
-            Err(error) => Err(Failure::of_write(error)),
-        },
-        Content::Nothing => Ok(()),
-        Content::Picture { picture, format } => match format.write(alloc, picture, output) {
-            Ok(()) => Ok(()),
-            Err(WriteError::OutOfMemory) => Err(Failure::OutOfMemory),
-            Err(WriteError::Writer(error)) => Err(Failure::of_write(error)),
-        },
-    }
-}
-
-// Writes the content and passes it on.
-fn pass_on<W: Flush>(alloc: Global, output: &mut W, content: &Content) -> Result<(), Failure>
-    requires { IsWritable content.now }
-    ensures ok { OnOk result (Appends (W.contents output.old) (W.contents output.new) (content_text content.now)) }
-    ensures flushed { OnOk result (W.is_flushed output.new) }
-    ensures begun { OnErr result (AppendsBeginning (W.contents output.old) (W.contents output.new)
-        (content_text content.now)) }
-    ensures kept { IfErr result (λ failure. failure ≡ Failure.OutOfMemory → output.new ≡ output.old) }
-    ensures err { IfErr result IsOfContent }
-{
-    write_content(alloc, output, content)?;
-    match output.flush_all() {
-        Ok(()) => Ok(()),
-        Err(error) => Err(Failure::of_write(error)),
-    }
-}
-
 // What is asked for of a file beside its picture.
 #[derive(Drop)]
 struct Metadata<'a> {
@@ -421,10 +310,7 @@ fn profile_of_file(alloc: Global, file: &[u8], limits: &Limits) -> Result<Vec<u8
     ensures ok { IfOk result (λ v. ProfileOfFile limits.now file.now (Some v.items)) }
     ensures err { IfErr result (InfoFails limits.now file.now) }
 {
-    let read = match JxlFile::read(alloc, file, limits) {
-        Ok(read) => read,
-        Err(error) => return Err(Failure::File(error)),
-    };
+    let read = read_file(alloc, file, limits)?;
     support(&read, limits)?;
     match read.into_profile() {
         Some(profile) => Ok(profile),
@@ -450,31 +336,17 @@ fn profile_if(
     Ok(Some(profile))
 }
 
-// The Exif data of a file, if they are wanted.
-fn exif_if(file: &[u8], wanted: bool) -> Result<Option<&[u8]>, Failure>
-    ensures ok { IfOk result (λ v. IsFound wanted (λ bytes. HasExif file.now (Some bytes)) (option_copied v)) }
-    ensures err { (limits : TheLimits) → IfErr result (InfoFails limits file.now) }
+// What was found of these data, if they are wanted.
+fn if_wanted(found: Option<&[u8]>, extra: Extra, wanted: bool) -> Result<Option<&[u8]>, Failure>
+    ensures ok { IfOk result (λ v. IsFound wanted (λ bytes. option_copied found.entry ≡ Some bytes) (option_copied v)) }
+    ensures err { IfErr result (λ failure. (failure ≡ Failure.Missing extra) × (option_copied found.entry ≡ None)) }
 {
     if !wanted {
         return Ok(None);
     }
-    match find_exif(file) {
+    match found {
         Some(bytes) => Ok(Some(bytes)),
-        None => Err(Failure::Missing(Extra::Exif)),
-    }
-}
-
-// The XMP data of a file, if they are wanted.
-fn xmp_if(file: &[u8], wanted: bool) -> Result<Option<&[u8]>, Failure>
-    ensures ok { IfOk result (λ v. IsFound wanted (λ bytes. HasXmp file.now (Some bytes)) (option_copied v)) }
-    ensures err { (limits : TheLimits) → IfErr result (InfoFails limits file.now) }
-{
-    if !wanted {
-        return Ok(None);
-    }
-    match find_xmp(file) {
-        Some(bytes) => Ok(Some(bytes)),
-        None => Err(Failure::Missing(Extra::Xmp)),
+        None => Err(Failure::Missing(extra)),
     }
 }
 
@@ -493,8 +365,8 @@ fn metadata_asked<'a>(
     ensures err { IfErr result (InfoFails options.now.limits file.now) }
 {
     let profile = profile_if(alloc, file, &options.limits, options.paths.icc.is_some())?;
-    let exif = exif_if(file, options.paths.exif.is_some())?;
-    let xmp = xmp_if(file, options.paths.xmp.is_some())?;
+    let exif = if_wanted(find_exif(file), Extra::Exif, options.paths.exif.is_some())?;
+    let xmp = if_wanted(find_xmp(file), Extra::Xmp, options.paths.xmp.is_some())?;
     Ok(Metadata { profile, exif, xmp })
 }
 
@@ -640,12 +512,12 @@ fn succeed<E: Write>(errors: &mut E, options: &Options<'_>, left_out: &LeftOut) 
 }
 
 /// Reads a file from `input`, and writes to `output` what its headers tell, or its picture in PNG, a netpbm format or
-/// decimal numbers, or nothing; and to `extras` its profile, its Exif data and its XMP data, those that are asked for. It
-/// returns the status to end with: 0 where each got that, alone and whole; else 1, and `errors` got the line of a failure
-/// that holds of the file, unless the output is a pipe that was closed. Nothing is written unless the whole picture was
-/// decoded, and the file has all that is asked for; after a failed write the output holds a beginning of its text. With
-/// status 0 `errors` got nothing but the lines that warn of what is left out, and of the error of the boxes after the
-/// codestream; a profile that is saved is not left out. `progress` is called after each section.
+/// decimal numbers, or nothing; and to `extras` its profile, its Exif data and its XMP data, those that are asked for.
+/// It returns the status to end with: 0 where each got that, alone and whole; else 1, and `errors` got the line of a
+/// failure that holds of the file, unless the output is a pipe that was closed. Nothing is written unless the whole
+/// picture was decoded, and the file has all that is asked for; after a failed write the output holds a beginning of its
+/// text. With status 0 `errors` got nothing but the lines that warn of what is left out, and of the error of the boxes
+/// after the codestream; a profile that is saved is not left out. `progress` is called after each section.
 pub fn run<R: Read, W: Flush, F: Flush, E: Write, P: Progress + Line>(
     alloc: Global,
     options: Options<'_>,
@@ -670,8 +542,8 @@ pub fn run<R: Read, W: Flush, F: Flush, E: Write, P: Progress + Line>(
         (F.contents extras.new.xmp) (F.is_flushed extras.new.xmp) (extras.new.xmp ≡ extras.old.xmp)) }
     ensures flushed { result.status ≡ 0 → W.is_flushed output.new }
     ensures failed { result.status ≡ 1 → IsFailed options.entry (R.remaining input.old) (R.remaining input.new)
-        (W.contents output.old) (W.contents output.new) ((output.new ≡ output.old) × (extras.new ≡ extras.old))
-        (λ line. IfSome line (IsReported result.reported (E.contents errors.old) (E.contents errors.new))) }
+        (W.contents output.old) (W.contents output.new) ((output.new ≡ output.old) × (extras.new ≡ extras.old)) (λ line.
+        IfSome line (IsReported result.reported (E.contents errors.old) (E.contents errors.new))) }
 {
     match carry_out(alloc, &options, input, output, extras, progress) {
         Ok(left_out) => {

@@ -1,6 +1,6 @@
 use Rattle.std.proofs.Common.{inr, subst, sym}
 use Rattle.jxldec.specs.Texts.{ListFails}
-use Rattle.jxldec.specs.declared.failures.Failure.{Failure}
+use Rattle.jxldec_lines.specs.declared.failures.Failure.{Failure}
 use Rattle.jxldec.proofs.listing.printed_timeline.Goals as goal
 
 pub returns-else-is_refusal-clause-err : goal.returns-else-is_refusal-clause-err

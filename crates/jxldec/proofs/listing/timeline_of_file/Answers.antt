@@ -3,7 +3,7 @@ use Rattle.jxl_frame_info.specs.Timelines.{TimelineFails}
 use Rattle.jxl_frame_info.specs.declared.timeline.TimelineError.{TimelineError}
 use Rattle.jxl_frame_info.specs.declared.timeline.TimelineError.TheVariants.{Front}
 use Rattle.jxldec.specs.Texts.{FrameTextFails, ListFails}
-use Rattle.jxldec.specs.declared.failures.Failure.{Failure}
+use Rattle.jxldec_lines.specs.declared.failures.Failure.{Failure}
 use Rattle.jxldec.proofs.listing.timeline_of_file.Goals as goal
 
 pub returns-in-Err-Front-clause-err : goal.returns-in-Err-Front-clause-err

@@ -3,7 +3,7 @@ use Rattle.std.proofs.lemmas.Result.{err_from_is_err_and}
 use Rattle.jxl_container.specs.Files.{HasLaterError}
 use Rattle.jxl_container.specs.declared.error.FileError.{FileError as BoxError}
 use Rattle.jxldec.specs.Texts.{CountsFrames}
-use Rattle.jxldec.specs.declared.warning.FrameCount.{FrameCount}
+use Rattle.jxldec_lines.specs.declared.warning.FrameCount.{FrameCount}
 use Rattle.jxldec.proofs.run.first_of_file.Goals as goal
 
 pub returns-in_err-frames-clause-err : goal.returns-in_err-frames-clause-err

@@ -1,7 +1,7 @@
 use Rattle.std.proofs.Common.{◌≡◌, None}
 use Rattle.jxl_image_header.specs.Images.{image_of}
 use Rattle.jxl_lossless.specs.Files.{header_of, reason_of}
-use Rattle.jxldec.specs.Formats.{chosen}
+use Rattle.jxldec_lines.specs.Formats.{chosen}
 use Rattle.jxldec.proofs.FileReading.{no_format}
 use Rattle.jxldec.proofs.run.format_of_file.Goals as goal
 

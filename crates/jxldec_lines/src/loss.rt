@@ -2,7 +2,7 @@
 
 ghost use Rattle.std.specs.Prelude.{◌≡◌};
 ghost use Rattle.jxl_image_header.specs.Images.{image_of};
-ghost use Rattle.jxldec.specs.Losses.{has_loss, line_if, loss_in, loss_lines, unless_saved as the_unless_saved, unsaid_lines};
+ghost use Rattle.jxldec_lines.specs.Losses.{has_loss, line_if, loss_in, loss_lines, unless_saved as the_unless_saved, unsaid_lines};
 
 use crate::format::OutputFormat;
 use jxl_image_header::image::ImageHeader;

@@ -1,14 +1,12 @@
 -- Why the output does not get what is asked for, and the line that says so.
-use Rattle.std.specs.Prelude.{◌≡◌, ◌⊎◌, ℕ, List, [], ◌∷◌, ◌++◌, Bool, true, false, MatchBool, Option, Some, None, if◌then◌else◌, length, codes}
+use Rattle.std.specs.Prelude.{ℕ, List, ◌++◌, Bool, true, false, Option, Some, None, codes}
 use Rattle.std.specs.Fmt.{decimal}
 use Rattle.std.specs.Option.{option_map}
-use Rattle.jxl_command.specs.Extras.{path_of}
 use Rattle.jxl_command.specs.declared.extra.Extra.{Extra}
 use Rattle.jxl_command.specs.declared.extra.Extra.TheVariants as extras
-use Rattle.jxldec.specs.Reasons.{animation_text, file_text}
-use Rattle.jxldec.specs.declared.failures.Failure.{Failure}
-use Rattle.jxldec.specs.declared.failures.Failure.TheVariants as failures
-use Rattle.jxldec.specs.declared.options.Options.{Options}
+use Rattle.jxldec_lines.specs.Reasons.{animation_text, file_text}
+use Rattle.jxldec_lines.specs.declared.failures.Failure.{Failure}
+use Rattle.jxldec_lines.specs.declared.failures.Failure.TheVariants as failures
 
 -- that a file does not have these data
 abbrev pub missing_text : Extra → List ℕ
@@ -55,11 +53,6 @@ IsOfSaving failure = ⊥
 abbrev pub IsOfContent : Failure → Type 0
 IsOfContent failures.OutOfMemory = Unit {0}
 IsOfContent failure = IsOfWriting failure
-
--- the name of what fails: of where other data are written, of the output, or of the file
-abbrev pub subject : Options → Failure → List ℕ
-subject options (failures.Unsaved extra error) = path_of options.paths extra
-subject options failure = if is_of_output failure then options.output_name.now else options.input.now
 
 -- a line of the program about what has this name
 abbrev pub line_about : List ℕ → List ℕ → List ℕ

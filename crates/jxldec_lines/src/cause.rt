@@ -1,7 +1,7 @@
 //! An error of headers, of trees and of samples, in words.
 
 ghost use Rattle.std.specs.Prelude.{Some};
-ghost use Rattle.jxldec.specs.Causes.{error_text};
+ghost use Rattle.jxldec_lines.specs.Causes.{error_text};
 
 use crate::codes::decoder_text;
 use jxlm_bits::bits::BitstreamError;

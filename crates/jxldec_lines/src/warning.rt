@@ -4,9 +4,9 @@ ghost use Rattle.std.specs.Prelude.{◌≡◌, ◌++◌, IfOk, None, OnOk, IsTru
 ghost use Rattle.std.specs.Io.KnownBytes.{Appends};
 ghost use Rattle.jxl_image_header.specs.Images.{image_of};
 ghost use Rattle.jxl_picture.specs.Pictures.{is_full_alpha as the_full_alpha};
-ghost use Rattle.jxldec.specs.Losses.{has_loss, loss_in, unless_saved as the_unless_saved};
-ghost use Rattle.jxldec.specs.Warnings.{frames_line, has_more as the_has_more, kinds_left_out, later_line, left_out_lines, one_frame, or_more as the_or_more, warning_lines};
-ghost use Rattle.jxldec.specs.Inner.Kinds.{rest_kinds};
+ghost use Rattle.jxldec_lines.specs.Losses.{has_loss, loss_in, unless_saved as the_unless_saved};
+ghost use Rattle.jxldec_lines.specs.Warnings.{frames_line, has_more as the_has_more, kinds_left_out, later_line, left_out_lines, one_frame, or_more as the_or_more, warning_lines};
+ghost use Rattle.jxldec_lines.specs.Inner.Kinds.{rest_kinds};
 
 use crate::format::OutputFormat;
 use crate::loss::{Loss, LossLines};
@@ -242,9 +242,9 @@ impl fmt::Display for LaterError<'_> {
     }
 }
 
-/// Writes a line on channels that were left out, if there are any, those on what the format does not hold of the meaning
-/// of samples, one on the pictures that were left out, and one on the error of the boxes after the codestream, as far as
-/// they can be written. It returns whether lines were written.
+/// Writes a line on channels that were left out, if there are any, those on what the format does not hold of the
+/// meaning of samples, one on the pictures that were left out, and one on the error of the boxes after the codestream,
+/// as far as they can be written. It returns whether lines were written.
 pub fn warn<E: Write>(errors: &mut E, name: &str, left_out: &LeftOut) -> bool
     ensures lines { IsTrue result → Appends (E.contents errors.old) (E.contents errors.new)
         (warning_lines name.now (string_bytes left_out.now.channels) left_out.now.loss left_out.now.frames

@@ -7,8 +7,8 @@ use Rattle.jxl_netpbm.specs.Formats.{suits, text_of, usual}
 use Rattle.jxl_png_metadata.specs.Texts.{unless_empty}
 use Rattle.jxl_png_write.specs.Headers.{suits_png}
 use Rattle.jxl_png_write.specs.Upright.{IsUprightPng}
-use Rattle.jxldec.specs.declared.format.OutputFormat.{OutputFormat}
-use Rattle.jxldec.specs.declared.format.OutputFormat.TheVariants.{Netpbm, Png}
+use Rattle.jxldec_lines.specs.declared.format.OutputFormat.{OutputFormat}
+use Rattle.jxldec_lines.specs.declared.format.OutputFormat.TheVariants.{Netpbm, Png}
 
 -- the format can hold the picture
 abbrev pub suits_output : OutputFormat → Image → Bool

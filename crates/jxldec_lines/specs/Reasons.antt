@@ -16,7 +16,7 @@ use Rattle.jxl_lossless.specs.declared.still.error.FrameError.{FrameError}
 use Rattle.jxl_lossless.specs.declared.still.error.FrameError.TheVariants as frames
 use Rattle.jxl_lossless.specs.declared.error.FileError.{FileError}
 use Rattle.jxl_lossless.specs.declared.error.FileError.TheVariants as files
-use Rattle.jxldec.specs.Causes.{decoder_text, error_text}
+use Rattle.jxldec_lines.specs.Causes.{decoder_text, error_text}
 
 -- why a file has no codestream that is read, or what is wrong after it
 unfoldable pub box_text : BoxError → List ℕ

@@ -3,11 +3,11 @@ use Rattle.std.specs.Prelude.{ℕ, List, [], ◌++◌, ◌||◌, Bool, true, fal
 use Rattle.jxl_image_header.specs.Images.{Image}
 use Rattle.jxl_png_write.specs.Losses.{losses_of}
 use Rattle.jxl_png_write.specs.declared.losses.Losses.{Losses}
-use Rattle.jxldec.specs.Failures.{line_about}
-use Rattle.jxldec.specs.declared.format.OutputFormat.{OutputFormat}
-use Rattle.jxldec.specs.declared.format.OutputFormat.TheVariants.{Netpbm, Png}
-use Rattle.jxldec.specs.declared.loss.Loss.{Loss}
-use Rattle.jxldec.specs.declared.loss.Loss.TheVariants.{Nothing, Profile, Unsaid}
+use Rattle.jxldec_lines.specs.Failures.{line_about}
+use Rattle.jxldec_lines.specs.declared.format.OutputFormat.{OutputFormat}
+use Rattle.jxldec_lines.specs.declared.format.OutputFormat.TheVariants.{Netpbm, Png}
+use Rattle.jxldec_lines.specs.declared.loss.Loss.{Loss}
+use Rattle.jxldec_lines.specs.declared.loss.Loss.TheVariants.{Nothing, Profile, Unsaid}
 
 -- what a format does not hold of a picture: PNG alone holds profiles; of other colours it holds what its chunks say
 abbrev pub loss_in : OutputFormat → Image → Loss

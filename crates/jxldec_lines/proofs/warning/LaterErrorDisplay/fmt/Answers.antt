@@ -1,8 +1,8 @@
 use Rattle.std.proofs.Common.{◌≡◌, ℕ, List, ◌++◌, append_assoc, ap, codes, subst, sym, ◌∙◌}
 use Rattle.std.specs.Fmt.{HasWritten}
-use Rattle.jxldec.specs.Failures.{line_about}
-use Rattle.jxldec.specs.Warnings.{later_line}
-use Rattle.jxldec.proofs.warning.LaterErrorDisplay.fmt.Goals as goal
+use Rattle.jxldec_lines.specs.Failures.{line_about}
+use Rattle.jxldec_lines.specs.Warnings.{later_line}
+use Rattle.jxldec_lines.proofs.warning.LaterErrorDisplay.fmt.Goals as goal
 
 -- the line, piece by piece
 pieces : (name text : List ℕ) → line_about name text ≡ codes "jxldec: " ++ (name ++ (codes ": " ++ (text ++ codes "\n")))

@@ -7,13 +7,13 @@ use Rattle.jxl_image_header.specs.declared.channel.ExtraChannel.{ExtraChannel}
 use Rattle.jxl_info.specs.Names.{kind_name}
 use Rattle.jxl_picture.specs.Pictures.{is_full_alpha}
 use Rattle.jxl_netpbm.specs.declared.format.Format.TheVariants as formats
-use Rattle.jxldec.specs.Failures.{line_about}
-use Rattle.jxldec.specs.Losses.{loss_lines}
-use Rattle.jxldec.specs.Reasons.{box_text}
-use Rattle.jxldec.specs.declared.format.OutputFormat.{OutputFormat}
-use Rattle.jxldec.specs.declared.format.OutputFormat.TheVariants.{Netpbm, Png}
-use Rattle.jxldec.specs.declared.loss.Loss.{Loss}
-use Rattle.jxldec.specs.declared.warning.FrameCount.{FrameCount}
+use Rattle.jxldec_lines.specs.Failures.{line_about}
+use Rattle.jxldec_lines.specs.Losses.{loss_lines}
+use Rattle.jxldec_lines.specs.Reasons.{box_text}
+use Rattle.jxldec_lines.specs.declared.format.OutputFormat.{OutputFormat}
+use Rattle.jxldec_lines.specs.declared.format.OutputFormat.TheVariants.{Netpbm, Png}
+use Rattle.jxldec_lines.specs.declared.loss.Loss.{Loss}
+use Rattle.jxldec_lines.specs.declared.warning.FrameCount.{FrameCount}
 
 -- the kinds of channels, each after a space
 abbrev pub kinds : List ExtraChannel → List ℕ

@@ -2,7 +2,7 @@
 
 ghost use Rattle.std.specs.Prelude.{◌≡◌, ◌↔◌, IsTrue};
 ghost use Rattle.jxl_image_header.specs.Images.{image_of};
-ghost use Rattle.jxldec.specs.Formats.{chosen, suits_output};
+ghost use Rattle.jxldec_lines.specs.Formats.{chosen, suits_output};
 
 use jxl_image_header::image::ImageHeader;
 use jxl_netpbm::format::Format;
@@ -29,7 +29,7 @@ impl OutputFormat {
     }
 }
 
-/// The format in which a picture is written: the one that is asked for, where it suits the picture, or that of its kind.
+/// The format in which a picture is written: the one that is asked for, if it suits the picture, or that of its kind.
 pub fn format_for(asked: Option<OutputFormat>, header: &ImageHeader) -> Option<OutputFormat>
     ensures { result ≡ chosen asked (image_of header.now) }
 {

@@ -1,6 +1,6 @@
 use Rattle.std.proofs.Common.{◌≡◌, ◌++◌, drop, string_bytes}
-use Rattle.jxldec.specs.Inner.Kinds.{rest_kinds}
-use Rattle.jxldec.proofs.warning.append_kinds.Given as goal
+use Rattle.jxldec_lines.specs.Inner.Kinds.{rest_kinds}
+use Rattle.jxldec_lines.proofs.warning.append_kinds.Given as goal
 
 abbrev pub invariant-loop-channel : goal.invariant-loop-channel
 invariant-loop-channel l =

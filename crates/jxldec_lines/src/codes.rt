@@ -1,7 +1,7 @@
 //! Why an entropy decoder returns no value, in words.
 
 ghost use Rattle.std.specs.Prelude.{◌≡◌};
-ghost use Rattle.jxldec.specs.Causes.{code_text as the_code_text, decoder_text as the_decoder_text};
+ghost use Rattle.jxldec_lines.specs.Causes.{code_text as the_code_text, decoder_text as the_decoder_text};
 
 use jxlm_bits::decoder::DecoderError;
 

@@ -1,7 +1,7 @@
 //! Why a file is not decoded, in words.
 
 ghost use Rattle.std.specs.Prelude.{◌≡◌, Some};
-ghost use Rattle.jxldec.specs.Reasons.{animation_text, box_text as the_box_text, front_text, layer_text, patch_text, frame_text, file_text};
+ghost use Rattle.jxldec_lines.specs.Reasons.{animation_text, box_text as the_box_text, front_text, layer_text, patch_text, frame_text, file_text};
 
 use crate::cause::Cause;
 use crate::codes::decoder_text;

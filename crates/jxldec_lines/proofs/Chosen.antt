@@ -6,9 +6,9 @@ use Rattle.jxl_netpbm.specs.Formats.{suits, usual, usual_whole}
 use Rattle.jxl_netpbm.specs.declared.format.Format.{Format}
 use Rattle.jxl_netpbm.specs.declared.format.Format.TheVariants.{Pfm}
 use Rattle.std.specs.Option.{option_map}
-use Rattle.jxldec.specs.Formats.{chosen, suits_output}
-use Rattle.jxldec.specs.declared.format.OutputFormat.{OutputFormat}
-use Rattle.jxldec.specs.declared.format.OutputFormat.TheVariants.{Netpbm}
+use Rattle.jxldec_lines.specs.Formats.{chosen, suits_output}
+use Rattle.jxldec_lines.specs.declared.format.OutputFormat.{OutputFormat}
+use Rattle.jxldec_lines.specs.declared.format.OutputFormat.TheVariants.{Netpbm}
 
 if_some : {X : Type 0} (b : Bool) (x y : X) → (if b then Some x else None) ≡ Some y → (b ≡ true) × (x ≡ y)
 if_some true x y e = (refl, cc)

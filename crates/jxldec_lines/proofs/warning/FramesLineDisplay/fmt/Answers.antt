@@ -1,9 +1,9 @@
 use Rattle.std.proofs.Common.{◌≡◌, ℕ, Bool, true, false, List, [], ◌++◌, append_assoc, ap, codes, refl, subst, sym, ◌∙◌}
 use Rattle.std.specs.Prelude.{if◌then◌else◌}
 use Rattle.std.specs.Fmt.{HasWritten, decimal}
-use Rattle.jxldec.specs.Failures.{line_about}
-use Rattle.jxldec.specs.Warnings.{frames_line, has_more, or_more}
-use Rattle.jxldec.proofs.warning.FramesLineDisplay.fmt.Goals as goal
+use Rattle.jxldec_lines.specs.Failures.{line_about}
+use Rattle.jxldec_lines.specs.Warnings.{frames_line, has_more, or_more}
+use Rattle.jxldec_lines.proofs.warning.FramesLineDisplay.fmt.Goals as goal
 
 if_true : (b : Bool) (xs : List ℕ) → b ≡ true → xs ≡ (if b then xs else [])
 if_true true xs e = refl

@@ -1,7 +1,7 @@
 //! Why the output does not get what is asked for.
 
 ghost use Rattle.std.specs.Prelude.{◌≡◌};
-ghost use Rattle.jxldec.specs.Failures.{IsOfWriting, failure_text, missing_text as the_missing_text};
+ghost use Rattle.jxldec_lines.specs.Failures.{IsOfWriting, failure_text, missing_text as the_missing_text};
 
 use crate::reason::{AnimationReason, Reason};
 use jxl_animation::AnimationError;
