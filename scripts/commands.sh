@@ -236,6 +236,48 @@ judge $? '--info does not say that a frame is truncated'
 expect 2 "error: the argument '--info' cannot be used with" frames.jxl --info --frame 0
 expect 2 "error: invalid value 'first'" frames.jxl --frame first
 
+# Each frame to a file of its own.
+expect 0 - frames.jxl --frames 'each-%d.text'
+coloured each-0.text 10 20 30
+coloured each-1.text 200 0 9
+coloured each-2.text 0 99 255
+absent each-3.text
+expect 0 - frames.jxl --frames 'wide%03d.png'
+for number in 0 1 2; do
+    expect 0 - frames.jxl --frame $number -o one.png
+    cmp -s one.png "wide00$number.png"
+    judge $? "frame $number of --frames is not that of --frame"
+done
+absent wide003.png
+expect 0 'jxldec: frames.jxl: channels left out: Alpha' frames.jxl --frames 'colours%01d' --format ppm
+begins colours0 P6
+begins colours2 P6
+expect 0 - frames.jxl -q --frames '100%-%09d%.ppm'
+begins '100%-000000002%.ppm' P6
+input=ball.jxl
+expect 0 - - --frames 'still%d.pgm'
+input=/dev/null
+cmp -s still0.pgm a.pgm
+judge $? 'frame 0 of a still picture is not the picture'
+absent still1.pgm
+expect 1 'jxldec: frames_cut.jxl: frame 1: section 0 is truncated' frames_cut.jxl --frames 'cut%d.text'
+coloured cut0.text 10 20 30
+absent cut1.text
+expect 1 'jxldec: none/0.pgm: cannot write: No such file or directory (os error 2)' ball.jxl --frames 'none/%d.pgm'
+expect 1 'jxldec: frames.jxl: this format cannot hold the picture; --format text can' frames.jxl --frames 'grey%d.pgm'
+absent grey0.pgm
+expect 1 'jxldec: bmp%d.bmp: no format has this ending; there are .png, .pgm, .ppm, .pnm, .pam, .pfm and .text' frames.jxl --frames 'bmp%d.bmp'
+expect 1 'jxldec: other.jxl: not a JPEG XL file' other.jxl --frames 'other%d.pgm'
+expect 1 'jxldec: lossy.jxl: not supported: a lossy picture (XYB)' lossy.jxl --frames 'lossy%d.pgm'
+for name in plain.png %s.png %d%d.png %00d.png %10d.png %0d.png %03d-%d.png %3d.png %D.png; do
+    expect 2 "error: invalid value '$name' for '--frames <PATTERN>'" frames.jxl --frames "$name"
+done
+for option in --info '-o x.png' '--frame 1' '--icc x' '--exif x' '--xmp x'; do
+    # shellcheck disable=SC2086
+    expect 2 'error: the argument ' frames.jxl --frames 'no%d.png' $option
+done
+absent no0.png
+
 # Boxes after the codestream that have an error: the picture, and a warning. One before it is an error.
 boxed() {
     printf '\0\0\0\014JXL \r\n\207\n\0\0\0\024ftypjxl \0\0\0\0jxl '

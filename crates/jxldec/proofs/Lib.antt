@@ -1,3 +1,5 @@
 pub mod FileReading
+pub mod Written
+pub mod Sources
 pub mod Saving
 pub mod Layered

@@ -2,26 +2,31 @@
 #![tactic(auto)]
 
 mod content;
+mod frames;
 mod layers;
 mod listing;
 mod meter;
 mod options;
+mod outputs;
 mod run;
 
+use crate::frames::{refuse_pattern, run_frames};
 use crate::meter::SectionMeter;
 use crate::options::Options;
+use crate::outputs::OutputFiles;
 use crate::run::{report, run};
 use jxl_command::end::End;
 use jxl_command::extra::{Extra, Extras};
 use jxl_command::input::InputFile;
 use jxl_command::meter::Meter;
 use jxl_command::output::OutputFile;
+use jxl_frame_names::pattern::NamePattern;
 use jxldec_lines::failures::Failure;
 use std::env;
 use std::io::Read;
 use std::process::ExitCode;
 
-// Does what the options ask with the file that the reader gives.
+// Writes what the options ask of the file that the reader gives.
 fn carry_out<R: Read>(rt: &HostRuntime, options: Options<'_>, input: &mut R) -> End {
     let alloc = rt.alloc();
     let errors = &mut rt.stderr();
@@ -54,15 +59,44 @@ fn carry_out<R: Read>(rt: &HostRuntime, options: Options<'_>, input: &mut R) -> 
     }
 }
 
+// Writes each picture of the file that the reader gives to a file of its own, by names of this pattern.
+fn carry_out_frames<R: Read>(
+    rt: &HostRuntime,
+    options: Options<'_>,
+    name: &str,
+    input: &mut R,
+) -> End {
+    let errors = &mut rt.stderr();
+    match NamePattern::parse(name) {
+        Some(pattern) => run_frames(
+            rt.alloc(),
+            &options,
+            &pattern,
+            input,
+            &mut OutputFiles { rt },
+            errors,
+        ),
+        None => refuse_pattern(errors, name),
+    }
+}
+
+// Does what the options ask with the file that the reader gives.
+fn carry_out_with<R: Read>(rt: &HostRuntime, options: Options<'_>, input: &mut R) -> End {
+    match options.frames {
+        Some(name) => carry_out_frames(rt, options, name, input),
+        None => carry_out(rt, options, input),
+    }
+}
+
 // Does what the options ask.
 fn decode(rt: &HostRuntime, options: Options<'_>) -> End {
     if options.has_other_ending() {
         return report(&mut rt.stderr(), options.output_name, Failure::Ending);
     }
     if options.input == "-" {
-        return carry_out(rt, options, &mut rt.stdin());
+        return carry_out_with(rt, options, &mut rt.stdin());
     }
-    carry_out(rt, options, &mut InputFile::new(rt, options.input))
+    carry_out_with(rt, options, &mut InputFile::new(rt, options.input))
 }
 
 fn main(rt: HostRuntime) -> anyhow::Result<ExitCode> {

@@ -40,6 +40,8 @@ const CODEWORDS_HELP: &str =
 pub struct Options<'a> {
     /// The path of the file; `-` for standard input.
     pub input: &'a str,
+    /// The pattern of the names of files, where each picture is written to one of its own.
+    pub frames: Option<&'a str>,
     /// The path of the picture; standard output where there is none.
     pub output: Option<&'a str>,
     /// What the output is called in a line of an error: its path, or `standard output`.
@@ -86,6 +88,16 @@ fn frame(alloc: Global) -> Result<Arg<'static>, AllocError> {
         .value_parser(clap::value_parser!(u32))
         .help("Write the frame with this number, from 0 on; not with --info")
         .conflicts_with("info")
+}
+
+fn frames(alloc: Global) -> Result<Arg<'static>, AllocError> {
+    Arg::new(alloc, "frames")
+        .long("frames")
+        .value_name("PATTERN")
+        .help(
+            "Write each frame to a file: PATTERN is its name, with %d or %03d for the frame's number",
+        )
+        .conflicts_with_all(["output", "info", "frame", "icc", "exif", "xmp"].as_slice())
 }
 
 // Where data beside the picture are written.
@@ -141,6 +153,7 @@ pub fn command<'a>(alloc: Global) -> Result<Command<'a>, AllocError> {
         output(alloc),
         info(alloc)?,
         frame(alloc)?,
+        frames(alloc)?,
         extra(
             alloc,
             "icc",
@@ -245,16 +258,20 @@ impl<'a> Options<'a> {
     pub fn of(matches: &ArgMatches<'a>) -> Options<'a> {
         let path = matches.get_str("output").unwrap_or("-");
         let output = if path == "-" { None } else { Some(path) };
+        let frames = matches.get_str("frames");
         let paths = ExtraPaths {
             icc: matches.get_str("icc"),
             exif: matches.get_str("exif"),
             xmp: matches.get_str("xmp"),
         };
-        let name = matches.get_str("format").or(output.and_then(ending));
+        let name = matches
+            .get_str("format")
+            .or(frames.or(output).and_then(ending));
         Options {
             input: matches.get_str("input").unwrap_or(""),
+            frames,
             output,
-            output_name: output.unwrap_or("standard output"),
+            output_name: frames.or(output).unwrap_or("standard output"),
             task: task_of(
                 matches.get_flag("info"),
                 matches.get_one("frame"),
@@ -286,7 +303,7 @@ impl<'a> Options<'a> {
 
     /// Whether the ending of the picture's path is that of no format, and none is asked for by its name.
     pub fn has_other_ending(&self) -> bool {
-        match self.output {
+        match self.frames.or(self.output) {
             Some(path) => self.format.is_none() && ending(path).is_some(),
             None => false,
         }

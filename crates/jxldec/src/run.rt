@@ -67,8 +67,8 @@ fn info_of_file(alloc: Global, file: &[u8], limits: &Limits) -> Result<Output, F
     }
 }
 
-// Reads a file up to the sections of its frames.
-fn read_file<'a>(alloc: Global, file: &'a [u8], limits: &Limits) -> Result<JxlFile<'a>, Failure>
+/// Reads a file up to the sections of its frames.
+pub fn read_file<'a>(alloc: Global, file: &'a [u8], limits: &Limits) -> Result<JxlFile<'a>, Failure>
     ensures ok { IfOk result (IsReadOf limits.now file.now) }
     ensures ready { IfOk result IsReadyFile }
     ensures err { IfErr result (InfoFails limits.now file.now) }
@@ -153,9 +153,9 @@ pub fn picture_of_file<P: Progress + Line>(
     }
 }
 
-// Whether the frames of a file that was read by these limits can be decoded, as far as the reason tells why it is not
-// decoded as a still picture.
-fn support_frames(read: &JxlFile<'_>, limits: &Limits) -> Result<(), Failure>
+/// Whether the frames of a file that was read by these limits can be decoded, as far as the reason tells why it is not
+/// decoded as a still picture.
+pub fn support_frames(read: &JxlFile<'_>, limits: &Limits) -> Result<(), Failure>
     ensures ok { OnOk result (has_frames (reason_of read.now) ≡ true) }
     ensures err { (file : List ℕ) → IsReadOf limits.now file read.now
         → IfErr result (InfoFails limits.now file) }
@@ -493,9 +493,9 @@ pub fn report<E: Write>(errors: &mut E, name: &str, failure: Failure) -> End
     }
 }
 
-// Ends with status 0, after the lines that warn of what is left out, as far as they can be written, unless nothing but
-// errors is to be printed.
-fn succeed<E: Write>(errors: &mut E, options: &Options<'_>, left_out: &LeftOut) -> End
+/// Ends with status 0, after the lines that warn of what is left out, as far as they can be written, unless nothing but
+/// errors is to be printed.
+pub fn succeed<E: Write>(errors: &mut E, options: &Options<'_>, left_out: &LeftOut) -> End
     ensures status { result.status ≡ 0 }
     ensures lines { IsTrue result.reported → Appends (E.contents errors.old) (E.contents errors.new)
         (warnings options.now.quiet options.now.input.now (string_bytes left_out.now.channels) left_out.now.loss

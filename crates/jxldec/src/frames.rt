@@ -1,0 +1,300 @@
+//! All pictures of a file, each to an output of its own.
+
+ghost use Rattle.std.specs.Prelude.{◌≡◌, ◌≤◌, ◌∷◌, [], ℕ, IfErr, IfOk, IfSome, OnErr, OnOk, string_bytes};
+ghost use Rattle.jxl_command.specs.Streams.{IsReadWhole, IsReported};
+ghost use Rattle.jxl_container.specs.Files.{HasLaterError};
+ghost use Rattle.jxl_frame_names.specs.Names.{name_of};
+ghost use Rattle.jxldec.specs.Contents.{IsWritable, content_text};
+ghost use Rattle.jxldec.specs.Frames.{AllWritten, AreDone, AreFailed, PageFails, SomeWritten, pattern_line, subject_at};
+ghost use Rattle.jxldec.specs.Inner.Failures.{page_failure};
+ghost use Rattle.jxldec.specs.Pages.{AppendsPages, page_of};
+ghost use Rattle.jxldec.specs.Sources.{IsSourceOf};
+ghost use Rattle.jxldec.specs.Texts.{FrameTextFails};
+ghost use Rattle.jxldec_lines.specs.Failures.{failure_line};
+ghost use Rattle.jxldec_lines.specs.Warnings.{one_frame};
+
+use crate::content::{Beside, Content, content_of};
+use crate::options::Options;
+use crate::outputs::Outputs;
+use crate::run::{read_file, report, succeed, support_frames};
+use jxl_animation::FrameDecoder;
+use jxl_command::end::End;
+use jxl_command::input::read_whole;
+use jxl_frame_names::pattern::NamePattern;
+use jxl_image_header::image::Animation;
+use jxl_lossless::{Limits, Steps};
+use jxldec_lines::failures::Failure;
+use jxldec_lines::format::{OutputFormat, format_for};
+use jxldec_lines::warning::LeftOut;
+use std::alloc::Global;
+use std::fmt;
+use std::io::{Read, Write};
+
+/// What a failure is about.
+#[derive(Drop)]
+pub enum At {
+    /// The file, before its pictures.
+    File,
+    /// The picture with this number.
+    Frame(u32),
+    /// The output of this name.
+    Output(String),
+}
+
+/// Why not all pictures of a file were written.
+#[derive(Drop)]
+pub struct FramesFailure {
+    /// What the failure is about.
+    pub at: At,
+    /// The failure.
+    pub failure: Failure,
+}
+
+impl FramesFailure {
+    /// A failure of the file, before its pictures.
+    fn of_file(failure: Failure) -> FramesFailure
+        ensures { result ≡ record { at = At.File; failure = failure } }
+    {
+        FramesFailure {
+            at: At::File,
+            failure,
+        }
+    }
+
+    /// A failure of the picture with this number.
+    fn of_frame(number: u32, failure: Failure) -> FramesFailure
+        ensures { result ≡ record { at = At.Frame number; failure = failure } }
+    {
+        FramesFailure {
+            at: At::Frame(number),
+            failure,
+        }
+    }
+
+    /// A failure of the output of this name, to which the picture with this number is written.
+    fn of_page(number: u32, name: String, failure: Failure) -> FramesFailure
+        ensures { result ≡ page_failure number name failure }
+    {
+        match failure {
+            Failure::OutOfMemory => FramesFailure::of_frame(number, failure),
+            _ => FramesFailure {
+                at: At::Output(name),
+                failure,
+            },
+        }
+    }
+}
+
+/// The pictures of a file, before the first, with the format in which they are written and what that leaves out.
+#[derive(Drop)]
+pub struct FrameSource<'a> {
+    pub decoder: FrameDecoder<'a>,
+    /// When the pictures change; none where the file is no animation.
+    pub animation: Option<Animation>,
+    pub format: OutputFormat,
+    pub beside: Beside<'a>,
+    pub left_out: LeftOut,
+}
+
+/// The pictures of a file, with the format that is asked for, or that of their kind. If there is no such format, no sample
+/// is decoded.
+pub fn open_frames<'a>(
+    alloc: Global,
+    file: &'a [u8],
+    asked: Option<OutputFormat>,
+    limits: &Limits,
+) -> Result<FrameSource<'a>, Failure>
+    ensures ok { IfOk result (IsSourceOf limits.now file.now asked) }
+    ensures err { (number : ℕ) → IfErr result (FrameTextFails limits.now file.now number asked) }
+{
+    let read = read_file(alloc, file, limits)?;
+    support_frames(&read, limits)?;
+    let Some(format) = format_for(asked, read.header()) else {
+        return Err(Failure::NoFormat);
+    };
+    let beside = Beside::of(&read);
+    let Ok(left_out) = LeftOut::of(alloc, format, read.header(), beside.later_error) else {
+        return Err(Failure::OutOfMemory);
+    };
+    let animation = read.header().animation;
+    match FrameDecoder::new(alloc, file, limits) {
+        Ok(decoder) => Ok(FrameSource {
+            decoder,
+            animation,
+            format,
+            beside,
+            left_out,
+        }),
+        Err(error) => Err(Failure::Frames(error)),
+    }
+}
+
+// Writes the picture with this number to the output of its name.
+fn write_page<S: Outputs>(
+    alloc: Global,
+    outputs: &mut S,
+    pattern: &NamePattern<'_>,
+    number: u32,
+    content: &Content,
+) -> Result<(), FramesFailure>
+    requires { IsWritable content.now }
+    ensures ok { OnOk result (AppendsPages (S.pages outputs.old) (S.pages outputs.new)
+        (page_of (name_of pattern.now number) (content_text content.now) ∷ [])) }
+    ensures kept { OnErr result (AppendsPages (S.pages outputs.old) (S.pages outputs.new) []) }
+    ensures err { IfErr result (PageFails pattern.now number) }
+{
+    let Ok(name) = pattern.name(alloc, number) else {
+        return Err(FramesFailure::of_frame(number, Failure::OutOfMemory));
+    };
+    match outputs.write(alloc, &name, content) {
+        Ok(()) => Ok(()),
+        Err(failure) => Err(FramesFailure::of_page(number, name, failure)),
+    }
+}
+
+/// Writes each picture that a file shows to an output of its own, in the format that is asked for, or that of their kind.
+/// It returns what that leaves out.
+pub fn write_frames<S: Outputs>(
+    alloc: Global,
+    file: &[u8],
+    pattern: &NamePattern<'_>,
+    asked: Option<OutputFormat>,
+    limits: &Limits,
+    outputs: &mut S,
+) -> Result<LeftOut, FramesFailure>
+    ensures written { IfOk result (λ l. AllWritten limits.now file.now asked pattern.now (S.pages outputs.old)
+        (S.pages outputs.new) (string_bytes l.channels) l.loss) }
+    ensures frames { IfOk result (λ l. l.frames ≡ one_frame) }
+    ensures later { IfOk result (λ l. HasLaterError file.now l.later_error) }
+    ensures err { IfErr result (SomeWritten limits.now file.now asked pattern.now (S.pages outputs.old)
+        (S.pages outputs.new)) }
+{
+    let source = match open_frames(alloc, file, asked, limits) {
+        Ok(source) => source,
+        Err(failure) => return Err(FramesFailure::of_file(failure)),
+    };
+    let FrameSource {
+        mut decoder,
+        format,
+        beside,
+        left_out,
+        ..
+    } = source;
+    let mut steps = Steps::new();
+    for number in 0..u32::MAX {
+        let next = match decoder.next_picture(alloc, &mut steps) {
+            Ok(next) => next,
+            Err(error) => return Err(FramesFailure::of_frame(number, Failure::Frames(error))),
+        };
+        let Some(shown) = next else {
+            return Ok(left_out);
+        };
+        let content = match content_of(alloc, shown.picture, format, beside.exif, beside.xmp) {
+            Ok(content) => content,
+            Err(failure) => return Err(FramesFailure::of_frame(number, failure)),
+        };
+        write_page(alloc, outputs, pattern, number, &content)?;
+    }
+    Err(FramesFailure::of_frame(u32::MAX, Failure::OutOfMemory))
+}
+
+// What a failure is about, of a file of this name.
+#[derive(Clone, Copy)]
+struct Subject<'a> {
+    name: &'a str,
+    at: &'a At,
+}
+
+impl fmt::Display for Subject<'_> {
+    ghost use Rattle.std.specs.Prelude.{Some};
+
+    ghost output = { λ s. Some (subject_at s.name.now s.at.now) };
+
+    #[tactic(auto, unfolding(crate::specs::Frames::subject_at))]
+    fn fmt<W: fmt::Write>(&self, f: &mut fmt::Formatter<W>) -> fmt::Result {
+        let name = self.name;
+        match self.at {
+            At::File => f.write_str(name),
+            At::Frame(number) => write!(f, "{name}: frame {number}"),
+            At::Output(output) => f.write_str(output),
+        }
+    }
+}
+
+// Writes the line of a failure, as far as it can be written, and ends with status 1. Of a closed pipe nothing is written.
+fn report_frames<E: Write>(errors: &mut E, name: &str, failed: &FramesFailure) -> End
+    ensures status { result.status ≡ 1 }
+    ensures line { IfSome (failure_line (subject_at name.now failed.now.at) failed.now.failure) (λ line.
+        IsReported result.reported (E.contents errors.old) (E.contents errors.new) line) }
+{
+    let (subject, failure) = (
+        Subject {
+            name,
+            at: &failed.at,
+        },
+        failed.failure,
+    );
+    let reported = match failure {
+        Failure::Closed => false,
+        _ => writeln!(errors, "jxldec: {subject}: {failure}").is_ok(),
+    };
+    End {
+        status: 1,
+        reported,
+    }
+}
+
+/// Reads a file from `input`, and writes each picture that it shows to an output of its own: to the one of the pattern's
+/// name with the number of the picture, from 0 on. It returns the status to end with: 0 where all pictures were written;
+/// else 1, and `errors` got the line of a failure that holds of the file, of a picture or of its output, and the pictures
+/// before that were written. With status 0 `errors` got nothing but the lines that warn of what is left out.
+pub fn run_frames<R: Read, S: Outputs, E: Write>(
+    alloc: Global,
+    options: &Options<'_>,
+    pattern: &NamePattern<'_>,
+    input: &mut R,
+    outputs: &mut S,
+    errors: &mut E,
+) -> End
+    ensures status { result.status ≤ 1 }
+    ensures done { result.status ≡ 0 → IsReadWhole (R.remaining input.old) (R.remaining input.new) (λ file.
+        AreDone options.now pattern.now file (S.pages outputs.old) (S.pages outputs.new)
+        (IsReported result.reported (E.contents errors.old) (E.contents errors.new)) (errors.new ≡ errors.old)) }
+    ensures failed { result.status ≡ 1 → AreFailed options.now pattern.now (R.remaining input.old) (R.remaining input.new)
+        (S.pages outputs.old) (S.pages outputs.new)
+        (λ line. IfSome line (IsReported result.reported (E.contents errors.old) (E.contents errors.new))) }
+{
+    let file = match read_whole(alloc, input) {
+        Ok(file) => file,
+        Err(error) => return report(errors, options.input, Failure::Unreadable(error)),
+    };
+    match write_frames(
+        alloc,
+        &file,
+        pattern,
+        options.format,
+        &options.limits,
+        outputs,
+    ) {
+        Ok(left_out) => succeed(errors, options, &left_out),
+        Err(failed) => report_frames(errors, options.input, &failed),
+    }
+}
+
+/// Writes the line that a name has no place for the number of a frame, or several, as far as it can be written, and ends
+/// with status 2.
+#[tactic(auto, unfolding(crate::specs::Frames::pattern_line))]
+pub fn refuse_pattern<E: Write>(errors: &mut E, name: &str) -> End
+    ensures status { result.status ≡ 2 }
+    ensures line { IsReported result.reported (E.contents errors.old) (E.contents errors.new) (pattern_line name.now) }
+{
+    let reported = writeln!(
+        errors,
+        "error: invalid value '{name}' for '--frames <PATTERN>': it needs one %d, or one %0Nd with N from 1 to 9"
+    )
+    .is_ok();
+    End {
+        status: 2,
+        reported,
+    }
+}
