@@ -3,7 +3,7 @@ use Rattle.std.proofs.Common.{◌≡◌, ℕ, zero, suc, ◌≤◌, Bool, true, 
 use Rattle.std.specs.Prelude.{if◌then◌else◌, ◌&&◌, ◌==◌, nat_le}
 use Rattle.std.specs.List.{All, list_all}
 use Rattle.std.proofs.lemmas.Bool.{eq-eqb, le-leb}
-use Rattle.std.proofs.lemmas.List.Elements.{All-head, All-tail}
+use Rattle.std.proofs.lemmas.List.Elements.{All-cons, All-head, All-nil, All-tail}
 use Rattle.jxlm_bits.specs.ErrorKind.{BadRct, ErrorKind}
 use Rattle.jxlm_groups.specs.Cutting.{can_cut, global_count, has_cells}
 use Rattle.jxlm_transform.specs.Channels.{Channel, ChannelList, image_list}
@@ -49,6 +49,20 @@ cells_of image given supported are =
     let l : ChannelList = channels_given image image.size in
     subst (λ (l : ChannelList). IsTrue (can_cut 256 l)) (sym are.list)
     (subst IsTrue (sym (after (has_cells 256) (global_count 256 l) l.channels (all_cells image.size (colour_count image) image.ec_info (low_shifts image supported)))) refl)
+
+each_of : {X : Type 0} (p : X → Bool) (xs : List X) → list_all p xs ≡ true → All (λ x. p x ≡ true) xs
+each_of p [] e = All-nil (λ x. p x ≡ true)
+each_of p (x ∷ xs) e = All-cons (λ x. p x ≡ true) x xs (left_of (p x) (list_all p xs) e) (each_of p xs (right_of (p x) (list_all p xs) e)) where
+  left_of : (a b : Bool) → (a && b) ≡ true → a ≡ true
+  left_of true b e = refl
+  left_of false b e = cc
+
+-- each channel has cells in each group
+pub each_has_cells : (image : Image) (given : List ModularChannelParams) → image_refusal image ≡ None → AreGiven image given → All (λ c. has_cells 256 c ≡ true) (image_list given).channels
+each_has_cells image given supported are =
+    let l : ChannelList = channels_given image image.size in
+    subst (λ (l : ChannelList). All (λ c. has_cells 256 c ≡ true) l.channels) (sym are.list)
+    (each_of (has_cells 256) l.channels (all_cells image.size (colour_count image) image.ec_info (low_shifts image supported)))
 
 -- a colour transform of the first three channels suits them, unless they are grey
 unless : (b : Bool) (l : ChannelList) (e : ErrorKind) → b ≡ true → ◌≡◌ {A = Result ChannelList ErrorKind} (if b then Ok l else Err e) (Ok l)

@@ -8,6 +8,7 @@ ghost use Rattle.jxl_image_header.specs.Images.{image_of};
 ghost use Rattle.jxl_lossless.specs.Frames.{channels_given};
 
 use crate::effort::Effort;
+use crate::palettes::add_palette_ways;
 use jxl_encode_advice::residuals::{Care, scheme_by_residuals};
 use jxl_encode_advice::values::scheme_by_values;
 use jxl_encode_colours::shades::scheme_by_colours;
@@ -31,6 +32,15 @@ pub(crate) struct Advice {
     pub(crate) colour: Option<u32>,
     /// Whether groups may have trees of their own.
     pub(crate) own: bool,
+    /// Whether all channels become a palette: then the tree is that of its table and its indices.
+    pub(crate) palette: bool,
+}
+
+/// The samples of a picture, and how they are stored.
+#[derive(Clone, Copy)]
+pub(crate) struct Samples<'a> {
+    pub(crate) channels: &'a [AlignedGrid<i32>],
+    pub(crate) depth: BitDepth,
 }
 
 /// The cheapest way to code a picture, as far as is known: its scheme, its colour transform, and whether groups may have
@@ -46,6 +56,7 @@ impl Advice {
     /// Whether a picture is coded alike by both.
     fn is_same(&self, other: &Advice) -> bool {
         self.colour == other.colour
+            && self.palette == other.palette
             && self.clusters.as_slice() == other.clusters.as_slice()
             && self.nodes.as_slice() == other.nodes.as_slice()
     }
@@ -134,7 +145,7 @@ fn slope_axes(alloc: Global, depth: BitDepth, slopes: usize) -> Result<Vec<Axis>
 }
 
 /// Slopes, flat ones apart.
-fn shade_axes(alloc: Global) -> Result<Vec<Axis>, OutOfMemory> {
+pub(crate) fn shade_axes(alloc: Global) -> Result<Vec<Axis>, OutOfMemory> {
     let mut axes = Vec::new(alloc);
     for slope in &[10, 11, 12] {
         axes.push(Axis::new(alloc, *slope, &SHADE_CUTS)?)?;
@@ -151,7 +162,7 @@ fn cheaper(best: Option<Way>, other: Way) -> Option<Way> {
 }
 
 /// By how many slopes samples are told apart, and how much is tried.
-fn care_of(effort: Effort) -> (usize, Care) {
+pub(crate) fn care_of(effort: Effort) -> (usize, Care) {
     match effort {
         Effort::Fast => (
             2,
@@ -206,13 +217,13 @@ pub(crate) fn group_scheme(
 /// The cheaper of this way and that by the colours of the picture, if they are few.
 fn or_by_colours(
     alloc: Global,
-    picture: &Picture,
+    picture: Samples<'_>,
     care: Care,
     colour: Option<u32>,
     best: Option<Way>,
 ) -> Result<Option<Way>, OutOfMemory> {
     let axes = shade_axes(alloc)?;
-    match scheme_by_colours(alloc, &picture.channels, colour, axes, care, MAX_NODES)? {
+    match scheme_by_colours(alloc, picture.channels, colour, axes, care, MAX_NODES)? {
         Some(scheme) => Ok(cheaper(
             best,
             Way {
@@ -229,7 +240,7 @@ fn or_by_colours(
 /// too many.
 fn by_colours(
     alloc: Global,
-    picture: &Picture,
+    picture: Samples<'_>,
     effort: Effort,
     transforms: bool,
 ) -> Result<Option<Way>, OutOfMemory> {
@@ -248,7 +259,7 @@ fn by_colours(
 /// The cheapest way to code a picture by slopes and one of these colour transforms, if it is cheaper than this.
 fn by_slopes(
     alloc: Global,
-    picture: &Picture,
+    picture: Samples<'_>,
     effort: Effort,
     colours: &[Option<u32>],
     best: Option<Way>,
@@ -256,8 +267,8 @@ fn by_slopes(
     let (slopes, care) = care_of(effort);
     let mut best = best;
     for colour in colours {
-        let axes = slope_axes(alloc, picture.header.bit_depth, slopes)?;
-        let scheme = scheme_by_residuals(alloc, &picture.channels, *colour, axes, care)?;
+        let axes = slope_axes(alloc, picture.depth, slopes)?;
+        let scheme = scheme_by_residuals(alloc, picture.channels, *colour, axes, care)?;
         best = cheaper(
             best,
             Way {
@@ -273,7 +284,7 @@ fn by_slopes(
 /// The cheapest way to code a picture by its colours or by slopes.
 fn learnt(
     alloc: Global,
-    picture: &Picture,
+    picture: Samples<'_>,
     effort: Effort,
     colours: &[Option<u32>],
 ) -> Result<Option<Way>, OutOfMemory> {
@@ -285,14 +296,14 @@ fn learnt(
 /// there is none of them.
 fn by_errors(
     alloc: Global,
-    picture: &Picture,
+    picture: Samples<'_>,
     care: Care,
     colours: &[Option<u32>],
 ) -> Result<Option<Way>, OutOfMemory> {
-    let shift = picture.header.bit_depth.bits_per_sample.saturating_sub(8);
+    let shift = picture.depth.bits_per_sample.saturating_sub(8);
     let mut best = None;
     for colour in colours {
-        let scheme = scheme_by_errors(alloc, &picture.channels, *colour, shift, care)?;
+        let scheme = scheme_by_errors(alloc, picture.channels, *colour, shift, care)?;
         best = cheaper(
             best,
             Way {
@@ -315,6 +326,14 @@ fn colours_by_errors(effort: Effort, colours: &[Option<u32>]) -> &[Option<u32>] 
     }
 }
 
+/// Adds an advice, unless a picture is coded alike by one of them.
+pub(crate) fn add_advice(list: &mut Vec<Advice>, advice: Advice) -> Result<(), OutOfMemory> {
+    if !list.iter().any(|other| other.is_same(&advice)) {
+        list.push(advice)?;
+    }
+    Ok(())
+}
+
 /// Adds a way, if there is one that is not among them.
 fn add_way(list: &mut Vec<Advice>, way: Option<Way>) -> Result<(), OutOfMemory> {
     let Some(way) = way else {
@@ -325,20 +344,18 @@ fn add_way(list: &mut Vec<Advice>, way: Option<Way>) -> Result<(), OutOfMemory> 
         clusters: way.scheme.clusters,
         colour: way.colour,
         own: way.own,
+        palette: false,
     };
-    if !list.iter().any(|other| other.is_same(&advice)) {
-        list.push(advice)?;
-    }
-    Ok(())
+    add_advice(list, advice)
 }
 
 /// The cheaper of this way and that by the values of the picture, if they are few.
 fn or_by_values(
     alloc: Global,
-    picture: &Picture,
+    picture: Samples<'_>,
     best: Option<Way>,
 ) -> Result<Option<Way>, OutOfMemory> {
-    match scheme_by_values(alloc, &picture.channels)? {
+    match scheme_by_values(alloc, picture.channels)? {
         Some(scheme) => Ok(cheaper(
             best,
             Way {
@@ -352,16 +369,16 @@ fn or_by_values(
 }
 
 /// Adds the ways of one effort: the cheapest by values, colours or slopes, and that by the errors of the weighted predictor.
-fn add_ways_of(
+pub(crate) fn add_ways_of(
     alloc: Global,
     list: &mut Vec<Advice>,
-    picture: &Picture,
+    picture: Samples<'_>,
     effort: Effort,
     colours: &[Option<u32>],
 ) -> Result<(), OutOfMemory> {
     let best = learnt(alloc, picture, effort, colours)?;
     add_way(list, or_by_values(alloc, picture, best)?)?;
-    if picture.header.bit_depth.exp_bits != 0 {
+    if picture.depth.exp_bits != 0 {
         return Ok(());
     }
     let tried = colours_by_errors(effort, colours);
@@ -389,6 +406,10 @@ pub(crate) fn advices_for(
     let header = &picture.header;
     let depth = header.bit_depth;
     let mut list = Vec::new(alloc);
+    let samples = Samples {
+        channels: &picture.channels,
+        depth,
+    };
     let colours: &[Option<u32>] = if is_grey(header)
         || depth.exp_bits != 0
         || depth.bits_per_sample > 24
@@ -398,7 +419,8 @@ pub(crate) fn advices_for(
         &[None, Some(LUMA)]
     };
     for effort in efforts_of(effort, repeats) {
-        add_ways_of(alloc, &mut list, picture, *effort, colours)?;
+        add_ways_of(alloc, &mut list, samples, *effort, colours)?;
+        add_palette_ways(alloc, &mut list, picture, *effort)?;
     }
     Ok(list)
 }

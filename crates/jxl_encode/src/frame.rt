@@ -18,9 +18,13 @@ ghost use Rattle.jxl_encode.specs.Inner.Frames.{AreGiven, AreSectionsOf, cut_of}
 
 use crate::advice::{Advice, transform_by};
 use crate::channels::copies_of;
+use crate::palettes::{MOST_CHANNELS, MOST_COLOURS};
 use jxl_codestream::layout::Layout;
 use jxl_codestream::start::tree_limit;
-use jxl_encode_sections::frame::{FrameCut, FrameTree, encode_sections};
+use jxl_encode_palette::palette::palette_of;
+use jxl_encode_sections::frame::{
+    FrameCut, FrameTree, encode_sections, encode_sections_by_palette,
+};
 use jxl_encode_sections::own::GroupTree;
 use jxl_image_header::image::ImageHeader;
 use jxl_picture::picture::{Picture, colours};
@@ -131,6 +135,64 @@ fn plain_sections(
     sections_by_tree(alloc, input, colour, &[leaf], &[0])
 }
 
+/// The sections of the frame by a palette of all channels and the tree of these nodes, whose leaves have these clusters. None,
+/// if the channels are not two to four of one size, or their colours are too many.
+fn sections_by_palette(
+    alloc: Global,
+    input: &FrameInput<'_>,
+    nodes: &[EncodeNode],
+    clusters: &[u8],
+) -> Result<Option<Vec<Vec<u8>>>, EncodeError>
+    requires codable { IsCodable input.now.picture.now }
+    requires whole { IsWhole (image_of input.now.picture.now.header) input.now.picture.now.channels.items }
+    requires given { AreGiven (image_of input.now.picture.now.header) input.now.given.now }
+    requires layout { parts_of input.now.layout.now ≡ cut_of (image_of input.now.picture.now.header) }
+    ensures ok { IfOk result (λ o. IfSome o (λ v. AreSectionsOf input.now.picture.now (map (λ s. s.items) v.items))) }
+{
+    let grids = copies_of(alloc, &input.picture.channels)?;
+    if grids.len() < 2 || grids.len() > MOST_CHANNELS || input.given.len() > MOST_CHANNELS {
+        return Ok(None);
+    }
+    let Some(coding) = palette_of(alloc, &grids, 0, MOST_COLOURS)? else {
+        return Ok(None);
+    };
+    let tree = FrameTree {
+        nodes,
+        clusters,
+        limits: limits_of(&input.picture.header),
+        own: input.own,
+        copies: input.copies,
+    };
+    let cut = FrameCut {
+        group_dim: GROUP_DIM,
+        layout: input.layout,
+    };
+    let sections = encode_sections_by_palette(alloc, input.given, grids, coding, &tree, &cut)?;
+    Ok(Some(sections))
+}
+
+/// The sections of the frame by a palette, as of `sections_by_palette`; where there is none, or its nodes are no tree, by the
+/// gradient.
+fn palette_sections(
+    alloc: Global,
+    input: &FrameInput<'_>,
+    advice: &Advice,
+) -> Result<Vec<Vec<u8>>, EncodeError>
+    requires codable { IsCodable input.now.picture.now }
+    requires whole { IsWhole (image_of input.now.picture.now.header) input.now.picture.now.channels.items }
+    requires given { AreGiven (image_of input.now.picture.now.header) input.now.given.now }
+    requires layout { parts_of input.now.layout.now ≡ cut_of (image_of input.now.picture.now.header) }
+    ensures ok { IfOk result (λ v. AreSectionsOf input.now.picture.now (map (λ s. s.items) v.items)) }
+    ensures err { IfErr result (λ e. e ≡ Memory) }
+{
+    match sections_by_palette(alloc, input, &advice.nodes, &advice.clusters) {
+        Ok(Some(sections)) => Ok(sections),
+        Ok(None) => plain_sections(alloc, input, None),
+        Err(EncodeError::InvalidTree) => plain_sections(alloc, input, None),
+        Err(_) => Err(EncodeError::OutOfMemory),
+    }
+}
+
 /// The sections of the frame by this advice; where its nodes are no tree, by the gradient.
 pub(crate) fn frame_sections(
     alloc: Global,
@@ -144,6 +206,9 @@ pub(crate) fn frame_sections(
     ensures ok { IfOk result (λ v. AreSectionsOf input.now.picture.now (map (λ s. s.items) v.items)) }
     ensures err { IfErr result (λ e. e ≡ Memory) }
 {
+    if advice.palette {
+        return palette_sections(alloc, input, advice);
+    }
     let colour = transform_by(&input.picture.header, advice.colour);
     match sections_by_tree(alloc, input, colour, &advice.nodes, &advice.clusters) {
         Ok(sections) => Ok(sections),

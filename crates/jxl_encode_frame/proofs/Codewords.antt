@@ -12,10 +12,9 @@ use Rattle.jxlm_transform.specs.Channels.{Channel, ChannelList}
 use Rattle.jxlm_transform.specs.ChannelSteps.{CodedList}
 use Rattle.jxlm_tree.specs.Tree.{Config}
 use Rattle.jxlm_tree.specs.TreeReading.{IsTreeAt}
-use Rattle.jxlm_encode_write.specs.Laws.{IsWritten}
 use Rattle.jxl_coding.specs.Parse.{decoder_at}
 use Rattle.jxl_coding.specs.Tokens.{Entropy, entropy}
-use Rattle.jxl_encode_image.specs.Preparations.{own_header}
+use Rattle.jxl_encode_image.specs.Preparations.{IsSpelled, own_header}
 use Rattle.jxl_encode_frame.proofs.Headers.{not_global, opens_alone, plain_header}
 use Rattle.jxl_lossless.specs.Codewords.{HasCodewords}
 use Rattle.jxl_lossless.proofs.Order.{Before, Ordered, before_unlike}
@@ -41,13 +40,13 @@ own_codewords channels few bytes tree_at samples_at own stands tree =
     let alone : CodedList = record { steps = []; list = given } in (
       Some own,
       (
-        not_global [] (All-nil IsWritten) bytes 0 tree_at stands,
+        not_global [] (All-nil IsSpelled) bytes 0 tree_at stands,
         (
           record {
             head = opening_of (plain_header false []) alone;
             config = own;
             samples_at = samples_at;
-            start = record { tree_at = tree_at; header = opens_alone [] (All-nil IsWritten) bytes 0 tree_at stands Entropy given alone refl few; tree = tree };
+            start = record { tree_at = tree_at; header = opens_alone [] (All-nil IsSpelled) bytes 0 tree_at stands Entropy given alone refl few; tree = tree };
           },
           refl,
         ),

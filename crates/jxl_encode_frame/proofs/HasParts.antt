@@ -22,11 +22,11 @@ use Rattle.jxlm_groups.proofs.Pictured.{IsOfPicture, image_of_picture}
 use Rattle.jxlm_groups.proofs.Steps.{IsPictured, pictured_after_all}
 use Rattle.jxlm_transform.specs.Channels.{Channel, ChannelList, image_channel, image_list}
 use Rattle.jxlm_transform.specs.declared.param.ModularChannelParams.{ModularChannelParams}
-use Rattle.jxlm_transform.proofs.StepLaws.{steps_list}
-use Rattle.jxlm_encode.proofs.NoPalettes.{steps_have, written_steps}
+use Rattle.jxlm_transform.proofs.StepLaws.{steps_channels, steps_list}
 use Rattle.jxlm_section_split.specs.CutPicture.{one_pass}
 use Rattle.jxl_image_header.specs.declared.size.Size.{Size}
 use Rattle.jxl_codestream.specs.Layouts.{groups_of, has_part, layout_of}
+use Rattle.jxl_encode_image.proofs.Spelled.{are_transforms}
 use Rattle.jxl_encode_frame.specs.Laws.{GroupsAreInLayout}
 
 -- as many squares cover a side
@@ -128,8 +128,8 @@ groups_in_layout given size dim ts coded part some valid sized accepted cells =
     let own : All (IsOfPicture size.width size.height) list.channels = All-map (IsOfPicture size.width size.height) image_channel given (λ k d lt.
     let p : ModularChannelParams = get_or given k d in
     subst (λ w. IsOfPicture w size.height (image_channel p)) (sized k d lt).0 (subst (λ h. IsOfPicture p.width h (image_channel p)) (sized k d lt).1 (image_of_picture p (valid k d lt)))) in
-    let plain = written_steps ts list coded accepted.written accepted.come in
+    let have = steps_channels ts list coded (are_transforms ts accepted.spelled) accepted.come in
     let pictured : IsPictured size.width size.height coded.list =
-    pictured_after_all size.width size.height coded.steps list coded.list (steps_list ts list coded accepted.come) (steps_have coded.steps plain) (λ i d le lt. own i d lt) in
+    pictured_after_all size.width size.height coded.steps list coded.list (steps_list ts list coded accepted.come) have (λ i d le lt. own i d lt) in
     let held = (counts_cells dim one_pass coded.list part).0 cells in
     has_it dim some size coded.list pictured part (held_exists dim one_pass coded.list part held.n held.x held.y held.has)

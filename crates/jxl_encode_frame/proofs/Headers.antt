@@ -1,5 +1,5 @@
--- Headers without palettes: what they come to.
-use Rattle.std.proofs.Common.{◌≡◌, ℕ, zero, suc, ◌≤◌, Bool, true, false, List, ◌∷◌, length, None, Some, Result, Ok, refl, sym, ap, ◌∙◌, subst}
+-- Headers whose palettes have no differences: what they come to.
+use Rattle.std.proofs.Common.{◌≡◌, ℕ, zero, suc, ◌≤◌, Bool, true, false, List, ◌∷◌, length, None, Some, Result, Ok, refl, sym, ap, ◌∙◌, subst, eqb-true, arith}
 use Rattle.std.specs.Prelude.{◌==◌, Any, MatchBool}
 use Rattle.std.specs.List.{All}
 use Rattle.std.proofs.lemmas.Bool.{le-ltb}
@@ -11,47 +11,84 @@ use Rattle.jxlm_bits.proofs.GrammarLaws.{exact-flag}
 use Rattle.jxlm_header.specs.Header.{Header, header, header_by}
 use Rattle.jxlm_header.specs.Opening.{opening, opening_of, resolve}
 use Rattle.jxlm_header.proofs.HeaderLaws.{exact-header, exact-opening}
+use Rattle.jxlm_predictor.specs.declared.predictor.Predictor.{Predictor}
+use Rattle.jxlm_predictor.specs.declared.predictor.Predictor.TheVariants.{SelfCorrecting, Zero}
 use Rattle.jxlm_nested.specs.Starts.{opening_at}
 use Rattle.jxlm_transform.specs.Channels.{ChannelList, tables_for}
 use Rattle.jxlm_transform.specs.ChannelSteps.{CodedList, coded_list}
-use Rattle.jxlm_transform.specs.Transforms.{Transform, OfPalette, transform_by}
+use Rattle.jxlm_transform.specs.Params.{clamps_indices, columns}
+use Rattle.jxlm_transform.specs.Transforms.{Transform, OfPalette, palette_by, transform_by, weights_for}
 use Rattle.jxlm_transform.specs.declared.param.PaletteTables.{PaletteTables}
-use Rattle.jxlm_transform.specs.declared.param.PaletteTables.TheVariants.{OfColours}
+use Rattle.jxlm_transform.specs.declared.param.PaletteTables.TheVariants.{OfColours, OfDeltasToo}
+use Rattle.jxlm_transform.specs.declared.transform.Palette.{Palette}
 use Rattle.jxlm_tree.specs.Tree.{Config}
 use Rattle.jxlm_weighted.specs.WeightsHeader.{default_weights}
 use Rattle.jxlm_weighted.specs.declared.weights.WpHeader.{WpHeader}
-use Rattle.jxlm_encode_write.specs.Laws.{IsWritten}
+use Rattle.jxl_encode_image.specs.Preparations.{IsPlainPalette, IsSpelled}
 use Rattle.jxl_lossless.specs.Codewords.{UsesGlobalAt}
 use Rattle.jxl_lossless.specs.Stills.{IsWeightedAt}
 
--- ---- without palettes the tables of palettes do not matter
+-- ---- without differences the tables of palettes do not matter
+
+columns_any : (a b : PaletteTables) (colours deltas : ℕ) → deltas ≡ 0 → columns a colours deltas ≡ columns b colours deltas
+columns_any OfColours OfColours colours deltas none = refl
+columns_any OfColours OfDeltasToo colours deltas none = omega (arith, none)
+columns_any OfDeltasToo OfColours colours deltas none = omega (arith, none)
+columns_any OfDeltasToo OfDeltasToo colours deltas none = refl
+
+no_case : (n : ℕ) (b : Bool) → (n == 1) ≡ b → 2 ≤ n → b ≡ false
+no_case n true e h = absurd (let one = eqb-true n 1 e in omega (arith, one, h))
+no_case n false e h = refl
+
+not_one : (n : ℕ) → 2 ≤ n → (n == 1) ≡ false
+not_one n h = no_case n (n == 1) refl h
+
+-- a palette of two channels or more clamps no index
+never_clamps : (tables : PaletteTables) (channels deltas : ℕ) (predictor : Predictor) → 2 ≤ channels → clamps_indices tables channels deltas predictor ≡ false
+never_clamps OfColours channels deltas predictor several = refl
+never_clamps OfDeltasToo channels deltas predictor several = rw (not_one channels several) refl
+
+palette_any : (a b : PaletteTables) (weights : WpHeader) (bytes : List ℕ) (p : ℕ) (t : Palette) (q : ℕ) → IsPlainPalette t → (palette_by a weights).Stands bytes p t q → (palette_by b weights).Stands bytes p t q
+palette_any a b weights bytes p t q plain s =
+    let (begin, i, first, after_begin) = s in
+    let (channels, j, second, after_channels) = after_begin in
+    let (colours, k, third, after_colours) = after_channels in
+    let (deltas, l, fourth, after_deltas) = after_colours in
+    let (predictor, m, fifth, last) = after_deltas in
+    let none : deltas ≡ 0 = sym (ap (λ (u : Palette). u.nb_deltas) last.0) ∙ ap (λ (u : Palette). u.nb_deltas) plain.is in
+    let several : 2 ≤ channels = subst (λ (n : ℕ). 2 ≤ n) (ap (λ (u : Palette). u.num_c) last.0) plain.several in
+    let made : ℕ → Bool → Palette = λ width clamps. record { begin_c = begin; num_c = channels; nb_colours = width; nb_deltas = deltas; d_pred = predictor; clamps_indices = clamps; wp_header = weights_for predictor weights } in
+    let same : made (columns a colours deltas) (clamps_indices a channels deltas predictor) ≡ made (columns b colours deltas) (clamps_indices b channels deltas predictor) =
+    ap (λ (width : ℕ). made width (clamps_indices a channels deltas predictor)) (columns_any a b colours deltas none)
+    ∙ ap (made (columns b colours deltas)) (never_clamps a channels deltas predictor several ∙ sym (never_clamps b channels deltas predictor several)) in
+    (begin, i, first, (channels, j, second, (colours, k, third, (deltas, l, fourth, (predictor, m, fifth, (last.0 ∙ same, last.1))))))
 
 otherwise : (P Q R Q' : Type 0) (x y : Bool) → (Q → Q') → MatchBool x P (MatchBool y Q R) → MatchBool x P (MatchBool y Q' R)
 otherwise P Q R Q' true y f h = h
 otherwise P Q R Q' false true f h = f h
 otherwise P Q R Q' false false f h = h
 
-transform_any : (a b : PaletteTables) (weights : WpHeader) (bytes : List ℕ) (p : ℕ) (t : Transform) (q : ℕ) → IsWritten t → (transform_by a weights).Stands bytes p t q → (transform_by b weights).Stands bytes p t q
-transform_any a b weights bytes p t q written s =
+transform_any : (a b : PaletteTables) (weights : WpHeader) (bytes : List ℕ) (p : ℕ) (t : Transform) (q : ℕ) → IsSpelled t → (transform_by a weights).Stands bytes p t q → (transform_by b weights).Stands bytes p t q
+transform_any a b weights bytes p t q spelled s =
     let (kind, m, number, chosen) = s in
-    (kind, m, number, otherwise _ _ _ _ (kind == 0) (kind == 1) (λ h. let is : t ≡ OfPalette h.0 = h.3.0 in absurd (subst IsWritten is written)) chosen)
+    (kind, m, number, otherwise _ _ _ _ (kind == 0) (kind == 1) (λ h. let is : t ≡ OfPalette h.0 = h.3.0 in (h.0, h.1, palette_any a b weights bytes m h.0 h.1 (subst IsSpelled is spelled) h.2, h.3)) chosen)
 
-transforms_any : (a b : PaletteTables) (weights : WpHeader) (n : ℕ) (bytes : List ℕ) (p : ℕ) (ts : List Transform) (q : ℕ) → All IsWritten ts →
+transforms_any : (a b : PaletteTables) (weights : WpHeader) (n : ℕ) (bytes : List ℕ) (p : ℕ) (ts : List Transform) (q : ℕ) → All IsSpelled ts →
     (repeated n (transform_by a weights)).Stands bytes p ts q → (repeated n (transform_by b weights)).Stands bytes p ts q
 transforms_any a b weights zero bytes p ts q written s = s
 transforms_any a b weights (suc n) bytes p ts q written s =
     let (t, m, first, rest) = s in
     let (us, r, others, last) = rest in
-    let all : All IsWritten (t ∷ us) = subst (All IsWritten) last.0 written in
-    (t, m, transform_any a b weights bytes p t m (All-head IsWritten t us all) first, (us, r, transforms_any a b weights n bytes m us r (All-tail IsWritten t us all) others, last))
+    let all : All IsSpelled (t ∷ us) = subst (All IsSpelled) last.0 written in
+    (t, m, transform_any a b weights bytes p t m (All-head IsSpelled t us all) first, (us, r, transforms_any a b weights n bytes m us r (All-tail IsSpelled t us all) others, last))
 
-pub any_tables : (a b : PaletteTables) (bytes : List ℕ) (p : ℕ) (h : Header) (q : ℕ) → All IsWritten h.transform → (header_by a).Stands bytes p h q → (header_by b).Stands bytes p h q
+pub any_tables : (a b : PaletteTables) (bytes : List ℕ) (p : ℕ) (h : Header) (q : ℕ) → All IsSpelled h.transform → (header_by a).Stands bytes p h q → (header_by b).Stands bytes p h q
 any_tables a b bytes p h q written s =
     let (global, i, first, after_flag) = s in
     let (weights, j, second, after_weights) = after_flag in
     let (count, k, third, rest) = after_weights in
     let (ts, m, fourth, last) = rest in
-    let all : All IsWritten ts = subst (All IsWritten) (ap (λ (h : Header). h.transform) last.0) written in
+    let all : All IsSpelled ts = subst (All IsSpelled) (ap (λ (h : Header). h.transform) last.0) written in
     (global, i, first, (weights, j, second, (count, k, third, (ts, m, transforms_any a b weights count bytes k ts m all fourth, last))))
 
 -- ---- what such a header comes to
@@ -71,15 +108,19 @@ module _ (ts : List Transform) (given : ChannelList) (coded : CodedList) (come :
   resolves_alone : resolve false given (plain_header false ts) ≡ Ok (opening_of (plain_header false ts) coded)
   resolves_alone = rw (come, le-ltb 65536 (length coded.list.channels) count) refl
 
-module _ (shared : Bool) (ts : List Transform) (written : All IsWritten ts) (bytes : List ℕ) (p q : ℕ) (stands : header.Stands bytes p (plain_header shared ts) q) where
+module _ (shared : Bool) (ts : List Transform) (written : All IsSpelled ts) (bytes : List ℕ) (p q : ℕ) (stands : header.Stands bytes p (plain_header shared ts) q) where
   -- none of its palettes is of the weighted predictor
+  other_predictor : Zero ≡ SelfCorrecting → ⊥
+  other_predictor e = cc
+
   pub not_weighted : ¬ (IsWeightedAt bytes p)
   not_weighted h =
       let (found, read, palette, some, weighted) = h in
       let own : Found Header = record { value = plain_header shared ts; position = q } in
       let is : own ≡ found = same_found own found (sym ((exact-header OfColours).stands_read bytes p (plain_header shared ts) q stands) ∙ read) in
       let (k, t, lt, at, same) = subst (λ (f : Found Header). Any (λ t. t ≡ OfPalette palette) f.value.transform) (sym is) some in
-      subst IsWritten (at ∙ same) (written k t lt)
+      let own : IsPlainPalette palette = subst IsSpelled (at ∙ same) (written k t lt) in
+      other_predictor (sym (ap (λ (u : Palette). u.d_pred) own.is) ∙ weighted)
 
   -- its first field says which tree it uses
   flag_is : (i : ℕ) × (flag.read bytes p ≡ Ok (record { value = shared; position = i }))
@@ -105,7 +146,7 @@ module _ (shared : Bool) (ts : List Transform) (written : All IsWritten ts) (byt
     opens come count config = opens_by true (resolves ts given coded come count shared)
 
 -- one that uses the frame's tree
-pub uses_global : (ts : List Transform) (written : All IsWritten ts) (bytes : List ℕ) (p q : ℕ) → header.Stands bytes p (plain_header true ts) q → UsesGlobalAt bytes p
+pub uses_global : (ts : List Transform) (written : All IsSpelled ts) (bytes : List ℕ) (p q : ℕ) → header.Stands bytes p (plain_header true ts) q → UsesGlobalAt bytes p
 uses_global ts written bytes p q stands = flag_is true ts written bytes p q stands
 
 same_flag : (x y : Found Bool) → ◌≡◌ {A = Result (Found Bool) ErrorAt} (Ok x) (Ok y) → x ≡ y
@@ -115,7 +156,7 @@ not_true : false ≡ true → ⊥
 not_true e = cc
 
 -- one that has a tree of its own does not, and comes to the coded channels where no frame has a tree
-module _ (ts : List Transform) (written : All IsWritten ts) (bytes : List ℕ) (p q : ℕ) (stands : header.Stands bytes p (plain_header false ts) q) where
+module _ (ts : List Transform) (written : All IsSpelled ts) (bytes : List ℕ) (p q : ℕ) (stands : header.Stands bytes p (plain_header false ts) q) where
   pub not_global : ¬ (UsesGlobalAt bytes p)
   not_global h =
       let (i, reads) = flag_is false ts written bytes p q stands in

@@ -30,7 +30,6 @@ use Rattle.jxlm_tree.specs.Tree.{Config, depth}
 use Rattle.jxlm_tree.specs.TreeReading.{IsTreeAt}
 use Rattle.jxlm_section_split.proofs.Openings.{opened_steps}
 use Rattle.jxlm_section_split.proofs.Pictures.{HasPicture, still_picture}
-use Rattle.jxlm_encode_write.specs.Laws.{IsWritten}
 use Rattle.jxl_modular.specs.Groups.{channels_in, part_in, pieces_of}
 use Rattle.jxl_modular.specs.Image.{Image}
 use Rattle.jxlm_section_split.specs.CutPicture.{image_by}
@@ -45,7 +44,7 @@ use Rattle.jxl_lossless.specs.Stills.{GroupHas, HaveCodewords, HeaderStands, IsS
 use Rattle.jxl_lossless.proofs.Codewords.{sum_first}
 use Rattle.jxl_lossless.proofs.Complete.{all_ones, complete, each_one, sections_in_order}
 use Rattle.jxl_lossless.proofs.Order.{Before, Ordered}
-use Rattle.jxl_encode_image.specs.Preparations.{shared_header}
+use Rattle.jxl_encode_image.specs.Preparations.{IsSpelled, shared_header}
 use Rattle.jxl_encode_frame.specs.Codings.{AreSections, part_by_tree}
 use Rattle.jxl_encode_frame.specs.Laws.{SectionsAreStill}
 use Rattle.jxl_encode_frame.proofs.Codewords.{each_once}
@@ -74,7 +73,7 @@ module _ {D : Type 0} (d : Meaning D) (w : Width) (config : Config D) (ps : List
   list = c.ready.coded.list
 
   opened : opening_at (Some config) first given p ≡ Ok (record { value = head; position = c.global.samples_at })
-  opened = opens true c.ready.transforms c.ready.accepted.written first p c.global.samples_at c.global.header given c.ready.coded c.ready.accepted.come c.ready.count config
+  opened = opens true c.ready.transforms c.ready.accepted.spelled first p c.global.samples_at c.global.header given c.ready.coded c.ready.accepted.come c.ready.count config
 
   start : IsStartAt d (Some config) first given p head config c.global.samples_at
   start = record { tree_at = c.global.samples_at; header = opened; tree = (refl, refl) }
@@ -87,7 +86,7 @@ module _ {D : Type 0} (d : Meaning D) (w : Width) (config : Config D) (ps : List
 
   abbrev stands : Stands
   stands = record {
-    plain = not_weighted true c.ready.transforms c.ready.accepted.written first p c.global.samples_at c.global.header;
+    plain = not_weighted true c.ready.transforms c.ready.accepted.spelled first p c.global.samples_at c.global.header;
     start = record { head = head; config = config; samples_at = c.global.samples_at; start = start };
   }
 
@@ -146,7 +145,7 @@ module _ {D : Type 0} (d : Meaning D) (w : Width) (config : Config D) (ps : List
       let sides = part_sides group_dim passes list part c.ready.samples in
       let few = few_channels group_dim passes list part in
       let most = c.ready.count in (
-        not_weighted shared [] (All-nil IsWritten) bytes 0 tree_at stands,
+        not_weighted shared [] (All-nil IsSpelled) bytes 0 tree_at stands,
         (
           cell_count (channels_in x passes part) * (depth own.tree + 1),
           (
@@ -157,7 +156,7 @@ module _ {D : Type 0} (d : Meaning D) (w : Width) (config : Config D) (ps : List
                 samples_at = samples_at;
                 start = record {
                   tree_at = tree_at;
-                  header = opens shared [] (All-nil IsWritten) bytes 0 tree_at stands given_list alone refl (omega (arith, few, most)) config;
+                  header = opens shared [] (All-nil IsSpelled) bytes 0 tree_at stands given_list alone refl (omega (arith, few, most)) config;
                   tree = tree;
                 };
               };
@@ -223,7 +222,7 @@ module _ {D : Type 0} (d : Meaning D) (w : Width) (config : Config D) (ps : List
   group_has part g =
       let (bytes, stream, found, coded) = c.groups part g.0 g.1 in
       elim coded [
-        | inl codes ↦ (0, (bytes, stream, found, (None, inl (uses_global [] (All-nil IsWritten) bytes 0 codes.samples_at codes.header), refl)), omega arith)
+        | inl codes ↦ (0, (bytes, stream, found, (None, inl (uses_global [] (All-nil IsSpelled) bytes 0 codes.samples_at codes.header), refl)), omega arith)
         | inr own ↦ (c.codewords part, (bytes, stream, found, own.1), omega arith)
       ]
 
@@ -237,7 +236,7 @@ module _ {D : Type 0} (d : Meaning D) (w : Width) (config : Config D) (ps : List
       (n ∷ ns, (own, has), omega (arith, sum_is, bound, low, least))
 
   header_has : HasCodewords given first p 0
-  header_has = (None, inl (uses_global c.ready.transforms c.ready.accepted.written first p c.global.samples_at c.global.header), refl)
+  header_has = (None, inl (uses_global c.ready.transforms c.ready.accepted.spelled first p c.global.samples_at c.global.header), refl)
 
   in_order : (qs : List SectionPart) (ones : All IsOne qs) → (map (λ (s : Section). s.part) (listed qs ones) ≡ qs → Ordered Before (map (λ (s : Section). s.part) (listed qs ones))) → Ordered Before qs
   in_order qs ones facts = subst (Ordered Before) (listed_parts qs ones) (facts (listed_parts qs ones))

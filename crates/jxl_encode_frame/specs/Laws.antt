@@ -15,7 +15,6 @@ use Rattle.jxlm_transform.specs.Params.{IsSide, IsValidChannel}
 use Rattle.jxlm_transform.specs.declared.param.ModularChannelParams.{ModularChannelParams}
 use Rattle.jxlm_transform.specs.Transforms.{Transform}
 use Rattle.jxlm_tree.specs.Tree.{Config, depth}
-use Rattle.jxlm_encode.specs.Encoded.{AreAccepted}
 use Rattle.jxlm_section_split.specs.CutPicture.{one_pass}
 use Rattle.jxl_image_header.specs.declared.size.Size.{Size}
 use Rattle.jxl_frame_header.specs.Frames.{frame_size}
@@ -35,6 +34,7 @@ use Rattle.jxl_lossless.specs.Frames.{IsFrame}
 use Rattle.jxl_lossless.specs.Pictures.{HasFront, IsPictureOfFile}
 use Rattle.jxl_lossless.specs.Sections.{section_of}
 use Rattle.jxl_lossless.specs.Stills.{IsStill}
+use Rattle.jxl_encode_image.specs.Preparations.{AreReady}
 use Rattle.jxl_encode_frame.specs.Codings.{AreSections, FrameCoding, IsOneSection}
 
 -- Where one section has all samples of an image, no group needs one.
@@ -59,7 +59,7 @@ IsOfSize size p = (p.width ≡ size.width) × (p.height ≡ size.height)
 -- In a frame of one pass each part with samples is one that its layout has, so it has a section.
 abbrev pub GroupsAreInLayout : Type 0
 GroupsAreInLayout = (given : List ModularChannelParams) (size : Size) (group_dim : ℕ) (ts : List Transform) (coded : CodedList) (part : SectionPart) →
-    0 < group_dim → All IsValidChannel given → All (IsOfSize size) given → AreAccepted ts (image_list given) coded →
+    0 < group_dim → All IsValidChannel given → All (IsOfSize size) given → AreReady ts (image_list given) coded →
     0 < cell_count (part_channels group_dim one_pass coded.list part) → IsTrue (has_part (layout_of size group_dim 1) part)
 
 -- a frame without patches, of an image whose channels are supported

@@ -1,20 +1,32 @@
 -- Spellings of a header that uses the frame's tree, or has one of its own.
-use Rattle.std.proofs.Common.{◌≡◌, ℕ, ◌≤◌, List, [], ◌∷◌, true, false, refl}
+use Rattle.std.proofs.Common.{ℕ, List, [], ◌∷◌, true, false, refl}
 use Rattle.jxlm_bits.specs.Grammar.{flag, number, u32}
 use Rattle.jxlm_bits.specs.declared.bits.U32Spec.TheVariants.{Const, Offset}
 use Rattle.jxlm_bit_writer.specs.Writes.{Spells}
 use Rattle.jxlm_bit_writer.proofs.WriteLaws.{after, becomes}
 use Rattle.jxlm_header.specs.Header.{header}
-use Rattle.jxlm_transform.specs.Transforms.{OfRct, Transform, begin_channel, transform}
+use Rattle.jxlm_transform.specs.Transforms.{OfPalette, OfRct, Transform, begin_channel, transform}
+use Rattle.jxlm_transform.specs.declared.transform.Palette.{Palette}
 use Rattle.jxlm_transform.specs.declared.transform.Rct.{Rct}
+use Rattle.jxlm_predictor.specs.declared.predictor.Predictor.TheVariants.{Zero}
 use Rattle.jxlm_weighted.specs.WeightsHeader.{default_weights}
-use Rattle.jxl_encode_image.specs.Preparations.{colour_transforms, own_header, shared_header}
+use Rattle.jxl_encode_image.specs.Preparations.{IsPlainPalette, own_header, shared_header}
 use Rattle.jxl_encode_image.specs.Inner.Lists.{transform_list}
 
 pub colour_spelled : (t : Rct) (b0 b1 b2 b3 : List ℕ) → Spells b0 b1 (number 2) 0 → Spells b1 b2 begin_channel t.begin_c → Spells b2 b3 (u32 (Const 6) (Offset 0 2) (Offset 2 4) (Offset 10 6)) t.rct_type →
     Spells b0 b3 (transform default_weights) (OfRct t)
 colour_spelled t b0 b1 b2 b3 n b k =
     becomes (after n (after b k)) (λ bytes p q s. (0, s.0, s.1, (t, q, (t.begin_c, s.2.0, s.2.1, (t.rct_type, q, s.2.2, (refl, refl))), (refl, refl))))
+
+pub palette_spelled : (t : Palette) → IsPlainPalette t → (b0 b1 b2 b3 b4 b5 b6 : List ℕ) → Spells b0 b1 (number 2) 1 → Spells b1 b2 begin_channel t.begin_c → Spells b2 b3 (u32 (Const 1) (Const 3) (Const 4) (Offset 1 13)) t.num_c →
+    Spells b3 b4 (u32 (Offset 0 8) (Offset 256 10) (Offset 1280 12) (Offset 5376 16)) t.nb_colours → Spells b4 b5 (u32 (Const 0) (Offset 1 8) (Offset 257 10) (Offset 1281 16)) 0 → Spells b5 b6 (number 4) 0 →
+    Spells b0 b6 (transform default_weights) (OfPalette t)
+palette_spelled t plain b0 b1 b2 b3 b4 b5 b6 n b c k d p =
+    becomes (after n (after b (after c (after k (after d p))))) (λ bytes from q s.
+    let channels = s.2.2 in
+    let colours = channels.2 in
+    let deltas = colours.2 in
+    (1, s.0, s.1, (t, q, (t.begin_c, s.2.0, s.2.1, (t.num_c, channels.0, channels.1, (t.nb_colours, colours.0, colours.1, (0, deltas.0, deltas.1, (Zero, q, (0, q, deltas.2, (refl, refl)), (plain.is, refl)))))), (refl, refl))))
 
 pub none_listed : (a b : List ℕ) → Spells a b (u32 (Const 0) (Const 1) (Offset 2 4) (Offset 18 8)) 0 → Spells a b transform_list []
 none_listed a b u = becomes u (λ bytes p q s. (0, q, s, (refl, refl)))

@@ -10,7 +10,6 @@ use Rattle.jxlm_base.specs.Grid.{Grid, IsFull}
 use Rattle.jxlm_base.specs.Regions.{grids_in, store_meanings}
 use Rattle.jxlm_chain.specs.Chain.{Chain}
 use Rattle.jxlm_chain.specs.Lying.{HasTables, LieIn}
-use Rattle.jxlm_chain.specs.Placed.{IsPlacedBy}
 use Rattle.jxlm_chain.specs.Shape.{SameShape}
 use Rattle.jxlm_chain.specs.Steps.{CanUndoAll}
 use Rattle.jxlm_chain.specs.Undo.{Undo, UndoesAll}
@@ -22,7 +21,7 @@ use Rattle.jxlm_chain.proofs.ShapeLaws.{lie_in_kept, tables_kept}
 use Rattle.jxlm_chain.proofs.Undone.{chain_of}
 use Rattle.jxlm_transform.specs.Channels.{AreGridsOf, Channel, ChannelList, IsNarrow, image_channel, image_list}
 use Rattle.jxlm_transform.specs.ChannelSteps.{CodedList, RctStep, Step, coded_list, list_after, list_after_all}
-use Rattle.jxlm_transform.specs.Layout.{HasBuffers, Layout, buffers_of, first_layout, layout_after_all, sides_of}
+use Rattle.jxlm_transform.specs.Layout.{HasBuffers, Layout, buffers_of, first_layout, sides_of}
 use Rattle.jxlm_transform.specs.Lists.{layout_of, list_of}
 use Rattle.jxlm_transform.specs.Steps.{HasChannels, Sides}
 use Rattle.jxlm_transform.specs.Transforms.{IsRct, IsTransform, OfRct, Transform}
@@ -37,7 +36,8 @@ use Rattle.jxlm_encode_write.specs.Laws.{IsWritten}
 use Rattle.jxlm_encode.proofs.Accepted.{is_transform}
 use Rattle.jxlm_encode.proofs.NoPalettes.{no_tables, steps_have, written_steps}
 use Rattle.jxl_modular.proofs.Layouts.{given_grids}
-use Rattle.jxl_encode_image.specs.Preparations.{colour_transforms}
+use Rattle.jxl_encode_image.specs.Preparations.{IsSpelled, colour_transforms}
+use Rattle.jxl_encode_image.proofs.Spelled.{written_spelled}
 use Rattle.jxl_encode_image.specs.Images.{IsCodedImage}
 use Rattle.jxl_encode_image.specs.Inner.Placing.{IsPlacedFor, listed}
 use Rattle.jxl_encode_image.proofs.Buffers.{all_full, buffers_meanings, no_more_grids, own_buffers}
@@ -115,7 +115,7 @@ module _ {S : Type 0} (to_int : S → ℤ) (ts : List Transform) (written : All 
         ready = record {
           transforms = ts;
           coded = coded;
-          accepted = record { few = few; written = written; come = placed.come };
+          accepted = record { few = few; spelled = All-weaker IsWritten IsSpelled written_spelled ts written; come = placed.come };
           count = count;
           samples = samples;
           chain = chain;

@@ -1,11 +1,11 @@
 -- The channels and grids of a part, in the coded channels of an image, and in a store.
-use Rattle.std.proofs.Common.{◌≡◌, ℕ, ◌+◌, ◌≤◌, ℤ, List, [], ◌∷◌, length, map, get_or, Result, Ok, Err, IfOk, refl, sym, ap, ◌∙◌, arith}
+use Rattle.std.proofs.Common.{◌≡◌, ℕ, ◌+◌, ℤ, List, [], ◌∷◌, length, map, get_or, Result, Ok, Err, IfOk, refl, sym, ap, ◌∙◌, arith}
 use Rattle.std.specs.Global.{Vec}
 use Rattle.std.specs.List.{All}
 use Rattle.std.proofs.lemmas.List.{get_or-map, length-map}
 use Rattle.std.proofs.lemmas.List.Elements.{All-head, All-tail}
 use Rattle.jxlm_base.specs.Grid.{Grid, at, grid}
-use Rattle.jxlm_base.specs.Regions.{AllLie, LieApart, buffer_of, grid_of, grids_in, store_meanings}
+use Rattle.jxlm_base.specs.Regions.{buffer_of, grid_of, grids_in, store_meanings}
 use Rattle.jxlm_base.proofs.GridLaws.{grid_by_same}
 use Rattle.jxlm_base.proofs.Regions.{at-grid_of}
 use Rattle.jxlm_base.specs.declared.subgrid.Region.{Region}
@@ -18,7 +18,7 @@ use Rattle.jxlm_groups.proofs.HeldCells.{unlike_buffers}
 use Rattle.jxlm_groups.proofs.PartChannels.{few_channels, narrow_channels}
 use Rattle.jxlm_groups.proofs.PieceFacts.{IsPiece, channels_sides, each_inside, each_piece, held_apart, pieces_lie}
 use Rattle.jxlm_samples.proofs.Loops.{fits_in}
-use Rattle.jxlm_transform.specs.Channels.{AreGridsOf, AreRegionsOf, Channel, ChannelList, IsNarrow, infos, regions}
+use Rattle.jxlm_transform.specs.Channels.{AreGridsOf, AreRegionsOf, Channel, ChannelList, infos, regions}
 use Rattle.jxlm_transform.specs.ChannelSteps.{table_channel}
 use Rattle.jxlm_transform.specs.Layout.{no_region}
 use Rattle.jxlm_transform.specs.Lists.{layout_of, list_of}

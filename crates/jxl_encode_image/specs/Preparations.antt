@@ -1,16 +1,20 @@
 -- What an encoder makes of an image before it writes samples: a header, and coded samples (ISO/IEC 18181-1, Modular: Modular
 -- header, TransformInfo).
-use Rattle.std.specs.Prelude.{ℕ, ◌≤◌, ℤ, List, [], ◌∷◌, length, true, false, Option, None, Some}
+use Rattle.std.specs.Prelude.{◌≡◌, ℕ, ◌≤◌, ℤ, List, [], ◌∷◌, length, true, false, Option, None, Some, Ok}
 use Rattle.std.specs.Int.{Width}
+use Rattle.std.specs.List.{All}
 use Rattle.jxlm_base.specs.Grid.{Grid}
 use Rattle.jxlm_chain.specs.Chain.{Chain}
 use Rattle.jxlm_header.specs.Header.{Header}
 use Rattle.jxlm_transform.specs.Channels.{ChannelList}
-use Rattle.jxlm_transform.specs.ChannelSteps.{CodedList}
-use Rattle.jxlm_transform.specs.Transforms.{OfRct, Transform}
+use Rattle.jxlm_transform.specs.ChannelSteps.{CodedList, coded_list}
+use Rattle.jxlm_transform.specs.Transforms.{IsPalette, IsRct, IsSqueeze, OfPalette, OfRct, OfSqueeze, Transform}
+use Rattle.jxlm_transform.specs.declared.transform.Palette.{Palette}
 use Rattle.jxlm_transform.specs.declared.transform.Rct.{Rct}
 use Rattle.jxlm_weighted.specs.WeightsHeader.{default_weights}
-use Rattle.jxlm_encode.specs.Encoded.{AreAccepted}
+use Rattle.jxl_encode_palette.specs.Palettes.{plain_palette}
+use Rattle.jxl_encode_image.specs.declared.transform.ImageTransform.{ImageTransform}
+use Rattle.jxl_encode_image.specs.declared.transform.ImageTransform.TheVariants as images
 
 -- a header that uses the frame's tree, with the default weights and these transforms
 abbrev pub shared_header : List Transform → Header
@@ -25,11 +29,40 @@ abbrev pub colour_transforms : Option Rct → List Transform
 colour_transforms None = []
 colour_transforms (Some t) = OfRct t ∷ []
 
+-- a palette of two channels or more, without differences, that a header can spell; by the tables of deltas it is the same
+pub record IsPlainPalette (t : Palette) : Type 0 where
+  pub is : t ≡ plain_palette t.begin_c t.num_c t.nb_colours
+  pub ranges : IsPalette t
+  pub several : 2 ≤ t.num_c
+  pub colours : t.nb_colours ≤ 70911
+
+-- a transform that an encoder writes: a colour transform, a squeeze, or such a palette
+abbrev pub IsSpelled : Transform → Type 0
+IsSpelled (OfRct t) = IsRct t
+IsSpelled (OfPalette t) = IsPlainPalette t
+IsSpelled (OfSqueeze steps) = IsSqueeze steps
+
+-- the transform of an image, as a header lists it
+abbrev pub transform_listed : ImageTransform → Transform
+transform_listed (images.Colour t) = OfRct t
+transform_listed (images.Palette t) = OfPalette t
+
+-- the list of a transform, if there is one
+abbrev pub image_transforms : Option ImageTransform → List Transform
+image_transforms None = []
+image_transforms (Some t) = transform_listed t ∷ []
+
+-- The transforms are at most 273, an encoder writes each, and they come to these steps and channels.
+pub record AreReady (ts : List Transform) (l : ChannelList) (coded : CodedList) : Type 0 where
+  pub few : length ts ≤ 273
+  pub spelled : All IsSpelled ts
+  pub come : coded_list ts l ≡ Ok coded
+
 -- The transforms suit the channels of an image, and make these samples of it, whatever its bit depth.
 pub record Preparation (w : Width) (given : ChannelList) (image : List (Grid ℤ)) : Type 0 where
   pub transforms : List Transform
   pub coded : CodedList
-  pub accepted : AreAccepted transforms given coded
+  pub accepted : AreReady transforms given coded
   pub count : length coded.list.channels ≤ 65536
   pub samples : List (Grid ℤ)
   pub chain : (bit_depth : ℕ) → Chain w bit_depth coded.steps given image samples

@@ -7,15 +7,16 @@ ghost use Rattle.jxlm_bits.specs.Grammar.{u32 as the_u32};
 ghost use Rattle.jxlm_bits.specs.declared.bits.U32Spec.TheVariants.{Const, Offset};
 ghost use Rattle.jxlm_bit_writer.specs.Writes.{Spells};
 ghost use Rattle.jxlm_header.specs.Header.{header};
-ghost use Rattle.jxlm_transform.specs.Transforms.{IsRct, OfRct, transform};
+ghost use Rattle.jxlm_transform.specs.Transforms.{IsRct, OfPalette, OfRct, transform as the_transform};
 ghost use Rattle.jxlm_weighted.specs.WeightsHeader.{default_weights};
-ghost use Rattle.jxl_encode_image.specs.Preparations.{colour_transforms, own_header, shared_header};
+ghost use Rattle.jxl_encode_image.specs.Preparations.{IsPlainPalette, IsSpelled, image_transforms, own_header, shared_header, transform_listed};
 ghost use Rattle.jxl_encode_image.specs.Inner.Lists.{transform_list};
 
+use crate::transform::ImageTransform;
 use jxlm_bit_writer::spelled::{write_flag, write_number, write_u32};
 use jxlm_bit_writer::writer::BitWriter;
 use jxlm_bits::bits::U32Spec;
-use jxlm_transform::transform::Rct;
+use jxlm_transform::transform::{Palette, Rct};
 use std::alloc::AllocError;
 
 // Adds how many transforms there are.
@@ -38,7 +39,7 @@ fn write_count(bits: &mut BitWriter, count: u32) -> Result<(), AllocError>
 // Adds a colour transform that a header can spell.
 fn write_colour(bits: &mut BitWriter, colour: Rct) -> Result<(), AllocError>
     requires { IsRct colour }
-    ensures { IfOk result (λ _. Spells bits.old bits.new (transform default_weights) (OfRct colour)) }
+    ensures { IfOk result (λ _. Spells bits.old bits.new (the_transform default_weights) (OfRct colour)) }
 {
     write_number(bits, 0, 2)?;
     write_u32(
@@ -60,29 +61,95 @@ fn write_colour(bits: &mut BitWriter, colour: Rct) -> Result<(), AllocError>
     Ok(())
 }
 
-// Adds the list of transforms: this one, if there is one.
-fn write_transforms(bits: &mut BitWriter, colour: Option<Rct>) -> Result<(), AllocError>
-    requires { IfSome colour (λ t. IsRct t) }
-    ensures { IfOk result (λ _. Spells bits.old bits.new transform_list (colour_transforms colour)) }
+// Adds a palette of two channels or more, without differences.
+fn write_palette(bits: &mut BitWriter, palette: Palette) -> Result<(), AllocError>
+    requires { IsPlainPalette palette }
+    ensures { IfOk result (λ _. Spells bits.old bits.new (the_transform default_weights) (OfPalette palette)) }
 {
-    let Some(colour) = colour else {
+    write_number(bits, 1, 2)?;
+    write_u32(
+        bits,
+        palette.begin_c,
+        U32Spec::Offset(0, 3),
+        U32Spec::Offset(8, 6),
+        U32Spec::Offset(72, 10),
+        U32Spec::Offset(1096, 13),
+    )?;
+    write_u32(
+        bits,
+        palette.num_c,
+        U32Spec::Const(1),
+        U32Spec::Const(3),
+        U32Spec::Const(4),
+        U32Spec::Offset(1, 13),
+    )?;
+    write_u32(
+        bits,
+        palette.nb_colours,
+        U32Spec::Offset(0, 8),
+        U32Spec::Offset(256, 10),
+        U32Spec::Offset(1280, 12),
+        U32Spec::Offset(5376, 16),
+    )?;
+    write_u32(
+        bits,
+        0,
+        U32Spec::Const(0),
+        U32Spec::Offset(1, 8),
+        U32Spec::Offset(257, 10),
+        U32Spec::Offset(1281, 16),
+    )?;
+    write_number(bits, 0, 4)?;
+    Ok(())
+}
+
+// Adds a transform.
+fn write_transform(bits: &mut BitWriter, transform: ImageTransform) -> Result<(), AllocError>
+    requires { IsSpelled (transform_listed transform) }
+    ensures { IfOk result (λ _. Spells bits.old bits.new (the_transform default_weights)
+        (transform_listed transform)) }
+{
+    match transform {
+        ImageTransform::Colour(colour) => {
+            write_colour(bits, colour)?;
+            Ok(())
+        }
+        ImageTransform::Palette(palette) => {
+            write_palette(bits, palette)?;
+            Ok(())
+        }
+    }
+}
+
+// Adds the list of transforms: this one, if there is one.
+fn write_transforms(
+    bits: &mut BitWriter,
+    transform: Option<ImageTransform>,
+) -> Result<(), AllocError>
+    requires { IfSome transform (λ t. IsSpelled (transform_listed t)) }
+    ensures { IfOk result (λ _. Spells bits.old bits.new transform_list (image_transforms transform)) }
+{
+    let Some(transform) = transform else {
         write_count(bits, 0)?;
         return Ok(());
     };
     write_count(bits, 1)?;
-    write_colour(bits, colour)?;
+    write_transform(bits, transform)?;
     Ok(())
 }
 
-/// Adds the header of a part that uses the tree of its frame, with the default weights and this colour transform, if
-/// there is one, which a header can spell. The parser reads this header there.
-pub fn write_shared_header(bits: &mut BitWriter, colour: Option<Rct>) -> Result<(), AllocError>
-    requires { IfSome colour (λ t. IsRct t) }
-    ensures { IfOk result (λ _. Spells bits.old bits.new header (shared_header (colour_transforms colour))) }
+/// Adds the header of a part that uses the tree of its frame, with the default weights and this transform, if there is one,
+/// which a header can spell. The parser reads this header there.
+pub fn write_shared_header(
+    bits: &mut BitWriter,
+    transform: Option<ImageTransform>,
+) -> Result<(), AllocError>
+    requires { IfSome transform (λ t. IsSpelled (transform_listed t)) }
+    ensures { IfOk result (λ _. Spells bits.old bits.new header (shared_header (image_transforms transform))) }
 {
     write_flag(bits, true)?;
     write_flag(bits, true)?;
-    write_transforms(bits, colour)?;
+    write_transforms(bits, transform)?;
     Ok(())
 }
 

@@ -4,3 +4,5 @@
 
 pub mod header;
 pub mod image;
+pub mod palette;
+pub mod transform;

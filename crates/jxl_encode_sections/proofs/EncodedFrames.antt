@@ -3,27 +3,25 @@ use Rattle.std.proofs.Common.{◌≡◌, ◌≢◌, ◌∙◌, ℕ, ◌<◌, ◌
 use Rattle.std.specs.Global.{Vec}
 use Rattle.std.specs.Int.{Width}
 use Rattle.std.specs.List.{All}
-use Rattle.std.specs.Option.{IfSome, option_map}
-use Rattle.std.specs.Prelude.{Option, slice_get}
+use Rattle.std.specs.Option.{option_map}
+use Rattle.std.specs.Prelude.{slice_get}
 use Rattle.std.proofs.lemmas.List.{length-map}
 use Rattle.std.proofs.lemmas.List.Elements.{All-contains, All-cons, All-head, All-map, All-nil, All-tail, All-weaker}
 use Rattle.jxlm_base.specs.Grid.{Grid}
 use Rattle.jxlm_bit_writer.specs.declared.token.Token.{Token}
 use Rattle.jxlm_encode_write.specs.declared.tree.EncodeNode.{EncodeNode}
-use Rattle.jxlm_groups.specs.Cutting.{can_cut}
+use Rattle.jxlm_groups.specs.Cutting.{can_cut, global_count}
 use Rattle.jxlm_groups.specs.Pieces.{part_channels}
 use Rattle.jxlm_groups.specs.declared.part.SectionPart.{SectionPart}
 use Rattle.jxlm_groups.specs.declared.part.SectionPart.TheVariants as parts
 use Rattle.jxlm_samples.specs.Part.{cell_count, cells_of}
 use Rattle.jxlm_section_split.specs.CutPicture.{one_pass}
 use Rattle.jxlm_transform.specs.Channels.{ChannelList, image_list}
-use Rattle.jxlm_transform.specs.ChannelSteps.{RctStep, coded_list, list_after}
 use Rattle.jxlm_transform.specs.Lists.{list_of}
 use Rattle.jxlm_transform.specs.Params.{IsGroupDim, IsValidChannel}
 use Rattle.jxlm_transform.specs.Transforms.{Transform}
 use Rattle.jxlm_transform.specs.declared.channels.ModularChannels.{ModularChannels}
 use Rattle.jxlm_transform.specs.declared.param.ModularChannelParams.{ModularChannelParams}
-use Rattle.jxlm_transform.specs.declared.transform.Rct.{Rct}
 use Rattle.jxlm_tree.specs.Tree.{AllLeaves, Shape}
 use Rattle.jxlm_tree.specs.declared.flat.Leaf.{Leaf}
 use Rattle.jxlm_tree.specs.declared.ma.MaConfigParams.{MaConfigParams}
@@ -35,12 +33,10 @@ use Rattle.jxl_encode_frame.specs.Numbers.{HasNumber}
 use Rattle.jxl_encode_frame.proofs.HasParts.{groups_in_layout}
 use Rattle.jxl_encode_frame.proofs.WholePart.{no_cells}
 use Rattle.jxl_encode_image.specs.Images.{IsCodedImage, samples_in}
-use Rattle.jxl_encode_image.specs.Preparations.{colour_transforms}
-use Rattle.jxl_encode_image.proofs.Images.{colour_list}
 use Rattle.jxl_encode_tree.specs.Trees.{IsClusteredTree}
 use Rattle.jxl_image_header.specs.declared.size.Size.{Size}
 use Rattle.jxl_encode_sections.specs.Sections.{AreFrameSections, IsFirstSection, most_codewords}
-use Rattle.jxl_encode_sections.specs.Inner.Frames.{AreTokensOfFrame, AreWrittenSections}
+use Rattle.jxl_encode_sections.specs.Inner.Frames.{AreTokensOfFrame, AreWrittenSections, IsFrameBy}
 use Rattle.jxl_encode_sections.specs.Inner.Groups.{HasSection, HaveTokens, MayHaveOwn}
 use Rattle.jxl_encode_sections.specs.Inner.Parts.{AreTokensIn, CodedSamples, part_grids, part_of}
 use Rattle.jxl_encode_sections.specs.declared.frame.FrameTokens.{FrameTokens}
@@ -48,7 +44,6 @@ use Rattle.jxl_encode_sections.specs.declared.parts.PartTokens.{PartTokens}
 use Rattle.jxl_encode_sections.proofs.FirstSections.{global_is_first}
 use Rattle.jxl_encode_sections.proofs.Frames.{frame_sections}
 use Rattle.jxl_encode_sections.proofs.LeafClusters.{leaves_below, numbers_below}
-use Rattle.jxl_encode_sections.proofs.OneGroup.{all_global}
 use Rattle.jxl_encode_sections.proofs.PartCells.{clusters_below}
 
 -- what holds of the parts of all tokens holds of the part of each
@@ -81,28 +76,17 @@ module _ (w : Width) (dim : ℕ) (coded : CodedSamples) (t : Shape Leaf) (l : La
     pub groups_below : All (λ (p : PartTokens). All Below p.tokens.items) tokens.groups.items
     groups_below = All-weaker (HaveTokens w dim one_pass coded t l) (λ (p : PartTokens). All Below p.tokens.items) (λ p h. part_below p.part (stream_index l p.part) p.tokens.items h) tokens.groups.items are.tokens
 
-module _ {S : Type 0} (to_int : S → ℤ) (w : Width) (colour : Option Rct) (given : List ModularChannelParams) (suits : IfSome colour (λ t. list_after (RctStep t) (image_list given) ≡ Ok (image_list given)))
-    (image : List (Grid ℤ)) (channels : ModularChannels) (store : List (Grid S)) (coded : IsCodedImage to_int w (colour_transforms colour) (image_list given) image channels store)
-    (dim : ℕ) (group : IsGroupDim dim) (valid : All IsValidChannel given) (size : Size) (sized : All (IsOfSize size) given) (l : Layout) (cut : l ≡ layout_of size dim 1) where
-  -- a colour transform keeps the list of channels
-  kept : coded.ready.coded.list ≡ image_list given
-  kept = colour_list colour (image_list given) coded.ready.coded suits (subst (λ (ts : List Transform). coded_list ts (image_list given) ≡ Ok coded.ready.coded) coded.transforms_are coded.ready.accepted.come)
-
-  same_list : list_of channels ≡ image_list given
-  same_list = sym coded.list_is ∙ kept
-
+module _ {S : Type 0} (to_int : S → ℤ) (w : Width) (ts : List Transform) (given : List ModularChannelParams) (image : List (Grid ℤ)) (channels : ModularChannels) (store : List (Grid S))
+    (coded : IsCodedImage to_int w ts (image_list given) image channels store) (dim : ℕ) (group : IsGroupDim dim) (valid : All IsValidChannel given) (size : Size) (sized : All (IsOfSize size) given) (l : Layout) (cut : l ≡ layout_of size dim 1)
+    (one : section_count_of l ≡ 1 → length coded.ready.coded.list.channels ≤ global_count dim coded.ready.coded.list) where
   -- each part with samples has a section of its own
   pub there : (part : SectionPart) → part ≢ parts.Global → 0 < cell_count (part_channels dim one_pass (list_of channels) part) → (has_part l part ≡ true) × (section_count_of l ≢ 1)
-  there part other some = (
-    subst (λ (k : Layout). has_part k part ≡ true) (sym cut)
-        (groups_in_layout given size dim coded.ready.transforms coded.ready.coded part (let least = group.0 in omega (arith, least)) valid sized coded.ready.accepted
-        (subst (λ (m : ChannelList). 0 < cell_count (part_channels dim one_pass m part)) (sym coded.list_is) some)),
-    λ one.
-        let none : cell_count (part_channels dim one_pass (image_list given) part) ≡ 0 =
-        no_cells dim one_pass (image_list given) (all_global dim group size given valid sized (subst (λ (k : Layout). section_count_of k ≡ 1) cut one)) part other in
-        let here : 0 < cell_count (part_channels dim one_pass (image_list given) part) = subst (λ (m : ChannelList). 0 < cell_count (part_channels dim one_pass m part)) same_list some in
-        omega (arith, none, here),
-  )
+  there part other some =
+      let here : 0 < cell_count (part_channels dim one_pass coded.ready.coded.list part) = subst (λ (m : ChannelList). 0 < cell_count (part_channels dim one_pass m part)) (sym coded.list_is) some in (
+        subst (λ (k : Layout). has_part k part ≡ true) (sym cut)
+            (groups_in_layout given size dim coded.ready.transforms coded.ready.coded part (let least = group.0 in omega (arith, least)) valid sized coded.ready.accepted here),
+        λ is. let none : cell_count (part_channels dim one_pass coded.ready.coded.list part) ≡ 0 = no_cells dim one_pass coded.ready.coded.list (one is) part other in omega (arith, none, here),
+      )
 
   abbrev in_store : CodedSamples
   in_store = record { list = list_of channels; samples = samples_in to_int channels store }
@@ -115,10 +99,26 @@ module _ {S : Type 0} (to_int : S → ℤ) (w : Width) (colour : Option Rct) (gi
       ap (λ (m : ChannelList). record { list = m; samples = samples_in to_int channels store }) (sym coded.list_is)
       ∙ ap (λ (gs : List (Grid ℤ)). record { list = coded.ready.coded.list; samples = gs }) (sym coded.samples_are)
 
-  module _ (cells : IsTrue (can_cut dim (image_list given))) (nodes : List EncodeNode) (clusters : List ℕ) (limits : MaConfigParams) (t : Shape Leaf) (is_tree : IsClusteredTree nodes clusters limits t) (few : limits.depth_limit ≤ 2048)
-      (codes : Codes) (same : codes.clusters ≡ clusters) (tokens : FrameTokens) (are : AreTokensOfFrame w dim in_store t l tokens) (sections : List (Vec ℕ))
-      (written : AreWrittenSections nodes codes (colour_transforms colour) l tokens sections) (final : List (Vec ℕ)) (count : length final ≡ section_count_of l)
-      (own : MayHaveOwn w dim limits.depth_limit one_pass in_store l sections final most_codewords 0) where
+  module _ (cells : IsTrue (can_cut dim coded.ready.coded.list)) (nodes : List EncodeNode) (clusters : List ℕ) (limits : MaConfigParams) (t : Shape Leaf) (is_tree : IsClusteredTree nodes clusters limits t) (few : limits.depth_limit ≤ 2048)
+      (tokens : FrameTokens) (are : AreTokensOfFrame w dim in_store t l tokens) (final : List (Vec ℕ)) (frame : IsFrameBy w dim limits.depth_limit in_store l nodes clusters ts tokens final) where
+    abbrev codes : Codes
+    codes = frame.by_tokens.0
+
+    abbrev same : codes.clusters ≡ clusters
+    same = frame.by_tokens.1
+
+    abbrev sections : List (Vec ℕ)
+    sections = frame.before
+
+    abbrev written : AreWrittenSections nodes codes ts l tokens sections
+    written = frame.by_tokens.2
+
+    abbrev count : length final ≡ section_count_of l
+    count = frame.count
+
+    abbrev own : MayHaveOwn w dim limits.depth_limit one_pass in_store l sections final most_codewords 0
+    own = frame.own
+
     -- the first section is still there
     first_kept : slice_get (map (λ (v : Vec ℕ). v.items) final) 0 ≡ Some written.first
     first_kept =
@@ -136,8 +136,8 @@ module _ {S : Type 0} (to_int : S → ℤ) (w : Width) (colour : Option Rct) (gi
     -- the sections are those of the frame
     pub encoded : AreFrameSections w (image_list given) l dim limits.node_limit limits.depth_limit (map (λ v. v.items) final) image
     encoded =
-        frame_sections w (image_list given) image coded.ready l dim nodes clusters limits t is_tree few codes same (subst (λ (m : ChannelList). IsTrue (can_cut dim m)) (sym kept) cells) tokens.global.items written.first written.end
-        (subst (λ (ts : List Transform). IsFirstSection nodes codes ts tokens.global.items written.first 0 written.end) (sym coded.transforms_are) written.is_first)
+        frame_sections w (image_list given) image coded.ready l dim nodes clusters limits t is_tree few codes same cells tokens.global.items written.first written.end
+        (subst (λ (us : List Transform). IsFirstSection nodes codes us tokens.global.items written.first 0 written.end) (sym coded.transforms_are) written.is_first)
         (subst (λ (x : CodedSamples). AreTokensIn w dim one_pass x t parts.Global 0 tokens.global.items) same_samples are.global) tokens.groups.items
         (subst (λ (x : CodedSamples). All (HaveTokens w dim one_pass x t l) tokens.groups.items) same_samples are.tokens) sections final found
         (subst (λ (x : CodedSamples). MayHaveOwn w dim limits.depth_limit one_pass x l sections final most_codewords 0) same_samples own) count first_kept (length-map final (λ (v : Vec ℕ). v.items))

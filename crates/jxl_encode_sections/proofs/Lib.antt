@@ -11,4 +11,6 @@ pub mod OneGroup
 pub mod AlphabetSums
 pub mod OwnTrees
 pub mod EncodedFrames
+pub mod CodedColours
+pub mod CodedPalettes
 pub mod Codings

@@ -55,7 +55,7 @@ module _ (dim : ℕ) (group : IsGroupDim dim) (size : Size) (given : List Modula
   abbrev Fits : Channel → Type 0
   Fits c = fits_group dim c ≡ true
 
-  each_fits : size.width ≤ dim → size.height ≤ dim → All Fits (map image_channel given)
+  pub each_fits : size.width ≤ dim → size.height ≤ dim → All Fits (map image_channel given)
   each_fits wide high = All-map Fits image_channel given (λ k d lt.
       let p : ModularChannelParams = get_or given k d in
       let of = image_of_picture p (valid k d lt) in
@@ -64,13 +64,19 @@ module _ (dim : ℕ) (group : IsGroupDim dim) (size : Size) (given : List Modula
       let down = fits_side dim p.height (image_channel p).height (image_channel p).vshift group (let e = own.1 in omega (arith, e, high)) of.down in
       rw (le-leb (image_channel p).width dim across, le-leb (image_channel p).height dim down) refl)
 
-  -- the global part has all channels of a frame of one section
-  pub all_global : section_count_of (layout_of size dim 1) ≡ 1 → length (image_list given).channels ≤ global_count dim (image_list given)
-  all_global one =
+  -- a picture of one section is no larger than a group
+  pub one_group : section_count_of (layout_of size dim 1) ≡ 1 → (size.width ≤ dim) × (size.height ≤ dim)
+  one_group one =
       let few : groups_of size dim ≡ 1 = one_by (groups_of size dim) (groups_of size (8 * dim)) (groups_of size dim == 1) refl one in
       let (across, down) = both_one ((size.width + dim - 1) / dim) ((size.height + dim - 1) / dim) few in
       let some : 0 < dim = let least = group.0 in omega (arith, least) in
-      let fit = each_fits (one_along size.width dim some across) (one_along size.height dim some down) in
+      (one_along size.width dim some across, one_along size.height dim some down)
+
+  -- the global part has all channels of a frame of one section
+  pub all_global : section_count_of (layout_of size dim 1) ≡ 1 → length (image_list given).channels ≤ global_count dim (image_list given)
+  all_global one =
+      let (wide, high) = one_group one in
+      let fit = each_fits wide high in
       let channels : List Channel = map image_channel given in
       let all = prefix_len_is (fits_group dim) channels (length channels) (table_channel 0 0) (omega arith) (λ k lt. fit k (table_channel 0 0) lt) (λ lt. absurd (omega (arith, lt))) in
       omega (arith, all)

@@ -10,8 +10,9 @@ ghost use Rattle.jxl_coding_build.specs.AnyWriters.{HasHead, HaveSlots, codes_in
 ghost use Rattle.jxl_encode_frame.specs.Laws.{IsOfSize};
 ghost use Rattle.jxl_encode_frame.specs.Numbers.{HasNumber};
 ghost use Rattle.jxl_encode_image.specs.Images.{LieCoded, samples_in};
-ghost use Rattle.jxl_encode_image.specs.Preparations.{colour_transforms};
-ghost use Rattle.jxl_encode_sections.specs.Inner.Frames.{AreByTokens, AreTokensOfFrame, AreWrittenSections, IsFrameBy};
+ghost use Rattle.jxl_encode_image.specs.Preparations.{IsSpelled, image_transforms, transform_listed};
+ghost use Rattle.jxl_encode_palette.specs.Palettes.{IsPaletteFor};
+ghost use Rattle.jxl_encode_sections.specs.Inner.Frames.{AreByTokens, AreTokensOfFrame, AreWrittenSections, IsFrameBy, IsFrameOfCoded};
 ghost use Rattle.jxl_encode_sections.specs.Inner.Groups.{MayHaveOwn};
 ghost use Rattle.jxl_encode_sections.specs.Sections.{AreFrameSections, most_codewords};
 ghost use Rattle.jxl_encode_tree.specs.Trees.{IsNoTree};
@@ -20,14 +21,14 @@ ghost use Rattle.jxlm_base.specs.Regions.{store_meanings};
 ghost use Rattle.jxlm_encode_tokens.specs.Tokens.{MultipliesByOne};
 ghost use Rattle.jxlm_encode_write.specs.Nodes.{has_token};
 ghost use Rattle.jxlm_encode_write.specs.Trees.{leaves_in};
-ghost use Rattle.jxlm_groups.specs.Cutting.{can_cut};
+ghost use Rattle.jxlm_groups.specs.Cutting.{can_cut, has_cells};
 ghost use Rattle.jxlm_groups.specs.Pieces.{part_channels};
 ghost use Rattle.jxlm_groups.specs.declared.part.SectionPart.{SectionPart as APart};
 ghost use Rattle.jxlm_groups.specs.declared.part.SectionPart.TheVariants as parts;
 ghost use Rattle.jxlm_samples.specs.Part.{cell_count};
 ghost use Rattle.jxlm_section_split.specs.CutPicture.{one_pass as the_pass};
 ghost use Rattle.jxlm_transform.specs.Channels.{AreGridsOf, image_list};
-ghost use Rattle.jxlm_transform.specs.ChannelSteps.{RctStep, list_after};
+ghost use Rattle.jxlm_transform.specs.ChannelSteps.{RctStep, list_after, range};
 ghost use Rattle.jxlm_transform.specs.Lists.{list_of};
 ghost use Rattle.jxlm_transform.specs.Params.{IsGroupDim, IsValidChannel};
 ghost use Rattle.jxlm_transform.specs.Transforms.{IsRct};
@@ -45,7 +46,10 @@ use jxl_coding::clusters::count_of;
 use jxl_coding_build::any::AnyWriter;
 use jxl_coding_stream_write::copies::TokenCopy;
 use jxl_encode_frame::sections::{empty_sections, put_section};
-use jxl_encode_image::image::code_image;
+use jxl_encode_image::image::{CodedImage, code_image};
+use jxl_encode_image::palette::code_by_palette;
+use jxl_encode_image::transform::{ImageTransform, colour_transform};
+use jxl_encode_palette::palette::PaletteGrids;
 use jxl_encode_tree::tree::tree_config;
 use jxlm_base::grid::{AlignedGrid, OutOfMemory};
 use jxlm_base::sample::Sample;
@@ -132,7 +136,7 @@ fn written(
     layout: &Layout,
     nodes: &[EncodeNode],
     codes: &AnyWriter,
-    colour: Option<Rct>,
+    transform: Option<ImageTransform>,
     tokens: &FrameTokens,
     copies: &[Vec<TokenCopy>],
 ) -> Result<Vec<Vec<u8>>, AllocError>
@@ -140,12 +144,12 @@ fn written(
     requires few { length nodes.now ≤ 2 ^ 26 }
     requires head { HasHead codes.now }
     requires contexts { length (codes_in codes.now).clusters ≡ leaves_in nodes.now }
-    requires spelled { IfSome colour (λ t. IsRct t) }
+    requires spelled { IfSome transform (λ t. IsSpelled (transform_listed t)) }
     requires first { HaveSlots codes.now tokens.now.global.items }
     requires slots { All (λ p. HaveSlots codes.now p.tokens.items) tokens.now.groups.items }
     requires numbers { All (λ p. HasNumber (parts_of layout.now) p.part) tokens.now.groups.items }
     requires others { All (λ p. p.part ≢ parts.Global) tokens.now.groups.items }
-    ensures { IfOk result (λ v. AreWrittenSections nodes.now (codes_in codes.now) (colour_transforms colour)
+    ensures { IfOk result (λ v. AreWrittenSections nodes.now (codes_in codes.now) (image_transforms transform)
         (parts_of layout.now) tokens.now v.items) }
 {
     let mut sections = empty_sections(alloc, layout)?;
@@ -153,7 +157,7 @@ fn written(
         alloc,
         nodes,
         codes,
-        colour,
+        transform,
         &tokens.global,
         copies_at(copies, 0),
     )?;
@@ -235,7 +239,7 @@ fn both_ways(
     tree: &FrameTree<'_>,
     layout: &Layout,
     many: u32,
-    colour: Option<Rct>,
+    transform: Option<ImageTransform>,
     tokens: &FrameTokens,
     search: Option<CopySearch>,
 ) -> Result<BothWays, OutOfMemory>
@@ -244,20 +248,20 @@ fn both_ways(
     requires contexts { length tree.now.clusters.now ≡ leaves_in tree.now.nodes.now }
     requires few { many ≤ 256 }
     requires used { count_of tree.now.clusters.now ≡ Ok many }
-    requires spelled { IfSome colour (λ t. IsRct t) }
+    requires spelled { IfSome transform (λ t. IsSpelled (transform_listed t)) }
     requires first { All (λ t. t.cluster < many) tokens.now.global.items }
     requires tokens { All (λ p. All (λ t. t.cluster < many) p.tokens.items) tokens.now.groups.items }
     requires numbers { All (λ p. HasNumber (parts_of layout.now) p.part) tokens.now.groups.items }
     requires others { All (λ p. p.part ≢ parts.Global) tokens.now.groups.items }
-    ensures plain { IfOk result (λ b. AreByTokens tree.now.nodes.now tree.now.clusters.now (colour_transforms colour)
+    ensures plain { IfOk result (λ b. AreByTokens tree.now.nodes.now tree.now.clusters.now (image_transforms transform)
         (parts_of layout.now) tokens.now b.plain.items) }
     ensures copied { IfOk result (λ b. IfSome b.copied (λ v. AreByTokens tree.now.nodes.now tree.now.clusters.now
-        (colour_transforms colour) (parts_of layout.now) tokens.now v.items)) }
+        (image_transforms transform) (parts_of layout.now) tokens.now v.items)) }
 {
     let codes = codes_for(alloc, tree.clusters, many, &tokens.global, &tokens.groups)?;
     let with_copies = copying_for(alloc, &codes, &tokens.global, &tokens.groups, search)?;
     let codes = AnyWriter::Plain(codes);
-    let plain = written(alloc, layout, tree.nodes, &codes, colour, tokens, &[])?;
+    let plain = written(alloc, layout, tree.nodes, &codes, transform, tokens, &[])?;
     let Some(copying) = with_copies else {
         return Ok(BothWays {
             plain,
@@ -269,7 +273,7 @@ fn both_ways(
         layout,
         tree.nodes,
         &copying.codes,
-        colour,
+        transform,
         tokens,
         &copying.copies,
     )?;
@@ -293,7 +297,7 @@ fn shorter_sections<S: Sample>(
     image: &CutImage<'_, S>,
     tree: &FrameTree<'_>,
     many: u32,
-    colour: Option<Rct>,
+    transform: Option<ImageTransform>,
     tokens: &FrameTokens,
     search: Option<CopySearch>,
 ) -> Result<Vec<Vec<u8>>, OutOfMemory>
@@ -305,7 +309,7 @@ fn shorter_sections<S: Sample>(
     requires contexts { length tree.now.clusters.now ≡ leaves_in tree.now.nodes.now }
     requires few { many ≤ 256 }
     requires used { count_of tree.now.clusters.now ≡ Ok many }
-    requires spelled { IfSome colour (λ t. IsRct t) }
+    requires spelled { IfSome transform (λ t. IsSpelled (transform_listed t)) }
     requires first { All (λ t. t.cluster < many) tokens.now.global.items }
     requires tokens { All (λ p. All (λ t. t.cluster < many) p.tokens.items) tokens.now.groups.items }
     requires numbers { All (λ p. HasNumber (parts_of image.now.layout.now) p.part) tokens.now.groups.items }
@@ -314,10 +318,10 @@ fn shorter_sections<S: Sample>(
       list = list_of image.now.coded.now.channels;
       samples = samples_in S.to_int image.now.coded.now.channels image.now.coded.now.store.items;
     })
-        (parts_of image.now.layout.now) tree.now.nodes.now tree.now.clusters.now (colour_transforms colour) tokens.now
+        (parts_of image.now.layout.now) tree.now.nodes.now tree.now.clusters.now (image_transforms transform) tokens.now
         v.items) }
 {
-    let ways = both_ways(alloc, tree, image.layout, many, colour, tokens, search)?;
+    let ways = both_ways(alloc, tree, image.layout, many, transform, tokens, search)?;
     let BothWays { plain, copied } = ways;
     let Some(copied) = copied else {
         let own = with_own(alloc, plain, image, tree, None)?;
@@ -326,6 +330,49 @@ fn shorter_sections<S: Sample>(
     let own = with_own(alloc, plain, image, tree, search)?;
     let other = with_own(alloc, copied, image, tree, search)?;
     Ok(shorter_of(own, other))
+}
+
+/// The sections of a frame of one pass by a coded image, made by this transform, if there was one. A group has a tree of its
+/// own, and tokens are copied, where sections are shorter by it.
+fn sections_of_coded<S: Sample>(
+    alloc: Global,
+    given: &[ModularChannelParams],
+    coded: &CodedImage<S>,
+    transform: Option<ImageTransform>,
+    tree: &FrameTree<'_>,
+    cut: &FrameCut<'_>,
+) -> Result<Vec<Vec<u8>>, EncodeError>
+    requires lie { LieCoded coded.now.channels coded.now.store.items }
+    requires spelled { IfSome transform (λ t. IsSpelled (transform_listed t)) }
+    requires group_dim { IsGroupDim cut.now.group_dim }
+    requires single { (parts_of cut.now.layout.now).passes ≡ 1 }
+    requires there { (part : APart) → part ≢ parts.Global
+        → 0 < cell_count (part_channels cut.now.group_dim the_pass (list_of coded.now.channels) part)
+        → has_part (parts_of cut.now.layout.now) part ≡ true × (section_count_of (parts_of cut.now.layout.now) ≢ 1) }
+    requires nodes { tree.now.limits.node_limit < 2 ^ 26 }
+    requires depth { tree.now.limits.depth_limit ≤ 2048 }
+    ensures ok { IfOk result (λ v. IsFrameOfCoded S.width cut.now.group_dim tree.now.limits tree.now.nodes.now
+        tree.now.clusters.now (image_transforms transform) (record {
+          list = list_of coded.now.channels;
+          samples = samples_in S.to_int coded.now.channels coded.now.store.items;
+        })
+        (parts_of cut.now.layout.now) v.items) }
+    ensures err { IfErr result (λ e. IsNoTree tree.now.nodes.now tree.now.clusters.now tree.now.limits e) }
+{
+    let config = tree_config(alloc, tree.nodes, tree.clusters, tree.limits)?;
+    let Ok(many) = count_of(tree.clusters) else {
+        return Err(EncodeError::InvalidTree);
+    };
+    let image = CutImage {
+        coded,
+        config: &config,
+        group_dim: cut.group_dim,
+        layout: cut.layout,
+    };
+    let tokens = frame_tokens(alloc, &image)?;
+    let search = search_in(given, tree.copies, cut.group_dim);
+    let sections = shorter_sections(alloc, &image, tree, many, transform, &tokens, search)?;
+    Ok(sections)
 }
 
 /// The sections of a frame of one pass with these channels, all of one size, by a colour transform, if there is one.
@@ -360,19 +407,47 @@ pub fn encode_sections<S: Sample>(
         (store_meanings S.to_int grids.items)) }
     ensures err { IfErr result (λ e. IsNoTree tree.now.nodes.now tree.now.clusters.now tree.now.limits e) }
 {
-    let config = tree_config(alloc, tree.nodes, tree.clusters, tree.limits)?;
-    let Ok(many) = count_of(tree.clusters) else {
-        return Err(EncodeError::InvalidTree);
-    };
     let coded = code_image(alloc, given, colour, grids)?;
-    let image = CutImage {
-        coded: &coded,
-        config: &config,
-        group_dim: cut.group_dim,
-        layout: cut.layout,
-    };
-    let tokens = frame_tokens(alloc, &image)?;
-    let search = search_in(given, tree.copies, cut.group_dim);
-    let sections = shorter_sections(alloc, &image, tree, many, colour, &tokens, search)?;
+    let transform = colour_transform(colour);
+    let sections = sections_of_coded(alloc, given, &coded, transform, tree, cut)?;
+    Ok(sections)
+}
+
+/// The sections of a frame of one pass with these channels, all of one size, by a palette of two channels or more, with its
+/// table and its indices. They have the grids, as those of `encode_sections`.
+///
+/// # Errors
+///
+/// As of `encode_sections`.
+pub fn encode_sections_by_palette<S: Sample>(
+    alloc: Global,
+    given: &[ModularChannelParams],
+    grids: Vec<AlignedGrid<S>>,
+    coding: PaletteGrids<S>,
+    tree: &FrameTree<'_>,
+    cut: &FrameCut<'_>,
+) -> Result<Vec<Vec<u8>>, EncodeError>
+    requires valid { All IsValidChannel given.now }
+    requires few { length given.now < 65536 }
+    requires sides { AreGridsOf (image_list given.now).channels grids.items }
+    requires begin { coding.palette.begin_c ≤ 9287 }
+    requires several { 2 ≤ coding.palette.num_c }
+    requires made { IsPaletteFor S.to_int S.width coding.palette.begin_c
+        (range coding.palette.begin_c coding.palette.num_c grids.items) coding.palette coding.table coding.index }
+    requires group_dim { IsGroupDim cut.now.group_dim }
+    requires layout { (size : Size) × All (IsOfSize size) given.now
+        × (parts_of cut.now.layout.now ≡ layout_of size cut.now.group_dim 1) }
+    requires cells { All (λ c. has_cells cut.now.group_dim c ≡ true) (image_list given.now).channels }
+    requires nodes { tree.now.limits.node_limit < 2 ^ 26 }
+    requires depth { tree.now.limits.depth_limit ≤ 2048 }
+    ensures ok { IfOk result (λ v. AreFrameSections S.width (image_list given.now) (parts_of cut.now.layout.now)
+        cut.now.group_dim tree.now.limits.node_limit tree.now.limits.depth_limit (map (λ s. s.items) v.items)
+        (store_meanings S.to_int grids.items)) }
+    ensures err { IfErr result (λ e. IsNoTree tree.now.nodes.now tree.now.clusters.now tree.now.limits e) }
+{
+    let palette = coding.palette;
+    let coded = code_by_palette(alloc, given, coding, grids)?;
+    let transform = Some(ImageTransform::Palette(palette));
+    let sections = sections_of_coded(alloc, given, &coded, transform, tree, cut)?;
     Ok(sections)
 }

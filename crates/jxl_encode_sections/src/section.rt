@@ -6,38 +6,37 @@ ghost use Rattle.std.specs.Option.{IfSome};
 ghost use Rattle.jxlm_bit_writer.specs.Writes.{Adds};
 ghost use Rattle.jxlm_encode_write.specs.Nodes.{has_token};
 ghost use Rattle.jxlm_encode_write.specs.Trees.{leaves_in};
-ghost use Rattle.jxlm_transform.specs.Transforms.{IsRct};
 ghost use Rattle.jxl_coding_build.specs.AnyWriters.{HasHead, HaveSlots, codes_in};
-ghost use Rattle.jxl_encode_image.specs.Preparations.{colour_transforms};
+ghost use Rattle.jxl_encode_image.specs.Preparations.{IsSpelled, image_transforms, transform_listed};
 ghost use Rattle.jxl_encode_sections.specs.Sections.{AreBehindHeader, IsFirstSection, IsOwnSection};
 
 use jxl_codestream_write::start::write_section_start;
 use jxl_coding_build::any::AnyWriter;
 use jxl_coding_stream_write::copies::TokenCopy;
 use jxl_encode_image::header::{write_own_header, write_shared_header};
+use jxl_encode_image::transform::ImageTransform;
 use jxl_encode_tree::samples::write_samples;
 use jxl_encode_tree::tree::write_tree;
 use jxlm_bit_writer::token::Token;
 use jxlm_bit_writer::writer::BitWriter;
 use jxlm_encode_write::tree::EncodeNode;
-use jxlm_transform::transform::Rct;
 use std::alloc::{AllocError, Global};
 
-/// Adds the header of a part, with this colour transform, if there is one, and the samples of the part by their tokens.
+/// Adds the header of a part, with this transform, if there is one, and the samples of the part by their tokens.
 fn write_part(
     alloc: Global,
     bits: &mut BitWriter,
     codes: &AnyWriter,
-    colour: Option<Rct>,
+    transform: Option<ImageTransform>,
     tokens: &[Token],
     copies: &[TokenCopy],
 ) -> Result<(), AllocError>
-    requires spelled { IfSome colour (λ t. IsRct t) }
+    requires spelled { IfSome transform (λ t. IsSpelled (transform_listed t)) }
     requires slots { HaveSlots codes.now tokens.now }
     ensures { IfOk result (λ _. Adds bits.old bits.new
-        (AreBehindHeader (codes_in codes.now) (colour_transforms colour) tokens.now)) }
+        (AreBehindHeader (codes_in codes.now) (image_transforms transform) tokens.now)) }
 {
-    write_shared_header(bits, colour)?;
+    write_shared_header(bits, transform)?;
     write_samples(alloc, bits, codes, tokens, copies)?;
     Ok(())
 }
@@ -51,7 +50,7 @@ pub(crate) fn group_section(
 ) -> Result<Vec<u8>, AllocError>
     requires slots { HaveSlots codes.now tokens.now }
     ensures { IfOk result (λ v. (end : ℕ)
-        × AreBehindHeader (codes_in codes.now) (colour_transforms None) tokens.now v.items 0 end) }
+        × AreBehindHeader (codes_in codes.now) (image_transforms None) tokens.now v.items 0 end) }
 {
     let mut bits = BitWriter::new(alloc);
     write_part(alloc, &mut bits, codes, None, tokens, copies)?;
@@ -60,12 +59,12 @@ pub(crate) fn group_section(
 }
 
 /// The first section of a frame: the default factors, the tree that all sections share, the header of the image with
-/// this colour transform, if there is one, and the samples of the global part by their tokens.
+/// this transform, if there is one, and the samples of the global part by their tokens.
 pub(crate) fn first_section(
     alloc: Global,
     nodes: &[EncodeNode],
     codes: &AnyWriter,
-    colour: Option<Rct>,
+    transform: Option<ImageTransform>,
     tokens: &[Token],
     copies: &[TokenCopy],
 ) -> Result<Vec<u8>, AllocError>
@@ -73,15 +72,15 @@ pub(crate) fn first_section(
     requires few { length nodes.now ≤ 2 ^ 26 }
     requires head { HasHead codes.now }
     requires contexts { length (codes_in codes.now).clusters ≡ leaves_in nodes.now }
-    requires spelled { IfSome colour (λ t. IsRct t) }
+    requires spelled { IfSome transform (λ t. IsSpelled (transform_listed t)) }
     requires slots { HaveSlots codes.now tokens.now }
-    ensures { IfOk result (λ v. (end : ℕ) × IsFirstSection nodes.now (codes_in codes.now) (colour_transforms colour)
+    ensures { IfOk result (λ v. (end : ℕ) × IsFirstSection nodes.now (codes_in codes.now) (image_transforms transform)
         tokens.now v.items 0 end) }
 {
     let mut bits = BitWriter::new(alloc);
     write_section_start(&mut bits, true)?;
     write_tree(alloc, &mut bits, nodes, codes)?;
-    write_part(alloc, &mut bits, codes, colour, tokens, copies)?;
+    write_part(alloc, &mut bits, codes, transform, tokens, copies)?;
     let bytes = bits.into_bytes()?;
     Ok(bytes)
 }

@@ -1,6 +1,5 @@
 -- Channels after the transforms of an encoder.
-use Rattle.std.specs.Prelude.{◌≡◌, ◌≤◌, List, [], length, Ok}
-use Rattle.std.specs.List.{All}
+use Rattle.std.specs.Prelude.{◌≡◌, List, Ok}
 use Rattle.jxlm_chain.specs.Placed.{IsPlacedBy}
 use Rattle.jxlm_chain.specs.declared.placed.PlacedChannels.{PlacedChannels}
 use Rattle.jxlm_transform.specs.Channels.{Channel, ChannelList}

@@ -9,8 +9,10 @@ use Rattle.jxlm_section_split.specs.CutPicture.{one_pass}
 use Rattle.jxlm_transform.specs.Transforms.{Transform}
 use Rattle.jxlm_tree.specs.Tree.{Shape}
 use Rattle.jxlm_tree.specs.declared.flat.Leaf.{Leaf}
+use Rattle.jxlm_tree.specs.declared.ma.MaConfigParams.{MaConfigParams}
 use Rattle.jxl_codestream.specs.Layouts.{Layout, section_count_of}
 use Rattle.jxl_coding.specs.Symbols.{Codes}
+use Rattle.jxl_encode_tree.specs.Trees.{IsClusteredTree}
 use Rattle.jxl_encode_sections.specs.Sections.{IsFirstSection, most_codewords}
 use Rattle.jxl_encode_sections.specs.Inner.Groups.{AreGroupsOf, HasSection, HaveTokens, MayHaveOwn}
 use Rattle.jxl_encode_sections.specs.Inner.Parts.{AreTokensIn, CodedSamples}
@@ -41,3 +43,11 @@ pub record IsFrameBy (w : Width) (group_dim deepest : ℕ) (coded : CodedSamples
   pub by_tokens : AreByTokens nodes clusters ts l t before
   pub count : length sections ≡ section_count_of l
   pub own : MayHaveOwn w group_dim deepest one_pass coded l before sections most_codewords 0
+
+-- These sections are by the tokens of a coded image, by a tree that the nodes and clusters list within the limits.
+pub record IsFrameOfCoded (w : Width) (group_dim : ℕ) (limits : MaConfigParams) (nodes : List EncodeNode) (clusters : List ℕ) (ts : List Transform) (coded : CodedSamples) (l : Layout) (sections : List (Vec ℕ)) : Type 0 where
+  pub tree : Shape Leaf
+  pub is_tree : IsClusteredTree nodes clusters limits tree
+  pub tokens : FrameTokens
+  pub are : AreTokensOfFrame w group_dim coded tree l tokens
+  pub by : IsFrameBy w group_dim limits.depth_limit coded l nodes clusters ts tokens sections

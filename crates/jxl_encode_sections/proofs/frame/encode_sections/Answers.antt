@@ -1,55 +1,39 @@
-use Rattle.std.proofs.Common.{sym, arith}
+use Rattle.std.proofs.Common.{List, subst}
 use Rattle.jxlm_base.specs.Regions.{store_meanings}
-use Rattle.jxlm_encode.proofs.Listings.{clustered_counted}
+use Rattle.jxlm_transform.specs.Transforms.{Transform}
 use Rattle.jxlm_transform.specs.Lists.{list_of}
 use Rattle.jxl_codestream.specs.LayoutParts.{parts_of}
 use Rattle.jxl_encode_image.specs.Images.{samples_in}
-use Rattle.jxl_encode_sections.specs.Inner.Parts.{CodedSamples}
-use Rattle.jxl_encode_sections.proofs.EncodedFrames.{encoded, global_below, groups_below, numbers, others, there}
+use Rattle.jxl_encode_image.specs.Preparations.{colour_transforms}
+use Rattle.jxl_encode_sections.specs.Inner.Frames.{IsFrameOfCoded}
+use Rattle.jxl_encode_sections.proofs.CodedColours.{colour_cells, colour_one}
+use Rattle.jxl_encode_sections.proofs.EncodedFrames.{encoded, there}
 use Rattle.jxl_encode_sections.proofs.frame.encode_sections.Goals as goal
 
-pub frame_tokens-requires-clause-there : goal.frame_tokens-requires-clause-there
-frame_tokens-requires-clause-there g c κs within =
+pub sections_of_coded-requires-clause-spelled : goal.sections_of_coded-requires-clause-spelled
+sections_of_coded-requires-clause-spelled g c = λ κs within. c.colour_transform-transform.ensures.spelled c.requires.spelled
+
+pub sections_of_coded-requires-clause-there : goal.sections_of_coded-requires-clause-there
+sections_of_coded-requires-clause-there g c κs within =
     let frame = c.requires.layout in
-    there g.S.Sealed.to_int g.S.Sealed.width c.args.colour c.args.given.now c.requires.suits (store_meanings g.S.Sealed.to_int c.args.grids.items) c.in_ok-coded.coded.channels c.in_ok-coded.coded.store.items c.in_ok-coded.ensures
-    c.args.cut.now.group_dim c.requires.group_dim c.requires.valid frame.0 frame.1 (parts_of c.args.cut.now.layout.now) frame.2
-
-pub shorter_sections-requires-clause-first : goal.shorter_sections-requires-clause-first
-shorter_sections-requires-clause-first g c κs within =
-    let coded : CodedSamples = record { list = list_of c.in_ok-coded.coded.channels; samples = samples_in g.S.Sealed.to_int c.in_ok-coded.coded.channels c.in_ok-coded.coded.store.items } in
-    global_below g.S.Sealed.width c.args.cut.now.group_dim coded c.in_ok-config.config.tree (parts_of c.args.cut.now.layout.now) c.in_ok-tokens.tokens c.in_ok-tokens.ensures c.args.tree.now.nodes.now c.args.tree.now.clusters.now
-    c.args.tree.now.limits c.in_ok-config.ensures.ok c.in-Ok.many (sym c.in-Ok.ensures.count)
-
-pub shorter_sections-requires-clause-tokens : goal.shorter_sections-requires-clause-tokens
-shorter_sections-requires-clause-tokens g c κs within =
-    let coded : CodedSamples = record { list = list_of c.in_ok-coded.coded.channels; samples = samples_in g.S.Sealed.to_int c.in_ok-coded.coded.channels c.in_ok-coded.coded.store.items } in
-    groups_below g.S.Sealed.width c.args.cut.now.group_dim coded c.in_ok-config.config.tree (parts_of c.args.cut.now.layout.now) c.in_ok-tokens.tokens c.in_ok-tokens.ensures c.args.tree.now.nodes.now c.args.tree.now.clusters.now
-    c.args.tree.now.limits c.in_ok-config.ensures.ok c.in-Ok.many (sym c.in-Ok.ensures.count)
-
-pub shorter_sections-requires-clause-nodes : goal.shorter_sections-requires-clause-nodes
-shorter_sections-requires-clause-nodes g c =
-    let is = c.in_ok-config.ensures.ok in
-    let count = clustered_counted c.args.tree.now.clusters.now c.in_ok-config.config.tree c.args.tree.now.nodes.now is.listed in
-    let limit = is.limit in
-    let most = c.requires.nodes in
-    omega (arith, count, limit, most)
-
-pub shorter_sections-requires-clause-numbers : goal.shorter_sections-requires-clause-numbers
-shorter_sections-requires-clause-numbers g c κs within =
-    let coded : CodedSamples = record { list = list_of c.in_ok-coded.coded.channels; samples = samples_in g.S.Sealed.to_int c.in_ok-coded.coded.channels c.in_ok-coded.coded.store.items } in
-    numbers g.S.Sealed.width c.args.cut.now.group_dim coded c.in_ok-config.config.tree (parts_of c.args.cut.now.layout.now) c.in_ok-tokens.tokens c.in_ok-tokens.ensures
-
-pub shorter_sections-requires-clause-others : goal.shorter_sections-requires-clause-others
-shorter_sections-requires-clause-others g c κs within =
-    let coded : CodedSamples = record { list = list_of c.in_ok-coded.coded.channels; samples = samples_in g.S.Sealed.to_int c.in_ok-coded.coded.channels c.in_ok-coded.coded.store.items } in
-    others g.S.Sealed.width c.args.cut.now.group_dim coded c.in_ok-config.config.tree (parts_of c.args.cut.now.layout.now) c.in_ok-tokens.tokens c.in_ok-tokens.ensures
+    let l = parts_of c.args.cut.now.layout.now in
+    let coded = c.in_ok-coded.ensures in
+    there g.S.Sealed.to_int g.S.Sealed.width (colour_transforms c.args.colour) c.args.given.now (store_meanings g.S.Sealed.to_int c.args.grids.items) c.in_ok-coded.coded.channels c.in_ok-coded.coded.store.items coded
+    c.args.cut.now.group_dim c.requires.group_dim c.requires.valid frame.0 frame.1 l frame.2
+    (colour_one g.S.Sealed.to_int g.S.Sealed.width c.args.colour c.args.given.now c.requires.suits (store_meanings g.S.Sealed.to_int c.args.grids.items) c.in_ok-coded.coded.channels c.in_ok-coded.coded.store.items coded
+    c.args.cut.now.group_dim c.requires.group_dim c.requires.valid frame.0 frame.1 l frame.2)
 
 pub returns-clause-ok : goal.returns-clause-ok
 returns-clause-ok g c =
     let frame = c.requires.layout in
+    let l = parts_of c.args.cut.now.layout.now in
+    let image = store_meanings g.S.Sealed.to_int c.args.grids.items in
+    let channels = c.in_ok-coded.coded.channels in
+    let store = c.in_ok-coded.coded.store.items in
     let coded = c.in_ok-coded.ensures in
-    let is = c.in_ok-sections.ensures in
-    let by = is.by_tokens in
-    encoded g.S.Sealed.to_int g.S.Sealed.width c.args.colour c.args.given.now c.requires.suits (store_meanings g.S.Sealed.to_int c.args.grids.items) c.in_ok-coded.coded.channels c.in_ok-coded.coded.store.items coded
-    c.args.cut.now.group_dim c.requires.group_dim c.requires.valid frame.0 frame.1 (parts_of c.args.cut.now.layout.now) frame.2 c.requires.cells c.args.tree.now.nodes.now c.args.tree.now.clusters.now c.args.tree.now.limits
-    c.in_ok-config.config.tree c.in_ok-config.ensures.ok c.requires.depth by.0 by.1 c.in_ok-tokens.tokens c.in_ok-tokens.ensures is.before by.2 c.in_ok-sections.sections.items is.count is.own
+    let one = colour_one g.S.Sealed.to_int g.S.Sealed.width c.args.colour c.args.given.now c.requires.suits image channels store coded c.args.cut.now.group_dim c.requires.group_dim c.requires.valid frame.0 frame.1 l frame.2 in
+    let cells = colour_cells g.S.Sealed.to_int g.S.Sealed.width c.args.colour c.args.given.now c.requires.suits image channels store coded c.args.cut.now.group_dim c.requires.cells in
+    let is = subst (λ (ts : List Transform). IsFrameOfCoded g.S.Sealed.width c.args.cut.now.group_dim c.args.tree.now.limits c.args.tree.now.nodes.now c.args.tree.now.clusters.now ts
+    (record { list = list_of channels; samples = samples_in g.S.Sealed.to_int channels store }) l c.in_ok-sections.sections.items) c.colour_transform-transform.ensures.same c.in_ok-sections.ensures.ok in
+    encoded g.S.Sealed.to_int g.S.Sealed.width (colour_transforms c.args.colour) c.args.given.now image channels store coded c.args.cut.now.group_dim c.requires.group_dim c.requires.valid frame.0 frame.1 l frame.2 one
+    cells c.args.tree.now.nodes.now c.args.tree.now.clusters.now c.args.tree.now.limits is.tree is.is_tree c.requires.depth is.tokens is.are c.in_ok-sections.sections.items is.by

@@ -5,7 +5,7 @@ use Rattle.jxlm_groups.specs.declared.part.SectionPart.TheVariants as parts
 use Rattle.jxl_codestream.specs.LayoutParts.{parts_of}
 use Rattle.jxl_coding_build.specs.AnyWriters.{codes_in}
 use Rattle.jxl_encode_frame.specs.Numbers.{section_among}
-use Rattle.jxl_encode_image.specs.Preparations.{colour_transforms}
+use Rattle.jxl_encode_image.specs.Preparations.{image_transforms}
 use Rattle.jxl_encode_image.proofs.Buffers.{store_back}
 use Rattle.jxl_encode_sections.specs.Sections.{IsFirstSection}
 use Rattle.jxl_encode_sections.specs.Inner.Groups.{HasSection}
@@ -29,6 +29,6 @@ returns c =
       first = c.in_ok-first.first.items;
       first_is = global_is_first l final c.in_ok-first.first.items _ found;
       end = c.in_ok-first.ensures.0;
-      is_first = subst (λ (ts : List Token). IsFirstSection c.args.nodes.now (codes_in c.args.codes.now) (colour_transforms c.args.colour) ts c.in_ok-first.first.items 0 c.in_ok-first.ensures.0) c.deref.ensures.value c.in_ok-first.ensures.1;
+      is_first = subst (λ (ts : List Token). IsFirstSection c.args.nodes.now (codes_in c.args.codes.now) (image_transforms c.args.transform) ts c.in_ok-first.first.items 0 c.in_ok-first.ensures.0) c.deref.ensures.value c.in_ok-first.ensures.1;
       groups = subst (λ (gs : List PartTokens). All (λ (p : PartTokens). HasSection (codes_in c.args.codes.now) l gs final p.part) gs) c.deref-2.ensures.value c.in_ok-put_groups.ensures.found;
     }

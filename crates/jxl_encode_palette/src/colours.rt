@@ -1,0 +1,183 @@
+//! The colours of channels, where they are few. Which are found, and in which order, is a heuristic: what rests on them
+//! is checked.
+
+use jxlm_base::grid::{AlignedGrid, OutOfMemory};
+use jxlm_base::sample::Sample;
+use std::alloc::Global;
+
+/// The most channels of a colour.
+pub(crate) const MAX_CHANNELS: usize = 4;
+
+/// How many places a colour may have.
+const TRIES: usize = 64;
+
+/// How much each channel adds to the shade of a colour, about as bright as it is.
+const SHADES: [i64; 4] = [2, 5, 1, 8];
+
+/// The samples of a pixel, and 0 for channels that are not there.
+#[derive(Clone, Copy, PartialEq, Eq)]
+pub(crate) struct Colour {
+    samples: [i32; 4],
+}
+
+impl Colour {
+    /// The sample of a channel.
+    pub(crate) fn sample(self, channel: usize) -> i32 {
+        if channel < 4 {
+            self.samples[channel]
+        } else {
+            0
+        }
+    }
+
+    /// How bright it is: colours are sorted by it.
+    fn shade(&self) -> i64 {
+        let mut sum: i64 = 0;
+        for channel in 0..4 {
+            let sample = i64::from(self.samples[channel]);
+            sum = sum.wrapping_add(sample.wrapping_mul(SHADES[channel]));
+        }
+        sum
+    }
+
+    /// A hash of the samples.
+    fn hash(self) -> usize {
+        let mut hash: u64 = 0;
+        for channel in 0..4 {
+            hash = (hash ^ u64::from(self.samples[channel].cast_unsigned())).wrapping_mul(
+                0x9e3779b97f4a7c15,
+            );
+            hash = hash ^ hash.wrapping_shr(29);
+        }
+        hash as usize
+    }
+}
+
+/// The colour of the pixel in column `x` of row `y`.
+pub(crate) fn colour_at<S: Sample>(grids: &[AlignedGrid<S>], x: usize, y: usize) -> Colour {
+    let mut samples = [0; 4];
+    for channel in 0..grids.len().min(MAX_CHANNELS) {
+        let grid = &grids[channel];
+        if x < grid.width() && y < grid.height() {
+            samples[channel] = grid.get(x, y).to_i32();
+        }
+    }
+    Colour { samples }
+}
+
+/// Colours, each with a number.
+#[derive(Drop)]
+pub(crate) struct Colours {
+    /// The colours in the order of their numbers.
+    pub(crate) list: Vec<Colour>,
+    // The number of the colour at each place, plus 1.
+    places: Vec<u32>,
+}
+
+impl Colours {
+    /// None, with room for this number.
+    fn new(alloc: Global, most: usize) -> Result<Colours, OutOfMemory> {
+        Ok(Colours {
+            list: Vec::new(alloc),
+            places: vec![in alloc; 0; most.saturating_mul(4).saturating_add(1)]?,
+        })
+    }
+
+    /// The number of the colour at a place, plus 1; 0 where there is none.
+    fn number_at(&self, place: usize) -> u32 {
+        self.places.get(place).copied().unwrap_or(0)
+    }
+
+    /// The place of a colour, which may be free; none, if too many others have its places.
+    fn place(&self, colour: Colour) -> Option<usize> {
+        let many = self.places.len();
+        if many == 0 {
+            return None;
+        }
+        let first = colour.hash();
+        for step in 0..TRIES {
+            let place = first.wrapping_add(step) % many;
+            let number = self.number_at(place);
+            if number == 0 || self.list.get(number as usize - 1).copied() == Some(colour) {
+                return Some(place);
+            }
+        }
+        None
+    }
+
+    /// The number of a colour; 0 where it has none.
+    pub(crate) fn number(&self, colour: Colour) -> u32 {
+        match self.place(colour) {
+            Some(place) => self.number_at(place).saturating_sub(1),
+            None => 0,
+        }
+    }
+
+    /// Adds a colour if it is not there. Returns false if it finds no place.
+    fn add(&mut self, colour: Colour) -> Result<bool, OutOfMemory> {
+        let Some(place) = self.place(colour) else {
+            return Ok(false);
+        };
+        if self.number_at(place) > 0 {
+            return Ok(true);
+        }
+        self.list.push(colour)?;
+        let Ok(number) = u32::try_from(self.list.len()) else {
+            return Ok(false);
+        };
+        if let Some(free) = self.places.get_mut(place) {
+            *free = number;
+        }
+        Ok(true)
+    }
+
+    /// Adds the colours of a row. Returns false if they are then more than `most`.
+    fn add_row<S: Sample>(
+        &mut self,
+        grids: &[AlignedGrid<S>],
+        y: usize,
+        width: usize,
+        most: usize,
+    ) -> Result<bool, OutOfMemory> {
+        let mut last = None;
+        for x in 0..width {
+            let colour = colour_at(grids, x, y);
+            if last == Some(colour) {
+                continue;
+            }
+            if !self.add(colour)? || self.list.len() > most {
+                return Ok(false);
+            }
+            last = Some(colour);
+        }
+        Ok(true)
+    }
+}
+
+/// These colours, numbered in this order.
+fn numbered(alloc: Global, list: &[Colour]) -> Result<Colours, OutOfMemory> {
+    let mut colours = Colours::new(alloc, list.len())?;
+    for colour in list {
+        colours.add(*colour)?;
+    }
+    Ok(colours)
+}
+
+/// The colours of these channels from dark to bright; none, if they are more than `most`.
+pub(crate) fn colours_of<S: Sample>(
+    alloc: Global,
+    grids: &[AlignedGrid<S>],
+    width: usize,
+    height: usize,
+    most: usize,
+) -> Result<Option<Colours>, OutOfMemory> {
+    let mut found = Colours::new(alloc, most)?;
+    for y in 0..height {
+        if !found.add_row(grids, y, width, most)? {
+            return Ok(None);
+        }
+    }
+    let mut list = found.list;
+    list.sort_by_key(|colour| colour.shade())?;
+    Ok(Some(numbered(alloc, &list)?))
+}

@@ -1,0 +1,103 @@
+//! Channels as a palette codes them.
+
+ghost use Rattle.std.specs.Prelude.{◌≡◌, ◌≤◌, IfOk, length};
+ghost use Rattle.std.specs.Option.{IfSome};
+ghost use Rattle.jxl_encode_palette.specs.Palettes.{IsPaletteFor, plain_palette as the_palette};
+
+use crate::checked::{have_sides, names_all};
+use crate::colours::{MAX_CHANNELS, colours_of};
+use crate::grids::{index_of, table_of};
+use jxlm_base::grid::{AlignedGrid, OutOfMemory};
+use jxlm_base::sample::Sample;
+use jxlm_predictor::predictor::Predictor;
+use jxlm_transform::transform::Palette;
+use std::alloc::Global;
+
+/// The most colours of a palette that a header can spell.
+const MOST_COLOURS: usize = 70911;
+
+/// A palette, its table of colours and its channel of indices.
+#[derive(Drop)]
+pub struct PaletteGrids<S> {
+    /// The transform.
+    pub palette: Palette,
+    /// A column for each colour, a row for each channel.
+    pub table: AlignedGrid<S>,
+    /// For each pixel the number of its colour.
+    pub index: AlignedGrid<S>,
+}
+
+/// The palette of this number of channels, from `begin_c` on, and colours: without differences.
+fn plain_palette(begin_c: u32, num_c: u32, nb_colours: u32) -> Palette
+    ensures { result ≡ the_palette begin_c num_c nb_colours }
+{
+    Palette {
+        begin_c,
+        num_c,
+        nb_colours,
+        nb_deltas: 0,
+        d_pred: Predictor::Zero,
+        clamps_indices: false,
+        wp_header: None,
+    }
+}
+
+/// The palette with this table and these indices, if they are those of the channels.
+fn palette_by<S: Sample>(
+    grids: &[AlignedGrid<S>],
+    begin_c: u32,
+    table: AlignedGrid<S>,
+    index: AlignedGrid<S>,
+) -> Option<PaletteGrids<S>>
+    ensures { IfSome result (λ p. IsPaletteFor S.to_int S.width begin_c grids.now p.palette p.table p.index) }
+{
+    let channels = grids.len();
+    if channels == 0 || channels > MAX_CHANNELS {
+        return None;
+    }
+    let colours = table.width();
+    let columns = index.width();
+    if columns == 0 || colours > MOST_COLOURS {
+        return None;
+    }
+    if !names_all(grids, &table, &index) {
+        return None;
+    }
+    let palette = plain_palette(begin_c, channels as u32, colours as u32);
+    Some(PaletteGrids {
+        palette,
+        table,
+        index,
+    })
+}
+
+/// The palette of one to four channels of one size, the first of which is channel `begin_c` of the image. None, if they
+/// have no samples, or more than `most` colours, or are not of one size. Whether a palette is found is a heuristic, and so
+/// is the order of its colours; one that is found has the channels as its only image.
+///
+/// # Errors
+///
+/// `OutOfMemory`, and no other. It takes a cell of memory for each pixel, and some tens of bytes for each of `most` colours.
+pub fn palette_of<S: Sample>(
+    alloc: Global,
+    grids: &[AlignedGrid<S>],
+    begin_c: u32,
+    most: usize,
+) -> Result<Option<PaletteGrids<S>>, OutOfMemory>
+    ensures { IfOk result (λ o. IfSome o (λ p. IsPaletteFor S.to_int S.width begin_c grids.now p.palette p.table
+        p.index)) }
+{
+    let Some(first) = grids.get(0) else {
+        return Ok(None);
+    };
+    let (width, height) = (first.width(), first.height());
+    if grids.len() > MAX_CHANNELS || !have_sides(grids, width, height) {
+        return Ok(None);
+    }
+    let Some(colours) = colours_of(alloc, grids, width, height, most)? else {
+        return Ok(None);
+    };
+    let table = table_of(alloc, &colours, grids.len())?;
+    let index = index_of(alloc, grids, &colours, width, height)?;
+    Ok(palette_by(grids, begin_c, table, index))
+}
