@@ -14,6 +14,7 @@ use jxl_encode_advice::values::scheme_by_values;
 use jxl_encode_colours::shades::scheme_by_colours;
 use jxl_encode_learn::axis::Axis;
 use jxl_encode_learn::scheme::Scheme;
+use jxl_encode_palette::colours::ColourOrder;
 use jxl_encode_properties::learn::scheme_by_errors;
 use jxl_image_header::channel::BitDepth;
 use jxl_image_header::image::ImageHeader;
@@ -32,8 +33,8 @@ pub(crate) struct Advice {
     pub(crate) colour: Option<u32>,
     /// Whether groups may have trees of their own.
     pub(crate) own: bool,
-    /// Whether all channels become a palette: then the tree is that of its table and its indices.
-    pub(crate) palette: bool,
+    /// The order of the colours, if all channels become a palette: then the tree is that of its table and its indices.
+    pub(crate) palette: Option<ColourOrder>,
 }
 
 /// The samples of a picture, and how they are stored.
@@ -167,7 +168,7 @@ pub(crate) fn care_of(effort: Effort) -> (usize, Care) {
         Effort::Fast => (
             2,
             Care {
-                samples: 1 << 17,
+                samples: 1 << 16,
                 clusters: 8,
                 colours: 1024,
             },
@@ -344,7 +345,7 @@ fn add_way(list: &mut Vec<Advice>, way: Option<Way>) -> Result<(), OutOfMemory> 
         clusters: way.scheme.clusters,
         colour: way.colour,
         own: way.own,
-        palette: false,
+        palette: None,
     };
     add_advice(list, advice)
 }

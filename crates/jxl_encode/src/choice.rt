@@ -86,7 +86,7 @@ pub(crate) fn encode_codestream<P: Progress>(
         clusters: Vec::new(alloc),
         colour: None,
         own: false,
-        palette: false,
+        palette: None,
     };
     codestream_by(alloc, picture, &plain, &[], copies)
 }

@@ -21,6 +21,7 @@ use crate::channels::copies_of;
 use crate::palettes::{MOST_CHANNELS, MOST_COLOURS};
 use jxl_codestream::layout::Layout;
 use jxl_codestream::start::tree_limit;
+use jxl_encode_palette::colours::ColourOrder;
 use jxl_encode_palette::palette::palette_of;
 use jxl_encode_sections::frame::{
     FrameCut, FrameTree, encode_sections, encode_sections_by_palette,
@@ -135,11 +136,13 @@ fn plain_sections(
     sections_by_tree(alloc, input, colour, &[leaf], &[0])
 }
 
-/// The sections of the frame by a palette of all channels and the tree of these nodes, whose leaves have these clusters. None,
-/// if the channels are not two to four of one size, or their colours are too many.
+/// The sections of the frame by a palette of all channels, of colours in this order, and the tree of these nodes,
+/// whose leaves have these clusters. None, if the channels are not one to four of one size, or their colours are too
+/// many.
 fn sections_by_palette(
     alloc: Global,
     input: &FrameInput<'_>,
+    order: ColourOrder,
     nodes: &[EncodeNode],
     clusters: &[u8],
 ) -> Result<Option<Vec<Vec<u8>>>, EncodeError>
@@ -150,10 +153,10 @@ fn sections_by_palette(
     ensures ok { IfOk result (λ o. IfSome o (λ v. AreSectionsOf input.now.picture.now (map (λ s. s.items) v.items))) }
 {
     let grids = copies_of(alloc, &input.picture.channels)?;
-    if grids.len() < 2 || grids.len() > MOST_CHANNELS || input.given.len() > MOST_CHANNELS {
+    if grids.len() > MOST_CHANNELS || input.given.len() > MOST_CHANNELS {
         return Ok(None);
     }
-    let Some(coding) = palette_of(alloc, &grids, 0, MOST_COLOURS)? else {
+    let Some(coding) = palette_of(alloc, &grids, 0, order, MOST_COLOURS)? else {
         return Ok(None);
     };
     let tree = FrameTree {
@@ -176,6 +179,7 @@ fn sections_by_palette(
 fn palette_sections(
     alloc: Global,
     input: &FrameInput<'_>,
+    order: ColourOrder,
     advice: &Advice,
 ) -> Result<Vec<Vec<u8>>, EncodeError>
     requires codable { IsCodable input.now.picture.now }
@@ -185,7 +189,7 @@ fn palette_sections(
     ensures ok { IfOk result (λ v. AreSectionsOf input.now.picture.now (map (λ s. s.items) v.items)) }
     ensures err { IfErr result (λ e. e ≡ Memory) }
 {
-    match sections_by_palette(alloc, input, &advice.nodes, &advice.clusters) {
+    match sections_by_palette(alloc, input, order, &advice.nodes, &advice.clusters) {
         Ok(Some(sections)) => Ok(sections),
         Ok(None) => plain_sections(alloc, input, None),
         Err(EncodeError::InvalidTree) => plain_sections(alloc, input, None),
@@ -206,8 +210,8 @@ pub(crate) fn frame_sections(
     ensures ok { IfOk result (λ v. AreSectionsOf input.now.picture.now (map (λ s. s.items) v.items)) }
     ensures err { IfErr result (λ e. e ≡ Memory) }
 {
-    if advice.palette {
-        return palette_sections(alloc, input, advice);
+    if let Some(order) = advice.palette {
+        return palette_sections(alloc, input, order, advice);
     }
     let colour = transform_by(&input.picture.header, advice.colour);
     match sections_by_tree(alloc, input, colour, &advice.nodes, &advice.clusters) {

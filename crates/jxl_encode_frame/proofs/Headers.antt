@@ -1,6 +1,6 @@
 -- Headers whose palettes have no differences: what they come to.
-use Rattle.std.proofs.Common.{◌≡◌, ℕ, zero, suc, ◌≤◌, Bool, true, false, List, ◌∷◌, length, None, Some, Result, Ok, refl, sym, ap, ◌∙◌, subst, eqb-true, arith}
-use Rattle.std.specs.Prelude.{◌==◌, Any, MatchBool}
+use Rattle.std.proofs.Common.{◌≡◌, ℕ, zero, suc, ◌≤◌, Bool, true, false, if◌then◌else◌, List, ◌∷◌, length, None, Some, Result, Ok, refl, sym, ap, ◌∙◌, subst, arith}
+use Rattle.std.specs.Prelude.{◌==◌, ◌&&◌, Any, MatchBool}
 use Rattle.std.specs.List.{All}
 use Rattle.std.proofs.lemmas.Bool.{le-ltb}
 use Rattle.std.proofs.lemmas.List.Elements.{All-head, All-tail}
@@ -12,11 +12,11 @@ use Rattle.jxlm_header.specs.Header.{Header, header, header_by}
 use Rattle.jxlm_header.specs.Opening.{opening, opening_of, resolve}
 use Rattle.jxlm_header.proofs.HeaderLaws.{exact-header, exact-opening}
 use Rattle.jxlm_predictor.specs.declared.predictor.Predictor.{Predictor}
-use Rattle.jxlm_predictor.specs.declared.predictor.Predictor.TheVariants.{SelfCorrecting, Zero}
+use Rattle.jxlm_predictor.specs.declared.predictor.Predictor.TheVariants.{SelfCorrecting, West, Zero}
 use Rattle.jxlm_nested.specs.Starts.{opening_at}
 use Rattle.jxlm_transform.specs.Channels.{ChannelList, tables_for}
 use Rattle.jxlm_transform.specs.ChannelSteps.{CodedList, coded_list}
-use Rattle.jxlm_transform.specs.Params.{clamps_indices, columns}
+use Rattle.jxlm_transform.specs.Params.{clamps_indices, columns, is_zero}
 use Rattle.jxlm_transform.specs.Transforms.{Transform, OfPalette, palette_by, transform_by, weights_for}
 use Rattle.jxlm_transform.specs.declared.param.PaletteTables.{PaletteTables}
 use Rattle.jxlm_transform.specs.declared.param.PaletteTables.TheVariants.{OfColours, OfDeltasToo}
@@ -25,6 +25,7 @@ use Rattle.jxlm_tree.specs.Tree.{Config}
 use Rattle.jxlm_weighted.specs.WeightsHeader.{default_weights}
 use Rattle.jxlm_weighted.specs.declared.weights.WpHeader.{WpHeader}
 use Rattle.jxl_encode_image.specs.Preparations.{IsPlainPalette, IsSpelled}
+use Rattle.jxl_encode_palette.specs.Palettes.{plain_predictor}
 use Rattle.jxl_lossless.specs.Codewords.{UsesGlobalAt}
 use Rattle.jxl_lossless.specs.Stills.{IsWeightedAt}
 
@@ -36,17 +37,15 @@ columns_any OfColours OfDeltasToo colours deltas none = omega (arith, none)
 columns_any OfDeltasToo OfColours colours deltas none = omega (arith, none)
 columns_any OfDeltasToo OfDeltasToo colours deltas none = refl
 
-no_case : (n : ℕ) (b : Bool) → (n == 1) ≡ b → 2 ≤ n → b ≡ false
-no_case n true e h = absurd (let one = eqb-true n 1 e in omega (arith, one, h))
-no_case n false e h = refl
+-- one channel has predictor 1, and so no palette clamps indices
+no_case : (one none : Bool) → (one && none && is_zero (if one then West else Zero)) ≡ false
+no_case true true = refl
+no_case true false = refl
+no_case false none = refl
 
-not_one : (n : ℕ) → 2 ≤ n → (n == 1) ≡ false
-not_one n h = no_case n (n == 1) refl h
-
--- a palette of two channels or more clamps no index
-never_clamps : (tables : PaletteTables) (channels deltas : ℕ) (predictor : Predictor) → 2 ≤ channels → clamps_indices tables channels deltas predictor ≡ false
-never_clamps OfColours channels deltas predictor several = refl
-never_clamps OfDeltasToo channels deltas predictor several = rw (not_one channels several) refl
+never_clamps : (tables : PaletteTables) (channels deltas : ℕ) (predictor : Predictor) → predictor ≡ plain_predictor channels → clamps_indices tables channels deltas predictor ≡ false
+never_clamps OfColours channels deltas predictor is = refl
+never_clamps OfDeltasToo channels deltas predictor is = rw is (no_case (channels == 1) (deltas == 0))
 
 palette_any : (a b : PaletteTables) (weights : WpHeader) (bytes : List ℕ) (p : ℕ) (t : Palette) (q : ℕ) → IsPlainPalette t → (palette_by a weights).Stands bytes p t q → (palette_by b weights).Stands bytes p t q
 palette_any a b weights bytes p t q plain s =
@@ -56,11 +55,11 @@ palette_any a b weights bytes p t q plain s =
     let (deltas, l, fourth, after_deltas) = after_colours in
     let (predictor, m, fifth, last) = after_deltas in
     let none : deltas ≡ 0 = sym (ap (λ (u : Palette). u.nb_deltas) last.0) ∙ ap (λ (u : Palette). u.nb_deltas) plain.is in
-    let several : 2 ≤ channels = subst (λ (n : ℕ). 2 ≤ n) (ap (λ (u : Palette). u.num_c) last.0) plain.several in
+    let of : predictor ≡ plain_predictor channels = sym (ap (λ (u : Palette). u.d_pred) last.0) ∙ ap (λ (u : Palette). u.d_pred) plain.is ∙ ap (λ (u : Palette). plain_predictor u.num_c) last.0 in
     let made : ℕ → Bool → Palette = λ width clamps. record { begin_c = begin; num_c = channels; nb_colours = width; nb_deltas = deltas; d_pred = predictor; clamps_indices = clamps; wp_header = weights_for predictor weights } in
     let same : made (columns a colours deltas) (clamps_indices a channels deltas predictor) ≡ made (columns b colours deltas) (clamps_indices b channels deltas predictor) =
     ap (λ (width : ℕ). made width (clamps_indices a channels deltas predictor)) (columns_any a b colours deltas none)
-    ∙ ap (made (columns b colours deltas)) (never_clamps a channels deltas predictor several ∙ sym (never_clamps b channels deltas predictor several)) in
+    ∙ ap (made (columns b colours deltas)) (never_clamps a channels deltas predictor of ∙ sym (never_clamps b channels deltas predictor of)) in
     (begin, i, first, (channels, j, second, (colours, k, third, (deltas, l, fourth, (predictor, m, fifth, (last.0 ∙ same, last.1))))))
 
 otherwise : (P Q R Q' : Type 0) (x y : Bool) → (Q → Q') → MatchBool x P (MatchBool y Q R) → MatchBool x P (MatchBool y Q' R)
@@ -110,8 +109,9 @@ module _ (ts : List Transform) (given : ChannelList) (coded : CodedList) (come :
 
 module _ (shared : Bool) (ts : List Transform) (written : All IsSpelled ts) (bytes : List ℕ) (p q : ℕ) (stands : header.Stands bytes p (plain_header shared ts) q) where
   -- none of its palettes is of the weighted predictor
-  other_predictor : Zero ≡ SelfCorrecting → ⊥
-  other_predictor e = cc
+  other_predictor : (one : Bool) → (if one then West else Zero) ≡ SelfCorrecting → ⊥
+  other_predictor true e = cc
+  other_predictor false e = cc
 
   pub not_weighted : ¬ (IsWeightedAt bytes p)
   not_weighted h =
@@ -120,7 +120,7 @@ module _ (shared : Bool) (ts : List Transform) (written : All IsSpelled ts) (byt
       let is : own ≡ found = same_found own found (sym ((exact-header OfColours).stands_read bytes p (plain_header shared ts) q stands) ∙ read) in
       let (k, t, lt, at, same) = subst (λ (f : Found Header). Any (λ t. t ≡ OfPalette palette) f.value.transform) (sym is) some in
       let own : IsPlainPalette palette = subst IsSpelled (at ∙ same) (written k t lt) in
-      other_predictor (sym (ap (λ (u : Palette). u.d_pred) own.is) ∙ weighted)
+      other_predictor (palette.num_c == 1) (sym (ap (λ (u : Palette). u.d_pred) own.is) ∙ weighted)
 
   -- its first field says which tree it uses
   flag_is : (i : ℕ) × (flag.read bytes p ≡ Ok (record { value = shared; position = i }))

@@ -1,15 +1,21 @@
 -- Spellings of a header that uses the frame's tree, or has one of its own.
-use Rattle.std.proofs.Common.{ℕ, List, [], ◌∷◌, true, false, refl}
-use Rattle.jxlm_bits.specs.Grammar.{flag, number, u32}
+use Rattle.std.proofs.Common.{◌≡◌, ◌∙◌, ℕ, List, [], ◌∷◌, Bool, true, false, codes, if◌then◌else◌, Option, None, Some, refl, sym, ap, subst}
+use Rattle.std.specs.Prelude.{◌==◌, ok_or, slice_get}
+use Rattle.jxlm_bits.specs.ErrorKind.{BadEnum}
+use Rattle.jxlm_bits.specs.Grammar.{flag, from_result, number, u32}
 use Rattle.jxlm_bits.specs.declared.bits.U32Spec.TheVariants.{Const, Offset}
 use Rattle.jxlm_bit_writer.specs.Writes.{Spells}
 use Rattle.jxlm_bit_writer.proofs.WriteLaws.{after, becomes}
 use Rattle.jxlm_header.specs.Header.{header}
-use Rattle.jxlm_transform.specs.Transforms.{OfPalette, OfRct, Transform, begin_channel, transform}
+use Rattle.jxlm_transform.specs.Transforms.{OfPalette, OfRct, Transform, begin_channel, transform, weights_for}
 use Rattle.jxlm_transform.specs.declared.transform.Palette.{Palette}
 use Rattle.jxlm_transform.specs.declared.transform.Rct.{Rct}
-use Rattle.jxlm_predictor.specs.declared.predictor.Predictor.TheVariants.{Zero}
+use Rattle.jxlm_predictor.specs.Predictions.{predictors}
+use Rattle.jxlm_predictor.specs.declared.predictor.Predictor.{Predictor}
+use Rattle.jxlm_predictor.specs.declared.predictor.Predictor.TheVariants.{West, Zero}
 use Rattle.jxlm_weighted.specs.WeightsHeader.{default_weights}
+use Rattle.jxlm_weighted.specs.declared.weights.WpHeader.{WpHeader}
+use Rattle.jxl_encode_palette.specs.Palettes.{plain_predictor}
 use Rattle.jxl_encode_image.specs.Preparations.{IsPlainPalette, own_header, shared_header}
 use Rattle.jxl_encode_image.specs.Inner.Lists.{transform_list}
 
@@ -18,15 +24,27 @@ pub colour_spelled : (t : Rct) (b0 b1 b2 b3 : List ℕ) → Spells b0 b1 (number
 colour_spelled t b0 b1 b2 b3 n b k =
     becomes (after n (after b k)) (λ bytes p q s. (0, s.0, s.1, (t, q, (t.begin_c, s.2.0, s.2.1, (t.rct_type, q, s.2.2, (refl, refl))), (refl, refl))))
 
-pub palette_spelled : (t : Palette) → IsPlainPalette t → (b0 b1 b2 b3 b4 b5 b6 : List ℕ) → Spells b0 b1 (number 2) 1 → Spells b1 b2 begin_channel t.begin_c → Spells b2 b3 (u32 (Const 1) (Const 3) (Const 4) (Offset 1 13)) t.num_c →
-    Spells b3 b4 (u32 (Offset 0 8) (Offset 256 10) (Offset 1280 12) (Offset 5376 16)) t.nb_colours → Spells b4 b5 (u32 (Const 0) (Offset 1 8) (Offset 257 10) (Offset 1281 16)) 0 → Spells b5 b6 (number 4) 0 →
+-- a palette without differences keeps no weights
+none_of : (one : Bool) → weights_for (if one then West else Zero) default_weights ≡ None
+none_of true = refl
+none_of false = refl
+
+none_kept : (channels : ℕ) → weights_for (plain_predictor channels) default_weights ≡ None
+none_kept channels = none_of (channels == 1)
+
+pub palette_spelled : (t : Palette) → IsPlainPalette t → (m : ℕ) → slice_get predictors m ≡ Some t.d_pred → (b0 b1 b2 b3 b4 b5 b6 : List ℕ) → Spells b0 b1 (number 2) 1 → Spells b1 b2 begin_channel t.begin_c → Spells b2 b3 (u32 (Const 1) (Const 3) (Const 4) (Offset 1 13)) t.num_c →
+    Spells b3 b4 (u32 (Offset 0 8) (Offset 256 10) (Offset 1280 12) (Offset 5376 16)) t.nb_colours → Spells b4 b5 (u32 (Const 0) (Offset 1 8) (Offset 257 10) (Offset 1281 16)) 0 → Spells b5 b6 (number 4) m →
     Spells b0 b6 (transform default_weights) (OfPalette t)
-palette_spelled t plain b0 b1 b2 b3 b4 b5 b6 n b c k d p =
+palette_spelled t plain m found b0 b1 b2 b3 b4 b5 b6 n b c k d p =
+    let predictor : Predictor = plain_predictor t.num_c in
+    let there : Some predictor ≡ slice_get predictors m = ap (λ (u : Palette). Some u.d_pred) (sym plain.is) ∙ sym found in
+    let is : t ≡ record { begin_c = t.begin_c; num_c = t.num_c; nb_colours = t.nb_colours; nb_deltas = 0; d_pred = predictor; clamps_indices = false; wp_header = weights_for predictor default_weights } =
+    plain.is ∙ ap (λ (o : Option WpHeader). record { begin_c = t.begin_c; num_c = t.num_c; nb_colours = t.nb_colours; nb_deltas = 0; d_pred = predictor; clamps_indices = false; wp_header = o }) (sym (none_kept t.num_c)) in
     becomes (after n (after b (after c (after k (after d p))))) (λ bytes from q s.
     let channels = s.2.2 in
     let colours = channels.2 in
     let deltas = colours.2 in
-    (1, s.0, s.1, (t, q, (t.begin_c, s.2.0, s.2.1, (t.num_c, channels.0, channels.1, (t.nb_colours, colours.0, colours.1, (0, deltas.0, deltas.1, (Zero, q, (0, q, deltas.2, (refl, refl)), (plain.is, refl)))))), (refl, refl))))
+    (1, s.0, s.1, (t, q, (t.begin_c, s.2.0, s.2.1, (t.num_c, channels.0, channels.1, (t.nb_colours, colours.0, colours.1, (0, deltas.0, deltas.1, (predictor, q, (m, q, deltas.2, subst (λ (o : Option Predictor). (from_result (ok_or o (BadEnum (codes "MaProperty") m))).Stands bytes q predictor q) there (refl, refl)), (is, refl)))))), (refl, refl))))
 
 pub none_listed : (a b : List ℕ) → Spells a b (u32 (Const 0) (Const 1) (Offset 2 4) (Offset 18 8)) 0 → Spells a b transform_list []
 none_listed a b u = becomes u (λ bytes p q s. (0, q, s, (refl, refl)))

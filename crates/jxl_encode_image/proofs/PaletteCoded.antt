@@ -74,23 +74,23 @@ few_given ps few = let same = length-map ps image_channel in omega (arith, same,
 
 -- a palette that was made of grids is one that a header can spell
 module _ {S : Type 0} (to_int : S → ℤ) (w : Width) (t : Palette) (grids : List (Grid S)) (table index : Grid S) (made : IsPaletteFor to_int w t.begin_c (range t.begin_c t.num_c grids) t table index) where
-  pub plain_made : t.begin_c ≤ 9287 → 2 ≤ t.num_c → IsPlainPalette t
-  plain_made begin several =
+  pub plain_made : t.begin_c ≤ 9287 → IsPlainPalette t
+  plain_made begin =
       let num_is : t.num_c ≡ length (range t.begin_c t.num_c grids) = ap (λ (u : Palette). u.num_c) made.is in
       let colours_are : t.nb_colours ≡ table.width = ap (λ (u : Palette). u.nb_colours) made.is in
       let none : t.nb_deltas ≡ 0 = ap (λ (u : Palette). u.nb_deltas) made.is in
+      let some = made.some_channels in
       let four = made.channels in
       let most = made.colours in
       record {
         is = made.is ∙ ap (λ n. plain_palette t.begin_c n table.width) (sym num_is) ∙ ap (plain_palette t.begin_c t.num_c) (sym colours_are);
         ranges = record {
           begin = begin;
-          some_channels = omega (arith, several);
+          some_channels = omega (arith, num_is, some);
           channels = omega (arith, num_is, four);
           colours = omega (arith, colours_are, most);
           deltas = omega (arith, none);
         };
-        several = several;
         colours = omega (arith, colours_are, most);
       }
 

@@ -29,11 +29,10 @@ abbrev pub colour_transforms : Option Rct → List Transform
 colour_transforms None = []
 colour_transforms (Some t) = OfRct t ∷ []
 
--- a palette of two channels or more, without differences, that a header can spell; by the tables of deltas it is the same
+-- a palette without differences that a header can spell; by the tables of deltas it is the same
 pub record IsPlainPalette (t : Palette) : Type 0 where
   pub is : t ≡ plain_palette t.begin_c t.num_c t.nb_colours
   pub ranges : IsPalette t
-  pub several : 2 ≤ t.num_c
   pub colours : t.nb_colours ≤ 70911
 
 -- a transform that an encoder writes: a colour transform, a squeeze, or such a palette

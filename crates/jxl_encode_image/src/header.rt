@@ -61,7 +61,7 @@ fn write_colour(bits: &mut BitWriter, colour: Rct) -> Result<(), AllocError>
     Ok(())
 }
 
-// Adds a palette of two channels or more, without differences.
+// Adds a palette without differences.
 fn write_palette(bits: &mut BitWriter, palette: Palette) -> Result<(), AllocError>
     requires { IsPlainPalette palette }
     ensures { IfOk result (λ _. Spells bits.old bits.new (the_transform default_weights) (OfPalette palette)) }
@@ -99,7 +99,7 @@ fn write_palette(bits: &mut BitWriter, palette: Palette) -> Result<(), AllocErro
         U32Spec::Offset(257, 10),
         U32Spec::Offset(1281, 16),
     )?;
-    write_number(bits, 0, 4)?;
+    write_number(bits, palette.d_pred.number(), 4)?;
     Ok(())
 }
 

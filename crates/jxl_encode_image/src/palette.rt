@@ -65,8 +65,7 @@ fn coded_store<S: Sample>(
     Ok(store)
 }
 
-/// Codes the samples of an image, of these channels, by a palette of two channels or more of them, with its table and its
-/// indices.
+/// Codes the samples of an image, of these channels, by a palette of channels of them, with its table and its indices.
 ///
 /// # Errors
 ///
@@ -81,7 +80,6 @@ pub fn code_by_palette<S: Sample>(
     requires few { length given.now < 65536 }
     requires sides { AreGridsOf (image_list given.now).channels grids.items }
     requires begin { coding.palette.begin_c ≤ 9287 }
-    requires several { 2 ≤ coding.palette.num_c }
     requires made { IsPaletteFor S.to_int S.width coding.palette.begin_c
         (range coding.palette.begin_c coding.palette.num_c grids.items) coding.palette coding.table coding.index }
     ensures { IfOk result (λ i. IsCodedImage S.to_int S.width (OfPalette coding.palette ∷ []) (image_list given.now)

@@ -12,7 +12,7 @@ use jxlm_transform::transform::{Palette, Rct};
 pub enum ImageTransform {
     /// A colour transform.
     Colour(Rct),
-    /// A palette of two channels or more, without differences.
+    /// A palette without differences.
     Palette(Palette),
 }
 

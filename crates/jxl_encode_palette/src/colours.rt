@@ -11,8 +11,22 @@ pub(crate) const MAX_CHANNELS: usize = 4;
 /// How many places a colour may have.
 const TRIES: usize = 64;
 
-/// How much each channel adds to the shade of a colour, about as bright as it is.
-const SHADES: [i64; 4] = [2, 5, 1, 8];
+/// The most colours that are put beside near ones.
+const MOST_NEAREST: usize = 4096;
+
+/// The channels by which colours are sorted, one after another.
+const CHANNELS: [usize; 4] = [1, 0, 2, 3];
+
+/// An order of colours.
+#[derive(Clone, Copy, Debug, PartialEq, Eq)]
+pub enum ColourOrder {
+    /// By the second channel, and where it is the same by the first, and then by the others.
+    Sample,
+    /// From those that begin most runs of pixels on, and of as many by their samples.
+    Frequency,
+    /// Each beside one that is near it among those that are left; by their samples, if they are too many for that.
+    Nearest,
+}
 
 /// The samples of a pixel, and 0 for channels that are not there.
 #[derive(Clone, Copy, PartialEq, Eq)]
@@ -30,12 +44,23 @@ impl Colour {
         }
     }
 
-    /// How bright it is: colours are sorted by it.
-    fn shade(&self) -> i64 {
-        let mut sum: i64 = 0;
+    /// What colours are sorted by: their samples, of up to 16 bits, behind one another.
+    fn key(&self) -> i64 {
+        let mut key: i64 = 0;
+        for channel in &CHANNELS {
+            key = key
+                .wrapping_mul(1 << 16)
+                .wrapping_add(i64::from(self.sample(*channel)));
+        }
+        key
+    }
+
+    /// How far it is from another: the sum of squares.
+    fn distance(self, other: Colour) -> u64 {
+        let mut sum: u64 = 0;
         for channel in 0..4 {
-            let sample = i64::from(self.samples[channel]);
-            sum = sum.wrapping_add(sample.wrapping_mul(SHADES[channel]));
+            let far = u64::from(self.samples[channel].abs_diff(other.samples[channel]));
+            sum = sum.saturating_add(far.saturating_mul(far));
         }
         sum
     }
@@ -70,6 +95,8 @@ pub(crate) fn colour_at<S: Sample>(grids: &[AlignedGrid<S>], x: usize, y: usize)
 pub(crate) struct Colours {
     /// The colours in the order of their numbers.
     pub(crate) list: Vec<Colour>,
+    // How many runs of pixels each begins.
+    runs: Vec<u32>,
     // The number of the colour at each place, plus 1.
     places: Vec<u32>,
 }
@@ -79,6 +106,7 @@ impl Colours {
     fn new(alloc: Global, most: usize) -> Result<Colours, OutOfMemory> {
         Ok(Colours {
             list: Vec::new(alloc),
+            runs: Vec::new(alloc),
             places: vec![in alloc; 0; most.saturating_mul(4).saturating_add(1)]?,
         })
     }
@@ -113,15 +141,20 @@ impl Colours {
         }
     }
 
-    /// Adds a colour if it is not there. Returns false if it finds no place.
+    /// Adds a colour if it is not there, and counts its run. Returns false if it finds no place.
     fn add(&mut self, colour: Colour) -> Result<bool, OutOfMemory> {
         let Some(place) = self.place(colour) else {
             return Ok(false);
         };
-        if self.number_at(place) > 0 {
+        let number = self.number_at(place);
+        if number > 0 {
+            if let Some(runs) = self.runs.get_mut(number as usize - 1) {
+                *runs = runs.saturating_add(1);
+            }
             return Ok(true);
         }
         self.list.push(colour)?;
+        self.runs.push(1)?;
         let Ok(number) = u32::try_from(self.list.len()) else {
             return Ok(false);
         };
@@ -163,12 +196,78 @@ fn numbered(alloc: Global, list: &[Colour]) -> Result<Colours, OutOfMemory> {
     Ok(colours)
 }
 
-/// The colours of these channels from dark to bright; none, if they are more than `most`.
+/// A colour, and how many runs of pixels it begins.
+#[derive(Clone, Copy)]
+struct CountedColour {
+    colour: Colour,
+    runs: u32,
+}
+
+/// The colours with their runs.
+fn counted(alloc: Global, found: &Colours) -> Result<Vec<CountedColour>, OutOfMemory> {
+    let mut list = Vec::new(alloc);
+    for i in 0..found.list.len() {
+        let colour = found.list[i];
+        let runs = found.runs.get(i).copied().unwrap_or(0);
+        list.push(CountedColour { colour, runs })?;
+    }
+    Ok(list)
+}
+
+/// The number of the colour from this number on that is nearest to the one before it.
+fn nearest(list: &[Colour], from: usize) -> usize {
+    let mut best = from;
+    let mut least = u64::MAX;
+    let Some(last) = list.get(from.saturating_sub(1)).copied() else {
+        return from;
+    };
+    for i in from..list.len() {
+        let far = last.distance(list[i]);
+        if far < least {
+            least = far;
+            best = i;
+        }
+    }
+    best
+}
+
+/// Puts each colour beside one that is near it, if they are not too many.
+fn put_beside(list: &mut [Colour]) {
+    if list.len() > MOST_NEAREST {
+        return;
+    }
+    for i in 1..list.len() {
+        let near = nearest(list, i);
+        if near < list.len() {
+            list.swap(i, near);
+        }
+    }
+}
+
+/// The colours in this order.
+fn ordered(alloc: Global, found: &Colours, order: ColourOrder) -> Result<Vec<Colour>, OutOfMemory> {
+    let mut list = counted(alloc, found)?;
+    list.sort_by_key(|counted| counted.colour.key())?;
+    if order == ColourOrder::Frequency {
+        list.sort_by_key(|counted| u32::MAX - counted.runs)?;
+    }
+    let mut colours = Vec::new(alloc);
+    for counted in &list {
+        colours.push(counted.colour)?;
+    }
+    if order == ColourOrder::Nearest {
+        put_beside(&mut colours);
+    }
+    Ok(colours)
+}
+
+/// The colours of these channels in this order; none, if they are more than `most`.
 pub(crate) fn colours_of<S: Sample>(
     alloc: Global,
     grids: &[AlignedGrid<S>],
     width: usize,
     height: usize,
+    order: ColourOrder,
     most: usize,
 ) -> Result<Option<Colours>, OutOfMemory> {
     let mut found = Colours::new(alloc, most)?;
@@ -177,7 +276,6 @@ pub(crate) fn colours_of<S: Sample>(
             return Ok(None);
         }
     }
-    let mut list = found.list;
-    list.sort_by_key(|colour| colour.shade())?;
+    let list = ordered(alloc, &found, order)?;
     Ok(Some(numbered(alloc, &list)?))
 }

@@ -3,6 +3,6 @@
 #![tactic(auto)]
 
 mod checked;
-mod colours;
+pub mod colours;
 mod grids;
 pub mod palette;

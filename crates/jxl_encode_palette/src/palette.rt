@@ -2,10 +2,10 @@
 
 ghost use Rattle.std.specs.Prelude.{◌≡◌, ◌≤◌, IfOk, length};
 ghost use Rattle.std.specs.Option.{IfSome};
-ghost use Rattle.jxl_encode_palette.specs.Palettes.{IsPaletteFor, plain_palette as the_palette};
+ghost use Rattle.jxl_encode_palette.specs.Palettes.{IsPaletteFor, plain_palette as the_palette, plain_predictor as the_predictor};
 
 use crate::checked::{have_sides, names_all};
-use crate::colours::{MAX_CHANNELS, colours_of};
+use crate::colours::{ColourOrder, MAX_CHANNELS, colours_of};
 use crate::grids::{index_of, table_of};
 use jxlm_base::grid::{AlignedGrid, OutOfMemory};
 use jxlm_base::sample::Sample;
@@ -27,6 +27,18 @@ pub struct PaletteGrids<S> {
     pub index: AlignedGrid<S>,
 }
 
+/// The predictor of a palette of this number of channels, which is not used without differences. By predictor 0 decoders clamp
+/// the indices of one channel.
+fn plain_predictor(num_c: u32) -> Predictor
+    ensures { result ≡ the_predictor num_c }
+{
+    if num_c == 1 {
+        Predictor::West
+    } else {
+        Predictor::Zero
+    }
+}
+
 /// The palette of this number of channels, from `begin_c` on, and colours: without differences.
 fn plain_palette(begin_c: u32, num_c: u32, nb_colours: u32) -> Palette
     ensures { result ≡ the_palette begin_c num_c nb_colours }
@@ -36,7 +48,7 @@ fn plain_palette(begin_c: u32, num_c: u32, nb_colours: u32) -> Palette
         num_c,
         nb_colours,
         nb_deltas: 0,
-        d_pred: Predictor::Zero,
+        d_pred: plain_predictor(num_c),
         clamps_indices: false,
         wp_header: None,
     }
@@ -73,7 +85,7 @@ fn palette_by<S: Sample>(
 
 /// The palette of one to four channels of one size, the first of which is channel `begin_c` of the image. None, if they
 /// have no samples, or more than `most` colours, or are not of one size. Whether a palette is found is a heuristic, and so
-/// is the order of its colours; one that is found has the channels as its only image.
+/// is the order of its colours, which `order` asks for; one that is found has the channels as its only image.
 ///
 /// # Errors
 ///
@@ -82,6 +94,7 @@ pub fn palette_of<S: Sample>(
     alloc: Global,
     grids: &[AlignedGrid<S>],
     begin_c: u32,
+    order: ColourOrder,
     most: usize,
 ) -> Result<Option<PaletteGrids<S>>, OutOfMemory>
     ensures { IfOk result (λ o. IfSome o (λ p. IsPaletteFor S.to_int S.width begin_c grids.now p.palette p.table
@@ -94,7 +107,7 @@ pub fn palette_of<S: Sample>(
     if grids.len() > MAX_CHANNELS || !have_sides(grids, width, height) {
         return Ok(None);
     }
-    let Some(colours) = colours_of(alloc, grids, width, height, most)? else {
+    let Some(colours) = colours_of(alloc, grids, width, height, order, most)? else {
         return Ok(None);
     };
     let table = table_of(alloc, &colours, grids.len())?;

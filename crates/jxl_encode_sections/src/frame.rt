@@ -413,7 +413,7 @@ pub fn encode_sections<S: Sample>(
     Ok(sections)
 }
 
-/// The sections of a frame of one pass with these channels, all of one size, by a palette of two channels or more, with its
+/// The sections of a frame of one pass with these channels, all of one size, by a palette of channels of them, with its
 /// table and its indices. They have the grids, as those of `encode_sections`.
 ///
 /// # Errors
@@ -431,7 +431,6 @@ pub fn encode_sections_by_palette<S: Sample>(
     requires few { length given.now < 65536 }
     requires sides { AreGridsOf (image_list given.now).channels grids.items }
     requires begin { coding.palette.begin_c ≤ 9287 }
-    requires several { 2 ≤ coding.palette.num_c }
     requires made { IsPaletteFor S.to_int S.width coding.palette.begin_c
         (range coding.palette.begin_c coding.palette.num_c grids.items) coding.palette coding.table coding.index }
     requires group_dim { IsGroupDim cut.now.group_dim }

@@ -20,7 +20,7 @@ returns g c =
     let table = c.args.coding.table in
     let index = c.args.coding.index in
     let placed = subst (λ (cs : List Channel). IsPlacedFor (OfPalette t ∷ []) cs c.in_ok-placed.placed) (c.deref.ensures.value ∙ c.in-Ok.ensures.ok) c.in_ok-placed.ensures in
-    let plain = plain_made g.S.Sealed.to_int g.S.Sealed.width t c.args.grids.items table index c.requires.made c.requires.begin c.requires.several in
+    let plain = plain_made g.S.Sealed.to_int g.S.Sealed.width t c.args.grids.items table index c.requires.made c.requires.begin in
     let coded = palette_coded g.S.Sealed.to_int g.S.Sealed.width t plain (image_list c.args.given.now).channels (few_given c.args.given.now c.requires.few) c.args.grids.items c.requires.sides table index c.requires.made
     c.in_ok-placed.placed placed (narrow_image c.args.given.now c.requires.valid) in
     subst (λ (gs : List (Grid g.row.S.Denot)). IsCodedImage g.S.Sealed.to_int g.S.Sealed.width (OfPalette t ∷ []) (image_list c.args.given.now) (store_meanings g.S.Sealed.to_int c.args.grids.items) c.in_ok-placed.placed.channels gs)

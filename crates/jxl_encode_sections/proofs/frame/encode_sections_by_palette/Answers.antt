@@ -9,7 +9,7 @@ use Rattle.jxl_encode_sections.proofs.frame.encode_sections_by_palette.Goals as 
 
 pub sections_of_coded-requires-clause-spelled : goal.sections_of_coded-requires-clause-spelled
 sections_of_coded-requires-clause-spelled g c = λ κs within.
-    plain_made g.S.Sealed.to_int g.S.Sealed.width c.args.coding.palette c.args.grids.items c.args.coding.table c.args.coding.index c.requires.made c.requires.begin c.requires.several
+    plain_made g.S.Sealed.to_int g.S.Sealed.width c.args.coding.palette c.args.grids.items c.args.coding.table c.args.coding.index c.requires.made c.requires.begin
 
 pub sections_of_coded-requires-clause-there : goal.sections_of_coded-requires-clause-there
 sections_of_coded-requires-clause-there g c κs within =
