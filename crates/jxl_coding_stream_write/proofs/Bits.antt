@@ -3,8 +3,10 @@ use Rattle.std.proofs.Common.{◌≡◌, ℕ, ◌+◌, ◌-◌, ◌*◌, ◌/◌
 use Rattle.std.proofs.lemmas.List.{append-nil, drop_more, drop_all, length-drop, take_all, take-append-drop}
 use Rattle.std.proofs.Math.Seq.{take-add}
 use Rattle.std.specs.List.{flat_map}
+use Rattle.std.specs.Int.{rotate_right, w64}
+use Rattle.std.specs.Int.Bits.{bit_or, or_zero_l}
 use Rattle.std.specs.Simd.{first_chunks}
-use Rattle.std.proofs.lemmas.Nat.{pow_pos, pow-add, shr_high, mul-mod_first, mod_below, mod-pow-add, shr-shr, div-add-mod'}
+use Rattle.std.proofs.lemmas.Nat.{pow_pos, pow-add, shr_high, field_of, mod_below, mod-pow-add, or_shr, shl-shr, shr-shr, div-add-mod'}
 use Rattle.std.proofs.Math.Nat.{add-mul-mod_self_right, add-mul, mul_assoc, mul_comm, mul-le-mul_left, suc-mul, zero-mul}
 use Rattle.jxlm_bit_writer.specs.Written.{digits, words_back}
 use Rattle.jxlm_bit_writer.proofs.BitLists.{digits_low}
@@ -40,45 +42,45 @@ module _ (value count n piece : ℕ) (fits : piece < 2 ^ n) where
       ∙ append_assoc (digits n piece) (digits count value) (words_back words)
 
 -- a sum in 64 bits
-pub sum_wrapped : (x piece : ℕ) → (x % 18446744073709551616 + piece) % 18446744073709551616 % 18446744073709551616 ≡ (x + piece) % 18446744073709551616
+sum_wrapped : (x piece : ℕ) → (x % 18446744073709551616 + piece) % 18446744073709551616 % 18446744073709551616 ≡ (x + piece) % 18446744073709551616
 sum_wrapped x piece = omega arith
 
--- a number whose upper part is taken from the digits above it adds its lowest bits alone
-module _ (value n number : ℕ) (small : number < 2 ^ 32) where
-  abbrev lead : ℕ
-  lead = number / 2 ^ n
+-- a number that is rotated has its lowest bits highest
+pub rotated_high : (number n : ℕ) → number < 2 ^ 32 → n ≤ 32 → rotate_right w64 number n / 2 ^ (64 - n) ≡ number % 2 ^ n
+rotated_high number zero small narrow =
+    let low : number / 2 ^ 0 / 2 ^ 64 ≡ 0 = omega (arith, small) in
+    let high : number * 2 ^ 0 % 2 ^ 64 / 2 ^ 64 ≡ number % 2 ^ 0 = omega (arith, small) in
+    or_shr (number / 2 ^ 0) (number * 2 ^ 0 % 2 ^ 64) 64
+    ∙ ap (λ x. bit_or x (number * 2 ^ 0 % 2 ^ 64 / 2 ^ 64)) low
+    ∙ or_zero_l (number * 2 ^ 0 % 2 ^ 64 / 2 ^ 64)
+    ∙ high
+rotated_high number (suc m) small narrow =
+    let n : ℕ = suc m in
+    let by : n % 64 ≡ n = omega (arith, narrow) in
+    let up : (64 - n % 64) % 64 ≡ 64 - n = omega (arith, narrow) in
+    let all : n + (64 - n) ≡ 64 = omega (arith, narrow) in
+    let low : number / 2 ^ (n % 64) / 2 ^ (64 - n) ≡ 0 =
+    ap (λ k. number / 2 ^ k / 2 ^ (64 - n)) by ∙ shr-shr number n (64 - n) ∙ ap (λ k. number / 2 ^ k) all ∙ above_all number small in
+    let high : number * 2 ^ ((64 - n % 64) % 64) % 2 ^ 64 / 2 ^ (64 - n) ≡ number % 2 ^ n =
+    ap (λ k. number * 2 ^ k % 2 ^ 64 / 2 ^ (64 - n)) up ∙ ap (λ k. number * 2 ^ (64 - n) % 2 ^ k / 2 ^ (64 - n)) (sym all)
+    ∙ field_of (number * 2 ^ (64 - n)) n (64 - n) ∙ ap (λ x. x % 2 ^ n) (shl-shr number (64 - n)) in
+    or_shr (number / 2 ^ (n % 64)) (number * 2 ^ ((64 - n % 64) % 64) % 2 ^ 64) (64 - n)
+    ∙ ap (λ x. bit_or x (number * 2 ^ ((64 - n % 64) % 64) % 2 ^ 64 / 2 ^ (64 - n))) low
+    ∙ or_zero_l (number * 2 ^ ((64 - n % 64) % 64) % 2 ^ 64 / 2 ^ (64 - n))
+    ∙ high
+  where
+    above_all : (x : ℕ) → x < 2 ^ 32 → x / 2 ^ 64 ≡ 0
+    above_all x lt = omega (arith, lt)
 
-  lead_small : lead < 2 ^ 32
-  lead_small = let d = div-add-mod' number (2 ^ n) in let p : lead * 1 ≤ lead * 2 ^ n = mul-le-mul_left lead (pow_pos n) in omega (arith, d, p, small)
-
-  above : (value + (18446744073709551616 - lead)) * 2 ^ n + number ≡ (value * 2 ^ n + number % 2 ^ n) + 2 ^ n * 18446744073709551616
-  above =
-      let d = div-add-mod' number (2 ^ n) in
-      let s = lead_small in
-      let a : (value + (18446744073709551616 - lead)) * 2 ^ n ≡ value * 2 ^ n + (18446744073709551616 - lead) * 2 ^ n = add-mul value (18446744073709551616 - lead) (2 ^ n) in
-      let b : (18446744073709551616 - lead) * 2 ^ n + lead * 2 ^ n ≡ (18446744073709551616 - lead + lead) * 2 ^ n = sym (add-mul (18446744073709551616 - lead) lead (2 ^ n)) in
-      let c : 18446744073709551616 - lead + lead ≡ 18446744073709551616 = omega (arith, s) in
-      let e : (18446744073709551616 - lead + lead) * 2 ^ n ≡ 18446744073709551616 * 2 ^ n = ap (λ x. x * 2 ^ n) c in
-      omega (arith, a, b, d, e)
-
-  lowest_wrapped : (((value + (18446744073709551616 - lead)) % 18446744073709551616 * 2 ^ n % 18446744073709551616) + number) % 18446744073709551616 % 18446744073709551616
-      ≡ (value * 2 ^ n + number % 2 ^ n) % 18446744073709551616
-  lowest_wrapped =
-      let m = mul-mod_first (value + (18446744073709551616 - lead)) (2 ^ n) 18446744073709551616 in
-      sum_wrapped ((value + (18446744073709551616 - lead)) % 18446744073709551616 * 2 ^ n) number
-      ∙ same ((value + (18446744073709551616 - lead)) % 18446744073709551616 * 2 ^ n) ((value + (18446744073709551616 - lead)) * 2 ^ n) number m
-      ∙ ap (λ x. x % 18446744073709551616) above
-      ∙ add-mul-mod_self_right (value * 2 ^ n + number % 2 ^ n) (2 ^ n) 18446744073709551616
-    where
-      same : (x y z : ℕ) → x % 18446744073709551616 ≡ y % 18446744073709551616 → (x + z) % 18446744073709551616 ≡ (y + z) % 18446744073709551616
-      same x y z e = omega (arith, e)
-
-  pub lowest_wrapped_by : (l m : ℕ) → l ≡ number / 2 ^ n → m ≡ number → (((value + (18446744073709551616 - l)) % 18446744073709551616 * 2 ^ n % 18446744073709551616) + m) % 18446744073709551616 % 18446744073709551616
-      ≡ (value * 2 ^ n + number % 2 ^ n) % 18446744073709551616
-  lowest_wrapped_by l m e f =
-      ap (λ x. (((value + (18446744073709551616 - x)) % 18446744073709551616 * 2 ^ n % 18446744073709551616) + m) % 18446744073709551616 % 18446744073709551616) e
-      ∙ ap (λ x. (((value + (18446744073709551616 - lead)) % 18446744073709551616 * 2 ^ n % 18446744073709551616) + x) % 18446744073709551616 % 18446744073709551616) f
-      ∙ lowest_wrapped
+-- the lowest bits of a number below others, as the machine computes them
+pub low_same : (value n number : ℕ) → number < 2 ^ 32 → n ≤ 32 → (by piece : ℕ) → by ≡ n → piece ≡ rotate_right w64 number n →
+    (value * 2 ^ by % 18446744073709551616 + piece / 2 ^ 1 / 2 ^ (63 - by)) % 18446744073709551616 % 18446744073709551616 ≡ (value * 2 ^ n + number % 2 ^ n) % 18446744073709551616
+low_same value n number small narrow by piece e is =
+    let moved : 1 + (63 - by) ≡ 64 - n = omega (arith, e, narrow) in
+    let high : piece / 2 ^ 1 / 2 ^ (63 - by) ≡ number % 2 ^ n = shr-shr piece 1 (63 - by) ∙ ap (λ k. piece / 2 ^ k) moved ∙ ap (λ x. x / 2 ^ (64 - n)) is ∙ rotated_high number n small narrow in
+    ap (λ x. (value * 2 ^ by % 18446744073709551616 + x) % 18446744073709551616 % 18446744073709551616) high
+    ∙ ap (λ k. (value * 2 ^ k % 18446744073709551616 + number % 2 ^ n) % 18446744073709551616 % 18446744073709551616) e
+    ∙ sum_wrapped (value * 2 ^ n) (number % 2 ^ n)
 
 -- the words with one more
 words_and_one : (words : List ℕ) (word : ℕ) → words_back (words ++ word ∷ []) ≡ digits 64 word ++ words_back words
@@ -114,13 +116,18 @@ module _ (value count n number : ℕ) (small : number < 2 ^ 32) (few : count < 6
       ∙ sum_digits high 64 rest (number % 2 ^ rest) (mod_below number (2 ^ rest) (pow_pos rest))
       ∙ ap (λ xs. xs ++ digits 64 high) (digits_mod rest number)
 
-  lead_is : number / 2 ^ n ≡ number / 2 ^ rest / 2 ^ last
-  lead_is = let e : n ≡ rest + last = omega (arith, few, full) in ap (λ k. number / 2 ^ k) e ∙ sym (shr-shr number rest last)
-
   -- the word, as the machine computes it
-  pub word_same : (l m : ℕ) → l ≡ number / 2 ^ n → m ≡ number / 2 ^ rest →
-      (((value + (18446744073709551616 - l)) % 18446744073709551616 * 2 ^ last % 18446744073709551616) + m) % 18446744073709551616 % 18446744073709551616 ≡ high % 18446744073709551616
-  word_same l m e f = lowest_wrapped_by value last (number / 2 ^ rest) (lead_small value rest number small) l m (e ∙ lead_is) f
+  pub word_same : n ≤ 32 → (upper piece : ℕ) → upper ≡ last → piece ≡ rotate_right w64 number n →
+      (value * 2 ^ upper % 18446744073709551616 + piece / 2 ^ (64 - upper)) % 18446744073709551616 % 18446744073709551616 ≡ high % 18446744073709551616
+  word_same narrow upper piece e is =
+      let moved : 64 - upper ≡ 64 - n + rest = omega (arith, e, few, full, narrow) in
+      let wide : n ≡ last + rest = omega (arith, few, full) in
+      let field : piece / 2 ^ (64 - upper) ≡ number / 2 ^ rest % 2 ^ last =
+      ap (λ k. piece / 2 ^ k) moved ∙ sym (shr-shr piece (64 - n) rest) ∙ ap (λ x. x / 2 ^ (64 - n) / 2 ^ rest) is ∙ ap (λ x. x / 2 ^ rest) (rotated_high number n small narrow)
+      ∙ ap (λ k. number % 2 ^ k / 2 ^ rest) wide ∙ field_of number last rest in
+      ap (λ x. (value * 2 ^ upper % 18446744073709551616 + x) % 18446744073709551616 % 18446744073709551616) field
+      ∙ ap (λ k. (value * 2 ^ k % 18446744073709551616 + number / 2 ^ rest % 2 ^ last) % 18446744073709551616 % 18446744073709551616) e
+      ∙ sum_wrapped (value * 2 ^ last) (number / 2 ^ rest % 2 ^ last)
 
   pub word_kept : (word kept : ℕ) (words new : List ℕ) → word % 18446744073709551616 ≡ high % 18446744073709551616 → kept ≡ number → new ≡ words ++ word ∷ [] →
       digits rest kept ++ words_back new ≡ digits n (number % 2 ^ n) ++ (digits count value ++ words_back words)
@@ -132,13 +139,7 @@ module _ (value count n number : ℕ) (small : number < 2 ^ 32) (few : count < 6
       ∙ ap (λ xs. xs ++ words_back words) (sym halves)
       ∙ append_assoc (digits n (number % 2 ^ n)) (digits count value) (words_back words)
 
-  -- the same where the code computes the numbers of bits otherwise
-  pub word_same_by : (r s l m : ℕ) → r ≡ rest → s ≡ last → l ≡ number / 2 ^ n → m ≡ number / 2 ^ r →
-      (((value + (18446744073709551616 - l)) % 18446744073709551616 * 2 ^ s % 18446744073709551616) + m) % 18446744073709551616 % 18446744073709551616 ≡ high % 18446744073709551616
-  word_same_by r s l m is_rest is_last e f =
-      ap (λ k. (((value + (18446744073709551616 - l)) % 18446744073709551616 * 2 ^ k % 18446744073709551616) + m) % 18446744073709551616 % 18446744073709551616) is_last
-      ∙ word_same l m e (f ∙ ap (λ k. number / 2 ^ k) is_rest)
-
+  -- the same where the code computes the number of bits otherwise
   pub word_kept_by : (r word kept : ℕ) (words new : List ℕ) → r ≡ rest → word % 18446744073709551616 ≡ high % 18446744073709551616 → kept ≡ number → new ≡ words ++ word ∷ [] →
       digits r kept ++ words_back new ≡ digits n (number % 2 ^ n) ++ (digits count value ++ words_back words)
   word_kept_by r word kept words new is_rest same k e = ap (λ m. digits m kept ++ words_back new) is_rest ∙ word_kept word kept words new same k e

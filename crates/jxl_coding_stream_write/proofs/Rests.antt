@@ -1,14 +1,15 @@
 -- The symbol of a token, and the bits after it.
-use Rattle.std.proofs.Common.{◌≡◌, ℕ, ◌+◌, ◌-◌, ◌*◌, ◌/◌, ◌%◌, ◌^◌, ◌<◌, ◌≤◌, add-mul, mul-le-mul_left, Option, Some, None, Bool, true, false, cond, refl, sym, ap, ◌∙◌, subst, arith}
+use Rattle.std.proofs.Common.{◌≡◌, ℕ, zero, suc, ◌+◌, ◌-◌, ◌*◌, ◌/◌, ◌%◌, ◌^◌, ◌<◌, ◌≤◌, add-mul, mul-le-mul_left, Option, Some, None, Bool, true, false, cond, refl, sym, ap, ◌∙◌, subst, arith}
 use Rattle.std.specs.Prelude.{nat_lt, is_some}
 use Rattle.std.specs.Int.{w32, leading_zeros}
 use Rattle.std.proofs.lemmas.Bool.{lt-ltb, le-ltb}
 use Rattle.std.proofs.lemmas.Nat.{pow_pos}
-use Rattle.std.proofs.Math.Nat.{pow-le-pow_right}
+use Rattle.std.proofs.Math.Nat.{pow-le-pow_right, pow-suc}
 use Rattle.jxl_coding_codes.specs.IntegerConfigs.{IsConfig}
 use Rattle.jxl_coding_codes.specs.declared.config.IntegerConfig.{IntegerConfig}
 use Rattle.jxl_coding_write.specs.HybridIntegers.{IsSpelled, long_symbol, symbol_of}
 use Rattle.jxl_coding_stream_write.specs.Inner.TokenRests.{symbol_unless}
+use Rattle.jxl_coding_stream_write.specs.declared.cluster.ClusterWriter.{ClusterWriter}
 use Rattle.jxl_coding_write.proofs.Spellings.{not_longer_one, read_short, spelled, leading, sum_small, times_low_small, symbol_small}
 
 -- a token below the split
@@ -165,3 +166,37 @@ module _ (h : IntegerConfig) (valid : IsConfig h) (n token steps : ℕ) (few : n
 
     pub upper_symbol : n ≡ 31 - leading_zeros w32 token → (n - h.split_exponent + steps) * high + token / wide ≡ symbol_of h token
     upper_symbol e = by_powers ∙ symbol_is_upper e none
+
+-- a number is below its power of 2
+pub below_power : (n : ℕ) → n < 2 ^ n
+below_power zero = omega arith
+below_power (suc n) = let p = pow-suc 2 n in let b = below_power n in omega (arith, b, p)
+
+-- the symbol by the bits that follow it, if it has none of the lowest bits
+module _ (h : IntegerConfig) (valid : IsConfig h) (n token base : ℕ) (few : n < 32) (least : 2 ^ n ≤ token) (most : token < 2 ^ (n + 1)) (beyond : 2 ^ h.split_exponent ≤ token)
+    (base_is : base + (h.split_exponent - h.msb_in_token) + 1 ≡ 2 ^ (h.split_exponent - h.msb_in_token)) (none : h.lsb_in_token ≡ 0) where
+  abbrev pub steps_of : ℕ
+  steps_of = base + (h.split_exponent - h.msb_in_token)
+
+  steps_are : steps_of + 1 ≡ 2 ^ (h.split_exponent - (h.msb_in_token + h.lsb_in_token))
+  steps_are = let e : h.split_exponent - h.msb_in_token ≡ h.split_exponent - (h.msb_in_token + h.lsb_in_token) = omega (arith, none) in base_is ∙ ap (λ k. 2 ^ k) e
+
+  same_steps : n - h.msb_in_token + base ≡ n - h.split_exponent + steps_of
+  same_steps = let l = not_longer_one h.split_exponent n token beyond most in let v = valid.1 in omega (arith, l, v)
+
+  pub width_few : n - h.msb_in_token + base < 2 ^ 21
+  width_few = subst (λ (x : ℕ). x < 2 ^ 21) (sym same_steps) (steps_few h valid n token steps_of few least most beyond steps_are)
+
+  module _ (high wide : ℕ) (high_is : high ≡ 2 ^ h.msb_in_token) (wide_is : wide ≡ 2 ^ (n - h.msb_in_token)) where
+    same_symbol : (n - h.msb_in_token + base) * high + token / wide ≡ (n - h.split_exponent + steps_of) * high + token / wide
+    same_symbol = ap (λ x. x * high + token / wide) same_steps
+
+    pub width_fits : (n - h.msb_in_token + base) * high + token / wide < 2 ^ 21
+    width_fits = subst (λ (x : ℕ). x < 2 ^ 21) (sym same_symbol) (upper_fits h valid n token steps_of few least most beyond steps_are none high wide high_is wide_is)
+
+    pub width_symbol : n ≡ 31 - leading_zeros w32 token → (n - h.msb_in_token + base) * high + token / wide ≡ symbol_of h token
+    width_symbol e = same_symbol ∙ upper_symbol h valid n token steps_of few least most beyond steps_are none high wide high_is wide_is e
+
+-- the tokens that are symbols without bits are below the split
+pub coded_split : (c : ClusterWriter) (token : ℕ) → token < c.coded → token < 2 ^ c.config.split_exponent
+coded_split c token lt = let s = coded_short c.only c.split c.coded token c.coded_none c.coded_some lt in let e = c.split_is in omega (arith, e, s)

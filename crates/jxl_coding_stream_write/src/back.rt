@@ -11,30 +11,31 @@ use jxlm_bit_writer::writer::BitWriter;
 use std::alloc::{AllocError, Global};
 use std::mem;
 
-/// Writes the lowest bits of a number before the other bits; `lead` is the number without them. If there are 64 bits and
-/// more, the last of them are a word.
+/// Writes the lowest bits of a number before the other bits. If there are 64 bits and more, the last of them are a word.
+///
+/// The rotated number has these bits highest, so one shift of two words moves them; the remainder tells the compiler so.
 #[inline(always)]
 pub(crate) fn prepend_lowest(
     words: &mut Vec<u64>,
     first: FirstBits,
     number: u32,
-    lead: u32,
     width: u32,
 ) -> Result<FirstBits, AllocError>
-    requires width { width ≤ 32 }
-    requires lead { lead ≡ number / 2 ^ width }
+    requires { width ≤ 32 }
     ensures { IfOk result (λ f. bits_back f words.new.items
         ≡ digits width (number % 2 ^ width) ++ bits_back first words.old.items) }
 {
-    let above = first.value.wrapping_sub(u64::from(lead));
+    let piece = u64::from(number).rotate_right(width);
     let count = first.count + width;
     if count < 64 {
-        let value = (above << width).wrapping_add(u64::from(number));
+        let by = width % 64;
+        let value = (first.value << by).wrapping_add((piece >> 1) >> (63 - by));
         return Ok(FirstBits { value, count });
     }
     let rest = count % 64;
-    let last = above << (width - rest);
-    words.push(last.wrapping_add(u64::from(number >> rest)))?;
+    let upper = width - rest;
+    let word = (first.value << upper).wrapping_add(piece >> (64 - upper));
+    words.push(word)?;
     Ok(FirstBits {
         value: u64::from(number),
         count: rest,
@@ -54,7 +55,7 @@ pub(crate) fn prepend(
     if piece.count == 0 {
         return Ok(first);
     }
-    let first = prepend_lowest(words, first, piece.value, 0, piece.count)?;
+    let first = prepend_lowest(words, first, piece.value, piece.count)?;
     Ok(first)
 }
 
