@@ -5,6 +5,6 @@
 pub struct End {
     /// The status.
     pub status: u8,
-    /// Whether lines were written on standard error, all of them.
+    /// Whether standard error got all lines that there are.
     pub reported: bool,
 }

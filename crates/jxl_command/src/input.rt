@@ -1,13 +1,28 @@
 //! What a program reads: a file that is opened when it is first read.
 
-ghost use Rattle.std.specs.Prelude.{◌≡◌, IfOk, None, OnOk, is_some, true};
+ghost use Rattle.std.specs.Prelude.{◌≡◌, IfErr, IfOk, None, OnErr, OnOk, is_some, true};
 ghost use Rattle.std.specs.Io.KnownBytes.{Consumes, IsAtEnd, Keeps};
 ghost use Rattle.std.specs.Option.{option_and_then};
+ghost use Rattle.std.specs.declared.io.Error.{Error};
+ghost use Rattle.jxl_command.specs.Streams.{IsReadPart};
 
 use std::alloc::Global;
 use std::fs;
-use std::io::{self, Read};
+use std::io::{self, Read, Stdin};
 use std::rt::Files;
+
+/// A reader that says by which error a read of all that is left fails.
+pub trait InputStream: Read {
+    /// What is left cannot be read, by this error, or it is out of memory for it.
+    ghost fails_by: { Self → Error → Type 0 };
+
+    /// Reads all bytes that are left.
+    fn read_rest(&mut self, alloc: Global) -> io::Result<Vec<u8>>
+        ensures read { IfOk result (λ v. Consumes (Self.remaining self.old) (Self.remaining self.new) v.items) }
+        ensures ended { OnOk result (IsAtEnd (Self.remaining self.new)) }
+        ensures part { OnErr result (IsReadPart (Self.remaining self.old) (Self.remaining self.new)) }
+        ensures err { IfErr result (fails_by self.new) };
+}
 
 /// A file that is opened at the first read: a file that cannot be opened is an error of that read.
 #[derive(Drop)]
@@ -56,10 +71,31 @@ impl<'a, R: Files> Read for InputFile<'a, R> {
     }
 }
 
+impl<R: Files> InputStream for InputFile<'_, R> {
+    ghost use Rattle.std.specs.Prelude.{⊤};
+
+    ghost fails_by = { λ _ _. ⊤ };
+
+    fn read_rest(&mut self, alloc: Global) -> io::Result<Vec<u8>> {
+        read_whole(alloc, self)
+    }
+}
+
+impl InputStream for Stdin {
+    ghost use Rattle.std.specs.Prelude.{⊤};
+
+    ghost fails_by = { λ _ _. ⊤ };
+
+    fn read_rest(&mut self, alloc: Global) -> io::Result<Vec<u8>> {
+        read_whole(alloc, self)
+    }
+}
+
 /// Reads all bytes that are left.
 pub fn read_whole<R: Read>(alloc: Global, input: &mut R) -> io::Result<Vec<u8>>
     ensures read { IfOk result (λ v. Consumes (R.remaining input.old) (R.remaining input.new) v.items) }
     ensures ended { OnOk result (IsAtEnd (R.remaining input.new)) }
+    ensures part { OnErr result (IsReadPart (R.remaining input.old) (R.remaining input.new)) }
 {
     let mut bytes = Vec::new(alloc);
     input.read_to_end(&mut bytes)?;

@@ -1,8 +1,9 @@
-//! What the programs for .jxl files share: the input, the output, the data beside a picture, the progress line, and how
-//! they end.
+//! What the programs for .jxl files share: the input, the output, standard error, the data beside a picture, the progress
+//! line, and how they end.
 #![tactic(auto)]
 
 pub mod end;
+pub mod errors;
 pub mod extra;
 pub mod input;
 pub mod meter;

@@ -1,9 +1,11 @@
 -- Why the output does not get what is asked for, and the line that says so.
-use Rattle.std.specs.Prelude.{ℕ, List, ◌++◌, Bool, true, false, Option, Some, None, codes}
+use Rattle.std.specs.Prelude.{◌≡◌, ℕ, List, ◌++◌, Bool, true, false, MatchBool, Option, Some, None, if◌then◌else◌, codes}
 use Rattle.std.specs.Fmt.{decimal}
-use Rattle.std.specs.Option.{option_map}
+use Rattle.std.specs.declared.io.Error.{Error}
+use Rattle.jxl_command.specs.Streams.{is_closed}
 use Rattle.jxl_command.specs.declared.extra.Extra.{Extra}
 use Rattle.jxl_command.specs.declared.extra.Extra.TheVariants as extras
+use Rattle.jxl_picture.specs.declared.limits.Limits.{Limits}
 use Rattle.jxldec_lines.specs.Reasons.{animation_text, file_text}
 use Rattle.jxldec_lines.specs.declared.failures.Failure.{Failure}
 use Rattle.jxldec_lines.specs.declared.failures.Failure.TheVariants as failures
@@ -14,21 +16,44 @@ missing_text extras.Profile = codes "no colour profile"
 missing_text extras.Exif = codes "no Exif data"
 missing_text extras.Xmp = codes "no XMP data"
 
--- why the output does not get what is asked for, in words where they are fixed: what the system says is not known, the
--- words for a picture above the limits are left open, and of a closed pipe nothing is said
-unfoldable pub failure_text : Failure → Option (List ℕ)
-failure_text (failures.Unreadable error) = None
-failure_text (failures.File error) = Some (file_text error)
-failure_text (failures.TooLarge size extra most) = None
-failure_text (failures.Frames error) = Some (animation_text error)
-failure_text (failures.NoFrame number) = Some (codes "no frame " ++ decimal number ++ codes "; frames are numbered from 0")
-failure_text failures.NoFormat = Some (codes "this format cannot hold the picture; --format text can")
-failure_text (failures.Missing extra) = Some (missing_text extra)
-failure_text failures.OutOfMemory = Some (codes "out of memory")
-failure_text failures.Ending = Some (codes "no format has this ending; there are .png, .pgm, .ppm, .pnm, .pam, .pfm and .text")
-failure_text (failures.Unwritable error) = None
-failure_text failures.Closed = None
-failure_text (failures.Unsaved extra error) = None
+-- the limits of a picture
+unfoldable pub limits_text : Limits → List ℕ
+limits_text most =
+    codes "(maximum: " ++ (decimal most.pixels ++ (codes " pixels, " ++ (decimal most.channels
+    ++ (codes " channels, " ++ (decimal most.bytes ++ codes " bytes of samples)")))))
+
+-- why the output does not get what is asked for, in words; what the system says of its cause is not known, and not among them
+unfoldable pub failure_text : Failure → List ℕ
+failure_text (failures.Unreadable error) = codes "cannot read"
+failure_text (failures.File error) = file_text error
+failure_text (failures.TooLarge size extra most) =
+    codes "a picture above the limits: " ++ (decimal size.width ++ (codes "x" ++ (decimal size.height
+    ++ (codes " with " ++ (decimal extra ++ (codes " extra channels " ++ limits_text most))))))
+failure_text (failures.Frames error) = animation_text error
+failure_text (failures.NoFrame number) = codes "no frame " ++ (decimal number ++ codes "; frames are numbered from 0")
+failure_text failures.NoFormat = codes "this format cannot hold the picture; --format text can"
+failure_text (failures.Missing extra) = missing_text extra
+failure_text failures.OutOfMemory = codes "out of memory"
+failure_text failures.Ending = codes "no format has this ending; there are .png, .pgm, .ppm, .pnm, .pam, .pfm and .text"
+failure_text (failures.Unwritable error) = codes "cannot write"
+failure_text failures.Closed = codes "a pipe that was closed"
+failure_text (failures.Unsaved extra error) = codes "cannot write"
+
+-- the error of the system that is its cause, if one is
+abbrev pub cause_of : Failure → Option Error
+cause_of (failures.Unreadable error) = Some error
+cause_of (failures.Unwritable error) = Some error
+cause_of (failures.Unsaved extra error) = Some error
+cause_of failure = None
+
+-- the output is a closed pipe: nothing is said of that
+abbrev pub is_silent : Failure → Bool
+is_silent failures.Closed = true
+is_silent failure = false
+
+-- why the output cannot be written, by the error of a write
+abbrev pub failure_of_write : Error → Failure
+failure_of_write error = if is_closed error then failures.Closed else failures.Unwritable error
 
 -- the failure is one of an output, and not of the file
 abbrev pub is_of_output : Failure → Bool
@@ -38,9 +63,9 @@ is_of_output failures.Closed = true
 is_of_output (failures.Unsaved extra error) = true
 is_of_output failure = false
 
--- the output cannot be written
+-- the output cannot be written; a closed pipe has a failure of its own
 abbrev pub IsOfWriting : Failure → Type 0
-IsOfWriting (failures.Unwritable error) = Unit {0}
+IsOfWriting (failures.Unwritable error) = is_closed error ≡ false
 IsOfWriting failures.Closed = Unit {0}
 IsOfWriting failure = ⊥
 
@@ -58,6 +83,10 @@ IsOfContent failure = IsOfWriting failure
 abbrev pub line_about : List ℕ → List ℕ → List ℕ
 line_about name text = codes "jxldec: " ++ name ++ codes ": " ++ text ++ codes "\n"
 
--- the line that says why the output of a name does not get what is asked for
-abbrev pub failure_line : List ℕ → Failure → Option (List ℕ)
-failure_line name failure = option_map (line_about name) (failure_text failure)
+-- the words of the line on a failure of what has this name, before its cause
+abbrev pub failure_line : List ℕ → Failure → List ℕ
+failure_line name failure = codes "jxldec: " ++ (name ++ (codes ": " ++ failure_text failure))
+
+-- standard error gets that line; of a closed pipe nothing is said
+abbrev pub IsTold : List ℕ → Failure → Type 0 → (Option Error → List ℕ → Type 0) → Type 0
+IsTold name failure Silent Gets = MatchBool (is_silent failure) Silent (Gets (cause_of failure) (failure_line name failure))

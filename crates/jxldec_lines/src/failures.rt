@@ -1,15 +1,15 @@
 //! Why the output does not get what is asked for.
 
 ghost use Rattle.std.specs.Prelude.{◌≡◌};
-ghost use Rattle.jxldec_lines.specs.Failures.{IsOfWriting, failure_text, missing_text as the_missing_text};
+ghost use Rattle.jxldec_lines.specs.Failures.{IsOfWriting, cause_of, failure_of_write, failure_text, is_silent as the_silent, limits_text, missing_text as the_missing_text};
 
 use crate::reason::{AnimationReason, Reason};
 use jxl_animation::AnimationError;
 use jxl_codestream::error::FrontError;
+use jxl_command::errors::is_closed;
 use jxl_command::extra::Extra;
 use jxl_image_header::size::Size;
 use jxl_lossless::{FileError, Limits};
-use std::io::ErrorKind;
 use std::{fmt, io};
 
 /// Why the output does not get what is asked for.
@@ -48,12 +48,34 @@ pub enum Failure {
 impl Failure {
     /// Why the output cannot be written, by the error of a write.
     pub fn of_write(error: io::Error) -> Failure
-        ensures { IsOfWriting result }
+        ensures value { result ≡ failure_of_write error }
+        ensures of_writing { IsOfWriting result }
     {
-        if error.kind() == ErrorKind::BrokenPipe {
+        if is_closed(&error) {
             Failure::Closed
         } else {
             Failure::Unwritable(error)
+        }
+    }
+
+    /// The error of the system that is its cause, if one is.
+    pub fn cause(&self) -> Option<io::Error>
+        ensures { result ≡ cause_of self.now }
+    {
+        match *self {
+            Failure::Unreadable(error) | Failure::Unwritable(error) | Failure::Unsaved(_, error) =>
+                Some(error),
+            _ => None,
+        }
+    }
+
+    /// Whether the output is a closed pipe, of which nothing is said.
+    pub fn is_silent(&self) -> bool
+        ensures { result ≡ the_silent self.now }
+    {
+        match *self {
+            Failure::Closed => true,
+            _ => false,
         }
     }
 
@@ -76,13 +98,35 @@ fn missing_text(extra: Extra) -> &'static str
     }
 }
 
+// The limits of a picture.
+#[derive(Clone, Copy)]
+struct Maximum(Limits);
+
+impl fmt::Display for Maximum {
+    ghost use Rattle.std.specs.Prelude.{Some};
+
+    ghost output = { λ maximum. Some (limits_text maximum.0) };
+
+    #[tactic(auto, unfolding(crate::specs::Failures::limits_text))]
+    fn fmt<W: fmt::Write>(&self, f: &mut fmt::Formatter<W>) -> fmt::Result {
+        let (pixels, channels, bytes) = (self.0.pixels, self.0.channels, self.0.bytes);
+        write!(
+            f,
+            "(maximum: {pixels} pixels, {channels} channels, {bytes} bytes of samples)"
+        )
+    }
+}
+
+/// Why the output does not get what is asked for, without what the system says of its cause.
 impl fmt::Display for Failure {
-    ghost output = { failure_text };
+    ghost use Rattle.std.specs.Prelude.{Some};
+
+    ghost output = { λ failure. Some (failure_text failure) };
 
     #[tactic(auto, unfolding(crate::specs::Failures::failure_text))]
     fn fmt<W: fmt::Write>(&self, f: &mut fmt::Formatter<W>) -> fmt::Result {
         match *self {
-            Failure::Unreadable(error) => write!(f, "cannot read: {error}"),
+            Failure::Unreadable(_) => f.write_str("cannot read"),
             Failure::File(error) => {
                 let reason = Reason(error);
                 write!(f, "{reason}")
@@ -92,15 +136,10 @@ impl fmt::Display for Failure {
                 extra,
                 limits,
             } => {
-                let (width, height) = (size.width, size.height);
-                let (pixels, channels, bytes) = (limits.pixels, limits.channels, limits.bytes);
+                let (width, height, maximum) = (size.width, size.height, Maximum(limits));
                 write!(
                     f,
-                    "a picture above the limits: {width}x{height} with {extra} extra channels "
-                )?;
-                write!(
-                    f,
-                    "(maximum: {pixels} pixels, {channels} channels, {bytes} bytes of samples)"
+                    "a picture above the limits: {width}x{height} with {extra} extra channels {maximum}"
                 )
             }
             Failure::Frames(error) => {
@@ -118,9 +157,7 @@ impl fmt::Display for Failure {
             Failure::Ending => f.write_str(
                 "no format has this ending; there are .png, .pgm, .ppm, .pnm, .pam, .pfm and .text",
             ),
-            Failure::Unwritable(error) | Failure::Unsaved(_, error) => {
-                write!(f, "cannot write: {error}")
-            }
+            Failure::Unwritable(_) | Failure::Unsaved(..) => f.write_str("cannot write"),
             Failure::Closed => f.write_str("a pipe that was closed"),
         }
     }

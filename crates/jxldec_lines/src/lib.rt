@@ -4,6 +4,7 @@
 
 mod cause;
 mod codes;
+pub mod ending;
 pub mod failures;
 pub mod format;
 pub mod loss;

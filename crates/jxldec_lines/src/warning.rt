@@ -1,7 +1,7 @@
 //! What the output leaves out of a file.
 
-ghost use Rattle.std.specs.Prelude.{◌≡◌, ◌++◌, IfOk, None, OnOk, IsTrue, false, [], string_bytes};
-ghost use Rattle.std.specs.Io.KnownBytes.{Appends};
+ghost use Rattle.std.specs.Prelude.{◌≡◌, ◌++◌, IfOk, None, OnOk, false, [], string_bytes};
+ghost use Rattle.jxl_command.specs.Streams.{IsReported};
 ghost use Rattle.jxl_image_header.specs.Images.{image_of};
 ghost use Rattle.jxl_picture.specs.Pictures.{is_full_alpha as the_full_alpha};
 ghost use Rattle.jxldec_lines.specs.Losses.{has_loss, loss_in, unless_saved as the_unless_saved};
@@ -11,6 +11,7 @@ ghost use Rattle.jxldec_lines.specs.Inner.Kinds.{rest_kinds};
 use crate::format::OutputFormat;
 use crate::loss::{Loss, LossLines};
 use crate::reason::box_text;
+use jxl_command::errors::ErrorStream;
 use jxl_container::error::FileError as BoxError;
 use jxl_image_header::channel::ExtraChannel;
 use jxl_image_header::image::ImageHeader;
@@ -18,8 +19,7 @@ use jxl_info::names::kind_name;
 use jxl_netpbm::format::Format;
 use jxlm_base::grid::OutOfMemory;
 use std::alloc::Global;
-use std::io::Write;
-use std::{fmt, io};
+use std::fmt;
 
 /// How many pictures a file shows, as far as its headers tell.
 #[derive(Clone, Copy)]
@@ -243,10 +243,10 @@ impl fmt::Display for LaterError<'_> {
 }
 
 /// Writes a line on channels that were left out, if there are any, those on what the format does not hold of the
-/// meaning of samples, one on the pictures that were left out, and one on the error of the boxes after the codestream,
-/// as far as they can be written. It returns whether lines were written.
-pub fn warn<E: Write>(errors: &mut E, name: &str, left_out: &LeftOut) -> bool
-    ensures lines { IsTrue result → Appends (E.contents errors.old) (E.contents errors.new)
+/// meaning of samples, one on the pictures that were left out, and one on the error of the boxes after the codestream.
+/// It returns whether all that there are were written.
+pub fn warn<E: ErrorStream>(errors: &mut E, name: &str, left_out: &LeftOut) -> bool
+    ensures lines { IsReported result (E.contents errors.old) (E.contents errors.new) (E.has_failed errors.new)
         (warning_lines name.now (string_bytes left_out.now.channels) left_out.now.loss left_out.now.frames
         left_out.now.later_error) }
     ensures none { string_bytes left_out.now.channels ≡ [] → has_loss left_out.now.loss ≡ false
@@ -255,7 +255,7 @@ pub fn warn<E: Write>(errors: &mut E, name: &str, left_out: &LeftOut) -> bool
     let (channels, loss) = (left_out.channels.as_str(), left_out.loss);
     let (frames, later_error) = (left_out.frames, left_out.later_error);
     if channels.is_empty() && !loss.has_line() && !frames.has_more() && later_error.is_none() {
-        return false;
+        return true;
     }
     let warnings = Warnings {
         name,
@@ -267,5 +267,5 @@ pub fn warn<E: Write>(errors: &mut E, name: &str, left_out: &LeftOut) -> bool
         name,
         error: later_error,
     };
-    write!(errors, "{warnings}{others}{later}").is_ok()
+    errors.put(format_args!("{warnings}{others}{later}"))
 }

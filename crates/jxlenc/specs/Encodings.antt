@@ -1,9 +1,12 @@
 -- What the program writes: the file of the picture that its input is.
-use Rattle.std.specs.Prelude.{◌≡◌, ◌⊎◌, ◌^◌, ℕ, ℤ, List, Bool, false, is_some, IfSome, MatchBool, Option, Some, None}
+use Rattle.std.specs.Prelude.{◌≡◌, ◌⊎◌, ◌^◌, ℕ, ℤ, List, Bool, false, is_some, true, IfSome, MatchBool, Option, Some, None}
 use Rattle.std.specs.Option.{option_or}
 use Rattle.std.specs.Io.KnownBytes.{Appends, Consumes, IsAtEnd}
+use Rattle.std.specs.declared.io.Error.{Error}
 use Rattle.jxl_codestream.specs.FrontParts.{bytes_if}
-use Rattle.jxl_command.specs.Streams.{IsReadWhole}
+use Rattle.jxl_command.specs.Extras.{has_path, stream_of}
+use Rattle.jxl_command.specs.Streams.{IsReadPart, IsReadWhole, is_closed}
+use Rattle.jxl_command.specs.declared.extra.Extra.{Extra}
 use Rattle.jxl_command.specs.declared.extra.Extras.{Extras}
 use Rattle.jxl_container.specs.Metadata.{HasExif, HasXmp}
 use Rattle.jxl_encode.specs.Codable.{IsCodableProfile}
@@ -20,7 +23,7 @@ use Rattle.jxl_png_read.specs.Files.{IsErrorOf as IsPngErrorOf, IsPngOf}
 use Rattle.jxl_png.specs.declared.error.PngError.TheVariants.{Signature}
 use Rattle.jxl_png_read.specs.declared.error.ReadError.TheVariants.{Png}
 use Rattle.jxlm_base.specs.Grid.{Grid}
-use Rattle.jxlenc.specs.Failures.{failure_line, is_of_output, subject}
+use Rattle.jxlenc.specs.Failures.{failure_line, cause_of, is_of_output, is_silent, subject}
 use Rattle.jxlenc.specs.declared.failures.Failure.{Failure}
 use Rattle.jxlenc.specs.declared.failures.Failure.TheVariants as failures
 use Rattle.jxlenc.specs.declared.options.Options.{Options}
@@ -113,26 +116,35 @@ abbrev pub ProfileFails : Option (List ℕ) → Failure → Type 0
 ProfileFails icc failures.ProfileSize = (bytes : List ℕ) × (icc ≡ Some bytes) × ¬ (IsCodableProfile bytes)
 ProfileFails icc failure = ⊥
 
--- what each failure says of the input, from left to rest, and of the data beside it, before the output is written: each was read
--- to its end, but where the input or other data cannot be read
-abbrev pub MakingFails : Option (List ℕ) → Option (List ℕ) → (Metadata → Type 0) → Failure → Type 0
-MakingFails left rest Given (failures.Unreadable error) = Unit {0}
-MakingFails left rest Given (failures.ExtraUnreadable extra error) = Unit {0}
-MakingFails left rest Given failures.ProfileSize = (metadata : Metadata) × Given metadata × ProfileFails (bytes_if metadata.profile) failures.ProfileSize
-MakingFails left rest Given failures.OutOfMemory = Unit {0}
-MakingFails left rest Given failure = IsReadWhole left rest (λ input. PictureFails input failure)
+-- these data are asked for, and reading their stream fails by this error
+abbrev pub ExtraFails : {F : Type 0} → (F → Error → Type 0) → Options → Extras F → Extra → Error → Type 0
+ExtraFails fails options streams extra error = (has_path options.paths extra ≡ true) × fails (stream_of streams extra) error
+
+-- what each failure says of the input, from left to rest, and of the data beside it, before the output is written: reading the input
+-- fails; or it was read to its end
+abbrev pub MakingFails : (Error → Type 0) → (Extra → Error → Type 0) → Option (List ℕ) → Option (List ℕ) → (Metadata → Type 0) → Failure → Type 0
+MakingFails Unread UnreadExtra left rest Given (failures.Unreadable error) = Unread error × IsReadPart left rest
+MakingFails Unread UnreadExtra left rest Given (failures.ExtraUnreadable extra error) = IsReadWhole left rest (λ input. UnreadExtra extra error)
+MakingFails Unread UnreadExtra left rest Given failures.ProfileSize =
+    IsReadWhole left rest (λ input. (metadata : Metadata) × Given metadata × ProfileFails (bytes_if metadata.profile) failures.ProfileSize)
+MakingFails Unread UnreadExtra left rest Given failures.OutOfMemory = Unit {0}
+MakingFails Unread UnreadExtra left rest Given failure = IsReadWhole left rest (λ input. PictureFails input failure)
 
 -- what each failure says of the input and of the output, which held `held`: a file was made before the output was written, and the
 -- output holds a beginning of that
-abbrev pub InputFails : Bool → Option (List ℕ) → Option (List ℕ) → (Metadata → Type 0) → Option (List ℕ) → Option (List ℕ) → Failure → Type 0
-InputFails boxed left rest Given held holds (failures.Unwritable error) = IsBegun boxed left rest Given held holds
-InputFails boxed left rest Given held holds failures.Closed = IsBegun boxed left rest Given held holds
-InputFails boxed left rest Given held holds failure = MakingFails left rest Given failure
+abbrev pub InputFails : (Error → Type 0) → (Extra → Error → Type 0) → Bool → Option (List ℕ) → Option (List ℕ) → (Metadata → Type 0) → Option (List ℕ) → Option (List ℕ) → Failure → Type 0
+InputFails Unread UnreadExtra boxed left rest Given held holds (failures.Unwritable error) = IsBegun boxed left rest Given held holds × (is_closed error ≡ false)
+InputFails Unread UnreadExtra boxed left rest Given held holds failures.Closed = IsBegun boxed left rest Given held holds
+InputFails Unread UnreadExtra boxed left rest Given held holds failure = MakingFails Unread UnreadExtra left rest Given failure
+
+-- standard error gets the line of a failure about what has this name; of a closed pipe nothing is said
+abbrev pub IsTold : List ℕ → Failure → Type 0 → (Option Error → List ℕ → Type 0) → Type 0
+IsTold name failure Silent Gets = MatchBool (is_silent failure) Silent (Gets (cause_of failure) (failure_line name failure))
 
 -- The picture is not encoded, by this failure; the output stays as it was, unless it is what fails; standard error gets the line of
 -- the failure, about what fails.
-pub record IsFailed (options : Options) (left rest : Option (List ℕ)) (Given : Metadata → Type 0) (held holds : Option (List ℕ)) (Stays : Type 0) (Gets : Option (List ℕ) → Type 0) : Type 0 where
+pub record IsFailed (options : Options) (Fails : Failure → Type 0) (Stays Silent : Type 0) (Gets : Option Error → List ℕ → Type 0) : Type 0 where
   pub failure : Failure
-  pub why : InputFails options.boxed left rest Given held holds failure
+  pub why : Fails failure
   pub kept : is_of_output failure ≡ false → Stays
-  pub gets : Gets (failure_line (subject options failure) failure)
+  pub told : IsTold (subject options failure) failure Silent Gets

@@ -1,7 +1,9 @@
 -- Why the output does not get the encoded picture, and the line that says so.
-use Rattle.std.specs.Prelude.{ℕ, List, ◌++◌, Bool, true, false, Option, Some, None, if◌then◌else◌, codes}
-use Rattle.std.specs.Option.{option_map}
+use Rattle.std.specs.Prelude.{◌≡◌, ℕ, List, ◌++◌, Bool, true, false, Option, Some, None, if◌then◌else◌, codes}
+use Rattle.std.specs.declared.io.Error.{Error}
 use Rattle.jxl_command.specs.Extras.{path_of}
+use Rattle.jxl_command.specs.Streams.{is_closed}
+use Rattle.jxl_command.specs.declared.extra.Extra.{Extra}
 use Rattle.jxl_command.specs.declared.extra.Extra.TheVariants as extras
 use Rattle.jxl_netpbm_read.specs.declared.error.NetpbmError.{NetpbmError}
 use Rattle.jxl_netpbm_read.specs.declared.error.NetpbmError.TheVariants as pictures
@@ -22,18 +24,33 @@ picture_text pictures.Channels = codes "not supported: channels of this type or 
 picture_text pictures.Sample = codes "a sample above the maximum"
 picture_text pictures.OutOfMemory = codes "out of memory"
 
--- why the output does not get the encoded picture, in words where they are fixed: what the system says is not known, and of a
--- closed pipe nothing is said
-unfoldable pub failure_text : Failure → Option (List ℕ)
-failure_text (failures.Unreadable error) = None
-failure_text (failures.Picture error) = Some (picture_text error)
-failure_text (failures.Png error) = Some (png_text error)
-failure_text (failures.ExtraUnreadable extra error) = None
-failure_text failures.ProfileSize = Some (codes "a profile of 0 bytes or above 268435456")
-failure_text failures.OutOfMemory = Some (codes "out of memory")
-failure_text failures.Terminal = Some (codes "a terminal; -o OUT writes to a file, -o - to standard output")
-failure_text (failures.Unwritable error) = None
-failure_text failures.Closed = None
+-- why the output does not get the encoded picture, in words; what the system says of its cause is not known, and not among them
+unfoldable pub failure_text : Failure → List ℕ
+failure_text (failures.Unreadable error) = codes "cannot read"
+failure_text (failures.Picture error) = picture_text error
+failure_text (failures.Png error) = png_text error
+failure_text (failures.ExtraUnreadable extra error) = codes "cannot read"
+failure_text failures.ProfileSize = codes "a profile of 0 bytes or above 268435456"
+failure_text failures.OutOfMemory = codes "out of memory"
+failure_text failures.Terminal = codes "a terminal; -o OUT writes to a file, -o - to standard output"
+failure_text (failures.Unwritable error) = codes "cannot write"
+failure_text failures.Closed = codes "a pipe that was closed"
+
+-- the error of the system that is its cause, if one is
+abbrev pub cause_of : Failure → Option Error
+cause_of (failures.Unreadable error) = Some error
+cause_of (failures.ExtraUnreadable extra error) = Some error
+cause_of (failures.Unwritable error) = Some error
+cause_of failure = None
+
+-- the output is a closed pipe: nothing is said of that
+abbrev pub is_silent : Failure → Bool
+is_silent failures.Closed = true
+is_silent failure = false
+
+-- why the output cannot be written, by the error of a write
+abbrev pub failure_of_write : Error → Failure
+failure_of_write error = if is_closed error then failures.Closed else failures.Unwritable error
 
 -- the failure is one of the output, and not of what is read
 abbrev pub is_of_output : Failure → Bool
@@ -42,16 +59,18 @@ is_of_output (failures.Unwritable error) = true
 is_of_output failures.Closed = true
 is_of_output failure = false
 
--- the output cannot be written
+-- the output cannot be written; a closed pipe has a failure of its own
 abbrev pub IsOfWriting : Failure → Type 0
-IsOfWriting (failures.Unwritable error) = Unit {0}
+IsOfWriting (failures.Unwritable error) = is_closed error ≡ false
 IsOfWriting failures.Closed = Unit {0}
 IsOfWriting failure = ⊥
 
--- data for the file beside its picture cannot be read
-abbrev pub IsOfExtra : Failure → Type 0
-IsOfExtra (failures.ExtraUnreadable extra error) = Unit {0}
-IsOfExtra failure = ⊥
+-- These data for the file beside its picture are asked for, and reading them fails by an error.
+pub record IsExtraUnread (wanted : Bool) (extra : Extra) (Unread : Error → Type 0) (failure : Failure) : Type 0 where
+  pub error : Error
+  pub is : failure ≡ failures.ExtraUnreadable extra error
+  pub asked : wanted ≡ true
+  pub unread : Unread error
 
 -- the name of what fails: of where other data are read, of the output, or of the picture
 abbrev pub subject : Options → Failure → List ℕ
@@ -59,10 +78,6 @@ subject options (failures.ExtraUnreadable extra error) = path_of options.paths e
 subject options failures.ProfileSize = path_of options.paths extras.Profile
 subject options failure = if is_of_output failure then options.output_name.now else options.input.now
 
--- a line of the program about what has this name
-abbrev pub line_about : List ℕ → List ℕ → List ℕ
-line_about name text = codes "jxlenc: " ++ name ++ codes ": " ++ text ++ codes "\n"
-
--- the line that says why the output of a name does not get the encoded picture
-abbrev pub failure_line : List ℕ → Failure → Option (List ℕ)
-failure_line name failure = option_map (line_about name) (failure_text failure)
+-- the words of the line on a failure of what has this name, before its cause
+abbrev pub failure_line : List ℕ → Failure → List ℕ
+failure_line name failure = codes "jxlenc: " ++ (name ++ (codes ": " ++ failure_text failure))

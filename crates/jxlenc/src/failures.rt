@@ -1,13 +1,13 @@
 //! Why the output does not get the encoded picture.
 
 ghost use Rattle.std.specs.Prelude.{◌≡◌};
-ghost use Rattle.jxlenc.specs.Failures.{IsOfWriting, failure_text, picture_text as the_picture_text};
+ghost use Rattle.jxlenc.specs.Failures.{IsOfWriting, cause_of, failure_of_write, failure_text, is_silent as the_silent, picture_text as the_picture_text};
 
 use crate::reason::png_text;
+use jxl_command::errors::is_closed;
 use jxl_command::extra::Extra;
 use jxl_netpbm_read::error::NetpbmError;
 use jxl_png_read::error::ReadError;
-use std::io::ErrorKind;
 use std::{fmt, io};
 
 /// Why the output does not get the encoded picture.
@@ -36,12 +36,35 @@ pub enum Failure {
 impl Failure {
     /// Why the output cannot be written, by the error of a write.
     pub fn of_write(error: io::Error) -> Failure
-        ensures { IsOfWriting result }
+        ensures value { result ≡ failure_of_write error }
+        ensures of_writing { IsOfWriting result }
     {
-        if error.kind() == ErrorKind::BrokenPipe {
+        if is_closed(&error) {
             Failure::Closed
         } else {
             Failure::Unwritable(error)
+        }
+    }
+
+    /// The error of the system that is its cause, if one is.
+    pub fn cause(&self) -> Option<io::Error>
+        ensures { result ≡ cause_of self.now }
+    {
+        match *self {
+            Failure::Unreadable(error)
+            | Failure::ExtraUnreadable(_, error)
+            | Failure::Unwritable(error) => Some(error),
+            _ => None,
+        }
+    }
+
+    /// Whether the output is a closed pipe, of which nothing is said.
+    pub fn is_silent(&self) -> bool
+        ensures { result ≡ the_silent self.now }
+    {
+        match *self {
+            Failure::Closed => true,
+            _ => false,
         }
     }
 }
@@ -64,15 +87,16 @@ fn picture_text(error: NetpbmError) -> &'static str
     }
 }
 
+/// Why the output does not get the encoded picture, without what the system says of its cause.
 impl fmt::Display for Failure {
-    ghost output = { failure_text };
+    ghost use Rattle.std.specs.Prelude.{Some};
+
+    ghost output = { λ failure. Some (failure_text failure) };
 
     #[tactic(auto, unfolding(crate::specs::Failures::failure_text))]
     fn fmt<W: fmt::Write>(&self, f: &mut fmt::Formatter<W>) -> fmt::Result {
         match *self {
-            Failure::Unreadable(error) | Failure::ExtraUnreadable(_, error) => {
-                write!(f, "cannot read: {error}")
-            }
+            Failure::Unreadable(_) | Failure::ExtraUnreadable(..) => f.write_str("cannot read"),
             Failure::Picture(error) => f.write_str(picture_text(error)),
             Failure::Png(error) => f.write_str(png_text(error)),
             Failure::ProfileSize => f.write_str("a profile of 0 bytes or above 268435456"),
@@ -80,7 +104,7 @@ impl fmt::Display for Failure {
             Failure::Terminal => {
                 f.write_str("a terminal; -o OUT writes to a file, -o - to standard output")
             }
-            Failure::Unwritable(error) => write!(f, "cannot write: {error}"),
+            Failure::Unwritable(_) => f.write_str("cannot write"),
             Failure::Closed => f.write_str("a pipe that was closed"),
         }
     }

@@ -14,15 +14,15 @@ use crate::options::Options;
 use crate::run::{report, run};
 use jxl_command::end::End;
 use jxl_command::extra::{Extra, Extras};
-use jxl_command::input::InputFile;
+use jxl_command::input::{InputFile, InputStream};
 use jxl_command::meter::Meter;
 use jxl_command::output::OutputFile;
 use std::env;
-use std::io::{IsTerminal, Read};
+use std::io::IsTerminal;
 use std::process::ExitCode;
 
 // Encodes the picture that the reader gives.
-fn carry_out<R: Read>(rt: &HostRuntime, options: Options<'_>, input: &mut R) -> End {
+fn carry_out<R: InputStream>(rt: &HostRuntime, options: Options<'_>, input: &mut R) -> End {
     let alloc = rt.alloc();
     let errors = &mut rt.stderr();
     let paths = options.paths;

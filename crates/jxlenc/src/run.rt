@@ -1,22 +1,25 @@
 //! The program over readers and two writers.
 
-ghost use Rattle.std.specs.Prelude.{◌≡◌, ◌≤◌, is_some, IfErr, IfOk, IfSome, IsTrue, None, OnOk, false};
+ghost use Rattle.std.specs.Prelude.{◌≡◌, ◌≤◌, is_some, IfErr, IfOk, None, OnOk, false};
 ghost use Rattle.std.specs.Option.{option_map, option_or};
-ghost use Rattle.std.specs.Io.KnownBytes.{Appends};
+ghost use Rattle.std.specs.declared.io.Error.{Error};
 ghost use Rattle.jxl_codestream.specs.FrontParts.{bytes_if};
-ghost use Rattle.jxl_command.specs.Streams.{IsReported};
+ghost use Rattle.jxl_command.specs.Extras.{has_path, stream_of};
+ghost use Rattle.jxl_command.specs.Streams.{IsReportedLine};
+ghost use Rattle.jxl_command.specs.declared.extra.Extra.{Extra as TheExtra};
 ghost use Rattle.jxl_encode.specs.Codable.{IsCodable};
 ghost use Rattle.jxl_image_header.specs.Images.{image_of};
 ghost use Rattle.jxl_picture.specs.Pictures.{IsWhole};
-ghost use Rattle.jxlenc.specs.Encodings.{AreGiven, InputFails, IsDone, IsEncodingOf, IsFailed, IsGiven, IsMade, IsOrientedBy, MakingFails, ProfileFails, image_with};
-ghost use Rattle.jxlenc.specs.Failures.{IsOfExtra, failure_line, is_of_output};
+ghost use Rattle.jxlenc.specs.Encodings.{AreGiven, ExtraFails, InputFails, IsDone, IsEncodingOf, IsFailed, IsGiven, IsMade, IsOrientedBy, IsTold, MakingFails, ProfileFails, image_with};
+ghost use Rattle.jxlenc.specs.Failures.{IsExtraUnread, cause_of, failure_line, is_of_output};
 
 use crate::failures::Failure;
 use crate::options::Options;
 use crate::source::{Source, source_of_input};
 use jxl_command::end::End;
+use jxl_command::errors::{ErrorStream, put_line};
 use jxl_command::extra::{Extra, Extras};
-use jxl_command::input::read_whole;
+use jxl_command::input::InputStream;
 use jxl_command::meter::Line;
 use jxl_command::output::{Flush, write_flushed};
 use jxl_encode::codable::is_codable_profile;
@@ -27,7 +30,6 @@ use jxl_encode::progress::Progress;
 use jxl_exif::orientation::{orientation_of, set_upright};
 use jxl_picture::picture::Picture;
 use std::alloc::Global;
-use std::io::{Read, Write};
 
 /// What the file is to hold beside the picture's samples.
 #[derive(Drop)]
@@ -38,7 +40,7 @@ pub struct Metadata {
 }
 
 // Reads these data, if they are wanted.
-fn extra_if<F: Read>(
+fn extra_if<F: InputStream>(
     alloc: Global,
     input: &mut F,
     wanted: bool,
@@ -46,25 +48,26 @@ fn extra_if<F: Read>(
 ) -> Result<Option<Vec<u8>>, Failure>
     ensures ok { IfOk result (λ v. IsGiven wanted (F.remaining input.old) (F.remaining input.new) (input.new ≡ input.old)
         (bytes_if v)) }
-    ensures err { IfErr result IsOfExtra }
+    ensures err { IfErr result (IsExtraUnread wanted extra (F.fails_by input.new)) }
 {
     if !wanted {
         return Ok(None);
     }
-    match read_whole(alloc, input) {
+    match input.read_rest(alloc) {
         Ok(bytes) => Ok(Some(bytes)),
         Err(error) => Err(Failure::ExtraUnreadable(extra, error)),
     }
 }
 
 // Reads what the file is to hold beside the picture.
-fn metadata_given<F: Read>(
+fn metadata_given<F: InputStream>(
     alloc: Global,
     options: &Options<'_>,
     extras: &mut Extras<F>,
 ) -> Result<Metadata, Failure>
     ensures ok { IfOk result (AreGiven F.remaining options.now extras.old extras.new) }
-    ensures err { IfErr result IsOfExtra }
+    ensures err { IfErr result (λ failure. (extra : TheExtra) × IsExtraUnread (has_path options.now.paths extra) extra
+        (F.fails_by (stream_of extras.new extra)) failure) }
 {
     let paths = options.paths;
     let profile = extra_if(
@@ -143,7 +146,7 @@ fn file_of_picture<P: Progress>(
 }
 
 // The file that is asked for, before anything is written.
-fn file_asked<R: Read, F: Read, P: Progress + Line>(
+fn file_asked<R: InputStream, F: InputStream, P: Progress + Line>(
     alloc: Global,
     options: &Options<'_>,
     input: &mut R,
@@ -152,10 +155,11 @@ fn file_asked<R: Read, F: Read, P: Progress + Line>(
 ) -> Result<Vec<u8>, Failure>
     ensures ok { IfOk result (λ v. IsMade options.now.boxed (R.remaining input.old) (R.remaining input.new)
         (AreGiven F.remaining options.now extras.old extras.new) v.items) }
-    ensures err { IfErr result (MakingFails (R.remaining input.old) (R.remaining input.new)
+    ensures err { IfErr result (MakingFails (R.fails_by input.new) (ExtraFails F.fails_by options.now extras.new)
+        (R.remaining input.old) (R.remaining input.new)
         (AreGiven F.remaining options.now extras.old extras.new)) }
 {
-    let bytes = match read_whole(alloc, input) {
+    let bytes = match input.read_rest(alloc) {
         Ok(bytes) => bytes,
         Err(error) => return Err(Failure::Unreadable(error)),
     };
@@ -173,7 +177,7 @@ fn file_asked<R: Read, F: Read, P: Progress + Line>(
 }
 
 // Reads the picture, and writes its file.
-fn carry_out<R: Read, F: Read, W: Flush, P: Progress + Line>(
+fn carry_out<R: InputStream, F: InputStream, W: Flush, P: Progress + Line>(
     alloc: Global,
     options: &Options<'_>,
     input: &mut R,
@@ -183,7 +187,8 @@ fn carry_out<R: Read, F: Read, W: Flush, P: Progress + Line>(
 ) -> Result<(), Failure>
     ensures done { OnOk result (IsDone options.now.boxed (R.remaining input.old) (R.remaining input.new)
         (AreGiven F.remaining options.now extras.old extras.new) (W.contents output.old) (W.contents output.new)) }
-    ensures failed { IfErr result (InputFails options.now.boxed (R.remaining input.old) (R.remaining input.new)
+    ensures failed { IfErr result (InputFails (R.fails_by input.new) (ExtraFails F.fails_by options.now extras.new)
+        options.now.boxed (R.remaining input.old) (R.remaining input.new)
         (AreGiven F.remaining options.now extras.old extras.new) (W.contents output.old) (W.contents output.new)) }
     ensures flushed { OnOk result (W.is_flushed output.new) }
     ensures kept { IfErr result (λ failure. is_of_output failure ≡ false → output.new ≡ output.old) }
@@ -195,18 +200,28 @@ fn carry_out<R: Read, F: Read, W: Flush, P: Progress + Line>(
     }
 }
 
-/// Writes the line of a failure about what has this name, as far as it can be written, and ends with status 1. Of a
-/// closed pipe nothing is written.
-pub fn report<E: Write>(errors: &mut E, name: &str, failure: Failure) -> End
-    ensures status { result.status ≡ 1 }
-    ensures line { IfSome (failure_line name.now failure) (λ line. IsTrue result.reported
-        → Appends (E.contents errors.old) (E.contents errors.new) line) }
-    ensures silent { failure ≡ Failure.Closed → errors.new ≡ errors.old }
+// Writes the line of a failure about what has this name. It returns whether all of it was written.
+fn put_failure<E: ErrorStream>(errors: &mut E, name: &str, failure: Failure) -> bool
+    ensures { IsReportedLine result (E.contents errors.old) (E.contents errors.new) (E.has_failed errors.new)
+        (cause_of failure) (failure_line name.now failure) }
 {
-    let reported = match failure {
-        Failure::Closed => false,
-        _ => writeln!(errors, "jxlenc: {name}: {failure}").is_ok(),
-    };
+    let cause = failure.cause();
+    put_line(errors, format_args!("jxlenc: {name}: {failure}"), cause)
+}
+
+/// Writes the line of a failure about what has this name, and ends with status 1. Of a closed pipe nothing is written.
+pub fn report<E: ErrorStream>(errors: &mut E, name: &str, failure: Failure) -> End
+    ensures status { result.status ≡ 1 }
+    ensures told { IsTold name.now failure (errors.new ≡ errors.old) (IsReportedLine result.reported
+        (E.contents errors.old) (E.contents errors.new) (E.has_failed errors.new)) }
+{
+    if failure.is_silent() {
+        return End {
+            status: 1,
+            reported: true,
+        };
+    }
+    let reported = put_failure(errors, name, failure);
     End {
         status: 1,
         reported,
@@ -217,10 +232,10 @@ pub fn report<E: Write>(errors: &mut E, name: &str, failure: Failure) -> End
 /// that are asked for, in place of those of the input, and writes a JPEG XL file of them to `output`. The picture has
 /// the orientation that its Exif data say; those of the file say 1. It returns the status to end with: 0 where `output`
 /// got the whole file, and has passed it on, and `errors` got nothing; else 1, and `errors` got the line of a failure
-/// that holds, unless the output is a pipe that was closed. Nothing is written before the whole file is encoded; after a
-/// failed write the output holds a beginning of the file. `progress` is called after each way to code the picture that
-/// was tried.
-pub fn run<R: Read, F: Read, W: Flush, E: Write, P: Progress + Line>(
+/// that holds, unless a write to it failed, or the output is a pipe that was closed. Nothing is written before the whole
+/// file is encoded; after a failed write the output holds a beginning of the file. `progress` is called after each way
+/// to code the picture that was tried.
+pub fn run<R: InputStream, F: InputStream, W: Flush, E: ErrorStream, P: Progress + Line>(
     alloc: Global,
     options: Options<'_>,
     input: &mut R,
@@ -234,15 +249,16 @@ pub fn run<R: Read, F: Read, W: Flush, E: Write, P: Progress + Line>(
         (AreGiven F.remaining options.entry extras.old extras.new) (W.contents output.old) (W.contents output.new) }
     ensures flushed { result.status ≡ 0 → W.is_flushed output.new }
     ensures silent { result.status ≡ 0 → errors.new ≡ errors.old }
-    ensures failed { result.status ≡ 1 → IsFailed options.entry (R.remaining input.old) (R.remaining input.new)
-        (AreGiven F.remaining options.entry extras.old extras.new) (W.contents output.old) (W.contents output.new)
-        (output.new ≡ output.old)
-        (λ line. IfSome line (IsReported result.reported (E.contents errors.old) (E.contents errors.new))) }
+    ensures failed { result.status ≡ 1 → IsFailed options.entry (InputFails (R.fails_by input.new)
+        (ExtraFails F.fails_by options.entry extras.new) options.entry.boxed (R.remaining input.old)
+        (R.remaining input.new) (AreGiven F.remaining options.entry extras.old extras.new) (W.contents output.old)
+        (W.contents output.new)) (output.new ≡ output.old) (errors.new ≡ errors.old) (IsReportedLine result.reported
+        (E.contents errors.old) (E.contents errors.new) (E.has_failed errors.new)) }
 {
     match carry_out(alloc, &options, input, extras, output, progress) {
         Ok(()) => End {
             status: 0,
-            reported: false,
+            reported: true,
         },
         Err(failure) => report(errors, options.name_of(failure), failure),
     }

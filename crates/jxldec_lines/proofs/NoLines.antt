@@ -1,0 +1,64 @@
+-- Where nothing is left out there is no line.
+use Rattle.std.proofs.Common.{◌≡◌, ℕ, List, [], ◌++◌, ◌||◌, Bool, true, false, not, length, Option, Some, None, refl, ap, sym, ◌∙◌}
+use Rattle.std.specs.Prelude.{◌==◌, if◌then◌else◌, is_some}
+use Rattle.jxl_container.specs.declared.error.FileError.{FileError as BoxError}
+use Rattle.jxldec_lines.specs.Losses.{has_loss, line_if, loss_lines, unsaid_lines}
+use Rattle.jxldec_lines.specs.Warnings.{channel_line, frames_line, has_more, later_line, left_out_lines, warning_lines}
+use Rattle.jxldec_lines.specs.declared.loss.Loss.{Loss}
+use Rattle.jxldec_lines.specs.declared.loss.Loss.TheVariants.{Nothing, Profile, Unsaid}
+use Rattle.jxldec_lines.specs.declared.warning.FrameCount.{FrameCount}
+
+if_empty : (b : Bool) (xs : List ℕ) → b ≡ true → (if b then [] else xs) ≡ []
+if_empty true xs e = refl
+if_empty false xs e = let bad : ⊥ = cc in absurd bad
+
+no_channels : (name others : List ℕ) → (length others == 0) ≡ true → channel_line name others ≡ []
+unfolding channel_line
+no_channels name others e = if_empty (length others == 0) _ e
+
+four : (name a b c d : List ℕ) (f g i m : Bool) → (f || (g || (i || m))) ≡ false → line_if name f a ++ (line_if name g b ++ (line_if name i c ++ line_if name m d)) ≡ []
+unfolding line_if
+four name a b c d false false false false e = refl
+four name a b c d true g i m e = let bad : ⊥ = cc in absurd bad
+four name a b c d false true i m e = let bad : ⊥ = cc in absurd bad
+four name a b c d false false true m e = let bad : ⊥ = cc in absurd bad
+four name a b c d false false false true e = let bad : ⊥ = cc in absurd bad
+
+no_loss : (name : List ℕ) (loss : Loss) → has_loss loss ≡ false → loss_lines name loss ≡ []
+unfolding loss_lines unsaid_lines
+no_loss name Nothing e = refl
+no_loss name Profile e = let bad : ⊥ = cc in absurd bad
+no_loss name (Unsaid losses) e = four name _ _ _ _ losses.function losses.coordinates losses.intent losses.multiplied e
+
+if_none : (b : Bool) (xs : List ℕ) → b ≡ false → (if b then xs else []) ≡ []
+if_none false xs e = refl
+if_none true xs e = let bad : ⊥ = cc in absurd bad
+
+no_frames : (name : List ℕ) (frames : FrameCount) → has_more frames ≡ false → frames_line name frames ≡ []
+unfolding frames_line
+no_frames name frames e = if_none (has_more frames) _ e
+
+no_later : (name : List ℕ) (later : Option BoxError) → later ≡ None → later_line name later ≡ []
+unfolding later_line
+no_later name None e = refl
+no_later name (Some error) e = let bad : ⊥ = cc in absurd bad
+
+empty : (a b c d : List ℕ) → a ≡ [] → b ≡ [] → c ≡ [] → d ≡ [] → (a ++ b) ++ (c ++ d) ≡ []
+empty a b c d ea eb ec ed = ap (λ (x : List ℕ). (x ++ b) ++ (c ++ d)) ea ∙ ap (λ (x : List ℕ). x ++ (c ++ d)) eb ∙ ap (λ (x : List ℕ). x ++ d) ec ∙ ed
+
+pub no_lines : (name others : List ℕ) (loss : Loss) (frames : FrameCount) (later : Option BoxError) → (length others == 0) ≡ true → has_loss loss ≡ false → has_more frames ≡ false → later ≡ None → warning_lines name others loss frames later ≡ []
+unfolding left_out_lines
+no_lines name others loss frames later channels meant shown none =
+    empty (channel_line name others) (loss_lines name loss) (frames_line name frames) (later_line name later)
+    (no_channels name others channels) (no_loss name loss meant) (no_frames name frames shown) (no_later name later none)
+
+none_so : (later : Option BoxError) (b : Bool) → is_some later ≡ not b → b ≡ true → later ≡ None
+none_so None b is tested = refl
+none_so (Some error) true is tested = let bad : ⊥ = cc in absurd bad
+none_so (Some error) false is tested = let bad : ⊥ = cc in absurd bad
+
+-- the same, by the tests of the four
+pub no_lines_so : (name others channels : List ℕ) (loss : Loss) (frames : FrameCount) (later : Option BoxError) (empty line more none : Bool) → channels ≡ others → empty ≡ (length channels == 0) → empty ≡ true →
+    line ≡ has_loss loss → line ≡ false → more ≡ has_more frames → more ≡ false → is_some later ≡ not none → none ≡ true → warning_lines name others loss frames later ≡ []
+no_lines_so name others channels loss frames later empty line more none text is_empty tested is_line no_line is_more no_more is_none without =
+    no_lines name others loss frames later (ap (λ (xs : List ℕ). length xs == 0) (sym text) ∙ sym is_empty ∙ tested) (sym is_line ∙ no_line) (sym is_more ∙ no_more) (none_so later none is_none without)
