@@ -114,7 +114,7 @@ expect 0 - ball.jxl -o a.b/c
 begins a.b/c P5
 expect 0 - ball.jxl -o .pam
 begins .pam P5
-expect 1 'jxldec: a.bmp: no format has this ending; there are .png, .pgm, .ppm, .pnm, .pam, .pfm and .text' ball.jxl -o a.bmp
+expect 1 'jxldec: a.bmp: no format has this ending; there are .png, .apng, .pgm, .ppm, .pnm, .pam, .pfm and .text' ball.jxl -o a.bmp
 absent a.bmp
 expect 0 - ball.jxl -o a.PNG
 begins a.PNG "$(printf '\211PNG')"
@@ -266,7 +266,7 @@ absent cut1.text
 expect 1 'jxldec: none/0.pgm: cannot write: No such file or directory (os error 2)' ball.jxl --frames 'none/%d.pgm'
 expect 1 'jxldec: frames.jxl: this format cannot hold the picture; --format text can' frames.jxl --frames 'grey%d.pgm'
 absent grey0.pgm
-expect 1 'jxldec: bmp%d.bmp: no format has this ending; there are .png, .pgm, .ppm, .pnm, .pam, .pfm and .text' frames.jxl --frames 'bmp%d.bmp'
+expect 1 'jxldec: bmp%d.bmp: no format has this ending; there are .png, .apng, .pgm, .ppm, .pnm, .pam, .pfm and .text' frames.jxl --frames 'bmp%d.bmp'
 expect 1 'jxldec: other.jxl: not a JPEG XL file' other.jxl --frames 'other%d.pgm'
 expect 1 'jxldec: lossy.jxl: not supported: a lossy picture (XYB)' lossy.jxl --frames 'lossy%d.pgm'
 for name in plain.png %s.png %d%d.png %00d.png %10d.png %0d.png %03d-%d.png %3d.png %D.png; do
@@ -277,6 +277,76 @@ for option in --info '-o x.png' '--frame 1' '--icc x' '--exif x' '--xmp x'; do
     expect 2 'error: the argument ' frames.jxl --frames 'no%d.png' $option
 done
 absent no0.png
+
+# The animation as an APNG file: acTL of three frames, played without end; fcTL of each, for 7/100, 1/5 and 33/100 of a second; and of
+# each the data that its PNG file has.
+hex() {
+    od -An -v -tx1 "$1" | tr -d ' \n'
+}
+# Judges that a file has these bytes: holds FILE HEX.
+holds() {
+    case $(hex "$1") in
+        *"$2"*) judge 0 '' ;;
+        *) judge 1 "$1 does not have the bytes $2" ;;
+    esac
+}
+# The compressed data of a PNG file: all of its IDAT, which comes before IEND.
+data_of() {
+    bytes=$(hex "$1")
+    bytes=${bytes#*49444154}
+    echo "${bytes%????????0000000049454e44ae426082}"
+}
+expect 0 - frames.jxl -o each.apng
+begins each.apng "$(printf '\211PNG')"
+holds each.apng 000000086163544c0000000300000000ceedbac0
+holds each.apng 0000001a6663544c0000000000000003000000020000000000000000000700640000f2bf4fd2
+holds each.apng 0000001a6663544c0000000100000003000000020000000000000000000100050000af99f1b1
+holds each.apng 0000001a6663544c0000000300000003000000020000000000000000002100640000cadbac4b
+holds each.apng "49444154$(data_of wide000.png)"
+holds each.apng "6664415400000002$(data_of wide001.png)"
+holds each.apng "6664415400000004$(data_of wide002.png)"
+holds each.apng 0000000049454e44ae426082
+expect 0 - frames.jxl -o each.APNG -q
+cmp -s each.apng each.APNG
+judge $? '.APNG is not what .apng is'
+expect 0 - frames.jxl --format apng
+cmp -s each.apng out
+judge $? '--format apng is not what .apng is'
+expect 0 - frames.jxl --frame 1 --format apng
+cmp -s wide001.png out
+judge $? '--frame 1 --format apng is not the PNG file of that frame'
+expect 0 - frames.jxl --frames 'one%d.apng'
+cmp -s wide002.png one2.apng
+judge $? '--frames does not write a PNG file to .apng'
+expect 0 "$more" frames.jxl --format png -o first.apng
+cmp -s wide000.png first.apng
+judge $? '--format png to .apng is not the PNG file of the first frame'
+expect 0 - ball.jxl --format png -o still.png
+expect 0 - ball.jxl -o still.apng
+cmp -s still.png still.apng
+judge $? 'a still picture as APNG is not its PNG file'
+expect 0 - frames.jxl --info --format apng
+begins out 'JPEG XL animation'
+expect 1 'jxldec: frames_cut.jxl: section 0 is truncated' frames_cut.jxl -o cut.apng
+absent cut.apng
+expect 1 'jxldec: lossy.jxl: not supported: a lossy picture (XYB)' lossy.jxl --format apng
+expect 1 'jxldec: other.jxl: not a JPEG XL file' other.jxl -o other.apng
+expect 1 'jxldec: folder: cannot write: Is a directory (os error 21)' frames.jxl --format apng -o folder
+# An animation with a profile: the picture of profile.jxl twice.
+printf '\377\012\103\004\001\010\313\245\302\200\204\171\000\064\247\144\200\213\063\257\343\113\155\365\005\355\163\307\102\013\134\062\045\310\235\216\165\014\060\263\111\314\154\122\127\127\123\353\202\047\002\000\240\365\273\376\223\371\000\003\376\027\226\126\174\107\233\054\056\165\235\210\143\330\100\131\332\124\323\122\074\100\310\051\300\103\331\320\074\100\110\331\127\323\124\326\262\315\217\035\336\273\304\063\354\340\053\154\256\154\352\051\052\035\360\144\345\344\253\051\355\155\250\154\031\020\031\230\030\370\163\252\275\125\026\100\247\141\274\143\055\000\010\002\036\000\000\050\001\113\050\044\306\267\025\024\114\061\122\174\336\112\362\110\107\214\301\032\061\130\061\006\301\263\145\161\004\260\073\146\373\153\316\153\171\220\200\177\036\044\000\000\325\070\376\001\046\015\300\147\064\077\000\370\330\376\007\104\272\000\340\262\260\037\000\021\127\374\243\070\002\200\003\010\002\036\004\000\050\001\113\050\044\306\267\025\024\114\061\122\174\336\112\362\110\107\214\301\032\061\130\061\006\301\263\145\161\004\260\073\146\373\153\316\153\171\220\200\177\036\044\000\000\325\070\376\001\046\015\300\147\064\077\000\370\330\376\007\104\272\000\340\262\260\037\000\021\127\374\243\070\002\200\003' > moving.jxl
+expect 0 - moving.jxl -o moving.apng --icc moving.icc
+expect 0 - profile.jxl --format png -o still.png --icc still.icc
+cmp -s moving.icc still.icc
+judge $? 'the profile of an animation is not the one that it has'
+holds moving.apng 69434350
+holds moving.apng "6664415400000002$(data_of still.png)"
+expect 0 - moving.jxl --icc again.icc
+cmp -s again.icc still.icc
+judge $? 'without -o, --icc does not write the profile of an animation'
+expect 1 'jxldec: frames.jxl: no colour profile' frames.jxl -o none.apng --icc none.icc
+expect 1 'jxldec: frames.jxl: no Exif data' frames.jxl -o none.apng --exif none.exif
+absent none.apng
+absent none.icc
 
 # Boxes after the codestream that have an error: the picture, and a warning. One before it is an error.
 boxed() {
@@ -329,6 +399,14 @@ for name in turn upright broken; do
     "$program" $name.jxl -o $name.ppm && cmp -s $name.ppm whole.ppm
     judge $? "the picture of $name.jxl is another one"
 done
+
+# Those of an animation are also in the APNG file, once.
+{ boxed; printf '\0\0\0\146jxlc'; cat frames.jxl; printf '\0\0\0\046Exif\0\0\0\0'; cat turn.exif; } > turning.jxl
+expect 0 - turning.jxl -o turning.apng --exif out.exif
+cmp -s turn.exif out.exif
+judge $? '--exif gives other data than those of an animation'
+holds turning.apng "65584966$(hex upright.exif)"
+holds turning.apng 000000086163544c0000000300000000ceedbac0
 
 # The profile, the Exif data and the XMP data: each in a file of its own, with the picture or without it.
 { boxed; printf '\0\0\0\021Exif\0\0\0\0II*\0\0'; whole; printf '\0\0\0\014xml <x/>'; } > data.jxl

@@ -20,8 +20,9 @@ use Rattle.jxl_codestream.specs.declared.error.FrontError.TheVariants as fronts
 use Rattle.jxl_codestream.specs.declared.front.Frames.{Frames}
 use Rattle.jxl_info.specs.Headers.{HeadersOfFile, IsReason, IsSupported}
 use Rattle.jxl_info.specs.Reasons.{is_refusal}
-use Rattle.jxl_lossless.specs.Files.{IsReadOf, error_of, header_of, reason_of, upright}
+use Rattle.jxl_lossless.specs.Files.{IsReadOf, error_of, header_of, is_before_frames, reason_of, upright}
 use Rattle.jxl_lossless.specs.Pictures.{FileFails, IsPictureOfFile}
+use Rattle.jxl_lossless.specs.declared.error.FileError.{FileError}
 use Rattle.jxl_lossless.specs.declared.error.FileError.TheVariants as files
 use Rattle.jxl_lossless.specs.declared.file.JxlFile.{JxlFile}
 use Rattle.jxl_netpbm.specs.Formats.{suits, usual, usual_whole}
@@ -34,8 +35,8 @@ use Rattle.jxl_picture.specs.declared.picture.Picture.{Picture}
 use Rattle.jxl_png_write.specs.Headers.{alpha_of, alpha_suits, is_side, is_whole, suits_png}
 use Rattle.jxldec.specs.Contents.{content_text}
 use Rattle.jxldec_lines.specs.Formats.{chosen, suits_output}
-use Rattle.jxldec.specs.Layers.{has_frames, is_of_layers}
-use Rattle.jxldec.specs.Texts.{FramesHaveNoFormat, HasNoFormat, InfoFails, IsAboveLimits, IsFound, IsTextOf, IsTextOfFile, IsTextOfFrame}
+use Rattle.jxldec.specs.Layers.{has_frames, is_layers_error, is_of_layers, lists_frames}
+use Rattle.jxldec.specs.Texts.{FramesHaveNoFormat, HasNoFormat, IsAboveLimits, IsFound, IsTextOf, IsTextOfFile, IsTextOfFrame, MetadataFails}
 use Rattle.jxldec_lines.specs.declared.failures.Failure.{Failure}
 use Rattle.jxldec_lines.specs.declared.failures.Failure.TheVariants as failures
 use Rattle.jxl_command.specs.declared.extra.Extra.TheVariants as extras
@@ -133,6 +134,37 @@ module _ (limits : Limits) (file : List ℕ) (read : JxlFile) (is : IsReadOf lim
   pub front_fails : (error : FrontError) → reason_of read ≡ Some error → FileFails limits file (files.Front error)
   front_fails error reason = (stream_of read.stream, is.found, refused limits (stream_of read.stream) (header_of read) read.front.frames is.front.frames error reason)
 
+-- an error before the frames is not that there are several, or layers
+pub before_frames : (error : FileError) → is_before_frames error ≡ true → is_layers_error error ≡ false
+before_frames (files.File e) before = refl
+before_frames (files.Front fronts.TooLong) before = refl
+before_frames (files.Front (fronts.ImageHeader e)) before = refl
+before_frames (files.Front (fronts.Image e)) before = let bad : ⊥ = cc in absurd bad
+before_frames (files.Front fronts.TooLarge) before = refl
+before_frames (files.Front (fronts.Profile e)) before = refl
+before_frames (files.Front (fronts.FrameHeader e)) before = refl
+before_frames (files.Front (fronts.Frame e)) before = let bad : ⊥ = cc in absurd bad
+before_frames (files.Front fronts.FramesTooLarge) before = refl
+before_frames (files.Front fronts.TooManySections) before = refl
+before_frames (files.Front (fronts.Contents e)) before = refl
+before_frames (files.Front (fronts.TruncatedSection n)) before = refl
+before_frames (files.Patches e) before = refl
+before_frames (files.Start e) before = refl
+before_frames (files.Tree e) before = refl
+before_frames files.TooManyDecisions before = refl
+before_frames (files.Samples e) before = refl
+before_frames files.OutOfMemory before = refl
+
+-- it may be that of frames that the headers do not list
+pub unlisted : (reason : Option FrontError) → lists_frames reason ≡ false → (error : FrontError) → reason ≡ Some error → is_of_layers error ≡ false
+unlisted None none error e = let bad : ⊥ = cc in absurd bad
+unlisted (Some other) none error e = let same : other ≡ error = cc in subst (λ (x : FrontError). is_of_layers x ≡ false) same none
+
+-- headers that list frames have some; where there is no reason, too
+pub listed_frames : (reason : Option FrontError) → lists_frames reason ≡ true → has_frames reason ≡ true
+listed_frames (Some error) e = e
+listed_frames None e = refl
+
 -- a format suits the picture as it is shown, too
 same_suits : (format : Format) (image : Image) → suits format (upright image) ≡ suits format image
 same_suits Pgm image = refl
@@ -207,8 +239,8 @@ found_so false Has found here has is = is
 
 -- data that are missing are a failure
 module _ (limits : Limits) (file : List ℕ) (found : Option (List ℕ)) (failure : Failure) (none : found ≡ None) where
-  pub exif_missing : HasExif file found → failure ≡ failures.Missing extras.Exif → InfoFails limits file failure
-  exif_missing has e = subst (λ (f : Failure). InfoFails limits file f) (sym e) (subst (λ (o : Option (List ℕ)). HasExif file o) none has)
+  pub exif_missing : HasExif file found → failure ≡ failures.Missing extras.Exif → MetadataFails limits file failure
+  exif_missing has e = subst (λ (f : Failure). MetadataFails limits file f) (sym e) (subst (λ (o : Option (List ℕ)). HasExif file o) none has)
 
-  pub xmp_missing : HasXmp file found → failure ≡ failures.Missing extras.Xmp → InfoFails limits file failure
-  xmp_missing has e = subst (λ (f : Failure). InfoFails limits file f) (sym e) (subst (λ (o : Option (List ℕ)). HasXmp file o) none has)
+  pub xmp_missing : HasXmp file found → failure ≡ failures.Missing extras.Xmp → MetadataFails limits file failure
+  xmp_missing has e = subst (λ (f : Failure). MetadataFails limits file f) (sym e) (subst (λ (o : Option (List ℕ)). HasXmp file o) none has)

@@ -22,7 +22,7 @@ has_layers limits file asked (failures.File files.TooManyDecisions) h l = let ba
 has_layers limits file asked (failures.File (files.Samples e)) h l = let bad : ⊥ = cc in absurd bad
 has_layers limits file asked (failures.File files.OutOfMemory) h l = let bad : ⊥ = cc in absurd bad
 has_layers limits file asked (failures.TooLarge size extra most) h l = let bad : ⊥ = cc in absurd bad
-has_layers limits file asked (failures.Missing extra) h l = let bad : ⊥ = cc in absurd bad
+has_layers limits file asked (failures.Missing extra) h l = absurd h
 has_layers limits file asked failures.OutOfMemory h l = let bad : ⊥ = cc in absurd bad
 has_layers limits file asked failures.NoFormat h l = let bad : ⊥ = cc in absurd bad
 has_layers limits file asked (failures.Unreadable e) h l = absurd h
@@ -40,6 +40,6 @@ module _ (limits : Limits) (file : List ℕ) (asked : Option OutputFormat) (has 
   first_text (Ok o) text frames = inr (has, text, frames)
   first_text (Err e) text frames = tt
 
-  pub first_fails : (r : Result Output Failure) → IfErr r (FrameTextFails limits file 0 asked) → IfErr r (PictureFails limits file asked)
-  first_fails (Ok o) h = tt
-  first_fails (Err e) h = inr (has, h)
+  pub first_picture_fails : (r : Result Output Failure) → IfErr r (FrameTextFails limits file 0 asked) → IfErr r (PictureFails limits file asked)
+  first_picture_fails (Ok o) h = tt
+  first_picture_fails (Err e) h = inr (has, h)

@@ -1,3 +1,4 @@
+pub mod Animated
 pub mod FileReading
 pub mod Written
 pub mod Sources

@@ -32,21 +32,21 @@ use Rattle.jxldec.specs.declared.frames.At.TheVariants as places
 use Rattle.jxldec.specs.declared.frames.FramesFailure.{FramesFailure}
 
 -- nothing more is written
-pub no_page : (held : Option (List Page)) → AppendsPages held held []
+pub no_page : (old : Option (List Page)) → AppendsPages old old []
 no_page None = tt
 no_page (Some before) = sym (append-nil before)
 
 -- one page more
-pub one_page : (held mid holds : Option (List Page)) (pages : List Page) (page : Page) → AppendsPages held mid pages → AppendsPages mid holds (page ∷ []) → AppendsPages held holds (pages ++ page ∷ [])
-one_page None mid holds pages page h k = tt
-one_page (Some before) None holds pages page h k = absurd h
+pub one_page : (old mid new : Option (List Page)) (pages : List Page) (page : Page) → AppendsPages old mid pages → AppendsPages mid new (page ∷ []) → AppendsPages old new (pages ++ page ∷ [])
+one_page None mid new pages page h k = tt
+one_page (Some before) None new pages page h k = absurd h
 one_page (Some before) (Some now) None pages page h k = absurd k
 one_page (Some before) (Some now) (Some after) pages page h k = k ∙ ap (λ (xs : List Page). xs ++ page ∷ []) h ∙ append_assoc before pages (page ∷ [])
 
 -- none more
-pub none_more : (held mid holds : Option (List Page)) (pages : List Page) → AppendsPages held mid pages → AppendsPages mid holds [] → AppendsPages held holds pages
-none_more None mid holds pages h k = tt
-none_more (Some before) None holds pages h k = absurd h
+pub none_more : (old mid new : Option (List Page)) (pages : List Page) → AppendsPages old mid pages → AppendsPages mid new [] → AppendsPages old new pages
+none_more None mid new pages h k = tt
+none_more (Some before) None new pages h k = absurd h
 none_more (Some before) (Some now) None pages h k = absurd k
 none_more (Some before) (Some now) (Some after) pages h k = k ∙ append-nil now ∙ h
 
@@ -67,50 +67,52 @@ text_so file asked format others loss beside picture text has is written = recor
   meant = is.meant;
 }
 
-module _ (limits : Limits) (file : List ℕ) (asked : Option OutputFormat) (pattern : NamePattern) (others : List ℕ) (loss : Loss) (held : Option (List Page)) where
+module _ (limits : Limits) (file : List ℕ) (asked : Option OutputFormat) (pattern : NamePattern) (others : List ℕ) (loss : Loss) (old : Option (List Page)) where
   -- After this number of pictures: they are written, and the decoder comes to the next.
-  pub record StandsAt (holds : Option (List Page)) (number steps : ℕ) (decoder : FrameDecoder) : Type 0 where
+  pub record StandsAt (new : Option (List Page)) (number steps : ℕ) (decoder : FrameDecoder) : Type 0 where
     pub shown : HasShown limits file number steps decoder
     pub ready : IsReadyDecoder decoder
     pub pages : List Page
     pub are : ArePages limits file asked pattern others loss pages
     pub count : length pages ≡ number
-    pub appended : AppendsPages held holds pages
+    pub appended : AppendsPages old new pages
 
   module _ (mid : Option (List Page)) (number steps : ℕ) (decoder : FrameDecoder) (at : StandsAt mid number steps decoder) where
     -- one more is written
-    pub goes_on : (holds : Option (List Page)) (steps' : ℕ) (decoder' : FrameDecoder) (picture : Picture) (text : List ℕ) → HasShown limits file (number + 1) steps' decoder' → IsReadyDecoder decoder' →
-        IsFrameOfFile limits file number picture → IsTextOf file picture asked text others loss → AppendsPages mid holds (page_of (name_of pattern number) text ∷ []) → StandsAt holds (number + 1) steps' decoder'
-    goes_on holds steps' decoder' picture text shown ready is written appended = record {
+    pub goes_on : (new : Option (List Page)) (steps' : ℕ) (decoder' : FrameDecoder) (picture : Picture) (text : List ℕ) → HasShown limits file (number + 1) steps' decoder' → IsReadyDecoder decoder' →
+        IsFrameOfFile limits file number picture → IsTextOf file picture asked text others loss → AppendsPages mid new (page_of (name_of pattern number) text ∷ []) → StandsAt new (number + 1) steps' decoder'
+    goes_on new steps' decoder' picture text shown ready is written appended = record {
       shown = shown;
       ready = ready;
       pages = at.pages ++ page_of (name_of pattern number) text ∷ [];
       are = NextPage at.pages (page_of (name_of pattern number) text) at.are (ap (λ (n : ℕ). name_of pattern n) (sym at.count))
           (subst (λ (n : ℕ). IsTextOfFrame limits file n asked text others loss) (sym at.count) (record { picture = picture; is = is; written = written }));
       count = length-append at.pages (page_of (name_of pattern number) text ∷ []) ∙ ap (λ (n : ℕ). n + 1) at.count;
-      appended = one_page held mid holds at.pages (page_of (name_of pattern number) text) at.appended appended;
+      appended = one_page old mid new at.pages (page_of (name_of pattern number) text) at.appended appended;
     }
 
     -- all are written
-    pub all_written : HasFewerFrames limits file number → AllWritten limits file asked pattern held mid others loss
+    pub all_written : HasFewerFrames limits file number → AllWritten limits file asked pattern old mid others loss
     all_written fewer = record { pages = at.pages; are = at.are; all = subst (λ (n : ℕ). HasFewerFrames limits file n) (sym at.count) fewer; appended = at.appended }
 
     -- the next picture fails
-    pub frame_fails : (failure : Failure) → FrameTextFails limits file number asked failure → SomeWritten limits file asked pattern held mid (record { at = places.Frame number; failure = failure })
-    frame_fails failure why = record { pages = at.pages; others = others; loss = loss; are = at.are; fails = (sym at.count, why); appended = at.appended }
+    pub frame_fails : (failure : Failure) → FrameTextFails limits file number asked failure → (f : FramesFailure) → f ≡ record { at = places.Frame number; failure = failure } → SomeWritten limits file asked pattern old mid f
+    frame_fails failure why f e = subst (λ (x : FramesFailure). SomeWritten limits file asked pattern old mid x) (sym e)
+        (record { pages = at.pages; others = others; loss = loss; are = at.are; fails = (sym at.count, why); appended = at.appended })
 
     -- its output fails
-    pub page_fails : (holds : Option (List Page)) (f : FramesFailure) → AppendsPages mid holds [] → PageFails pattern number f → SomeWritten limits file asked pattern held holds f
-    page_fails holds f kept why = record { pages = at.pages; others = others; loss = loss; are = at.are; fails = by f.at f.failure why; appended = none_more held mid holds at.pages at.appended kept } where
+    pub page_fails : (new : Option (List Page)) (f : FramesFailure) → AppendsPages mid new [] → PageFails pattern number f → SomeWritten limits file asked pattern old new f
+    page_fails new f kept why = record { pages = at.pages; others = others; loss = loss; are = at.are; fails = by f.at f.failure why; appended = none_more old mid new at.pages at.appended kept } where
       by : (place : At) (failure : Failure) → IsOfPage pattern number place failure → FailsAt limits file asked pattern (length at.pages) place failure
       by places.File failure h = absurd h
       by (places.Frame n) failure h = (h.0 ∙ sym at.count, subst (λ (e : Failure). FrameTextFails limits file n asked e) (sym h.1) tt)
       by (places.Output name) failure h = (h.0 ∙ ap (λ (n : ℕ). name_of pattern n) (sym at.count), h.1)
 
 -- the file fails before its pictures
-pub file_fails : (limits : Limits) (file : List ℕ) (asked : Option OutputFormat) (pattern : NamePattern) (held : Option (List Page)) (failure : Failure) → FrameTextFails limits file 0 asked failure →
-    SomeWritten limits file asked pattern held held (record { at = places.File; failure = failure })
-file_fails limits file asked pattern held failure why = record { pages = []; others = []; loss = Nothing; are = NoPage; fails = (refl, why); appended = no_page held }
+pub file_fails : (limits : Limits) (file : List ℕ) (asked : Option OutputFormat) (pattern : NamePattern) (old : Option (List Page)) (failure : Failure) → FrameTextFails limits file 0 asked failure →
+    (f : FramesFailure) → f ≡ record { at = places.File; failure = failure } → SomeWritten limits file asked pattern old old f
+file_fails limits file asked pattern old failure why f e = subst (λ (x : FramesFailure). SomeWritten limits file asked pattern old old x) (sym e)
+    (record { pages = []; others = []; loss = Nothing; are = NoPage; fails = (refl, why); appended = no_page old })
 
 -- an output fails, or it is out of memory for it
 pub page_so : (pattern : NamePattern) (number : ℕ) (name : String Global) (failure : Failure) → IsOfContent failure → string_bytes name ≡ name_of pattern number → PageFails pattern number (page_failure number name failure)

@@ -1,14 +1,15 @@
 -- All pictures of a file, each in an output of its own (`--frames`).
-use Rattle.std.specs.Prelude.{◌≡◌, ◌⊎◌, ℕ, List, [], ◌∷◌, ◌++◌, length, true, false, Option, Some, None, codes, string_bytes}
+use Rattle.std.specs.Prelude.{◌≡◌, ℕ, List, [], ◌∷◌, ◌++◌, length, true, false, Option, Some, None, codes, string_bytes}
 use Rattle.std.specs.Fmt.{decimal}
+use Rattle.std.specs.declared.io.Error.{Error}
 use Rattle.jxl_animation.specs.Files.{HasFewerFrames}
-use Rattle.jxl_command.specs.Streams.{IsReadWhole}
+use Rattle.jxl_command.specs.Streams.{IsReadPart}
 use Rattle.jxl_container.specs.Files.{HasLaterError}
 use Rattle.jxl_container.specs.declared.error.FileError.{FileError as BoxError}
 use Rattle.jxl_frame_names.specs.Names.{name_of}
 use Rattle.jxl_frame_names.specs.declared.pattern.NamePattern.{NamePattern}
 use Rattle.jxl_picture.specs.declared.limits.Limits.{Limits}
-use Rattle.jxldec_lines.specs.Failures.{IsOfWriting, failure_line}
+use Rattle.jxldec_lines.specs.Failures.{IsOfWriting, IsTold}
 use Rattle.jxldec_lines.specs.Losses.{has_loss}
 use Rattle.jxldec_lines.specs.Warnings.{one_frame, warnings}
 use Rattle.jxldec_lines.specs.declared.failures.Failure.{Failure}
@@ -20,7 +21,7 @@ use Rattle.jxldec.specs.Texts.{FrameTextFails, IsTextOfFrame}
 use Rattle.jxldec.specs.declared.frames.At.{At}
 use Rattle.jxldec.specs.declared.frames.At.TheVariants as places
 use Rattle.jxldec.specs.declared.frames.FramesFailure.{FramesFailure}
-use Rattle.jxldec.specs.declared.options.Options.{Options}
+use Rattle.jxldec_options.specs.declared.options.Options.{Options}
 
 module _ (limits : Limits) (file : List ℕ) (asked : Option OutputFormat) (pattern : NamePattern) where
   -- These are the pages of the first pictures of a file, which are numbered from 0 on: each has the name of its number, and holds the
@@ -30,12 +31,12 @@ module _ (limits : Limits) (file : List ℕ) (asked : Option OutputFormat) (patt
     NextPage : (pages : List Page) (page : Page) → ArePages others loss pages → page.name ≡ name_of pattern (length pages) →
         IsTextOfFrame limits file (length pages) asked page.bytes others loss → ArePages others loss (pages ++ page ∷ [])
 
-  -- All pictures of the file were written so, after what was held.
-  pub record AllWritten (held holds : Option (List Page)) (others : List ℕ) (loss : Loss) : Type 0 where
+  -- All pictures of the file were written so, after what was old.
+  pub record AllWritten (old new : Option (List Page)) (others : List ℕ) (loss : Loss) : Type 0 where
     pub pages : List Page
     pub are : ArePages others loss pages
     pub all : HasFewerFrames limits file (length pages)
-    pub appended : AppendsPages held holds pages
+    pub appended : AppendsPages old new pages
 
   -- what is wrong with the next picture, after this number of others: with the file, before its pictures; with the picture; or with its
   -- output, which cannot be written
@@ -45,13 +46,13 @@ module _ (limits : Limits) (file : List ℕ) (asked : Option OutputFormat) (patt
   FailsAt count (places.Output name) failure = (string_bytes name ≡ name_of pattern count) × IsOfWriting failure
 
   -- The pictures before the one that fails were written so.
-  pub record SomeWritten (held holds : Option (List Page)) (f : FramesFailure) : Type 0 where
+  pub record SomeWritten (old new : Option (List Page)) (f : FramesFailure) : Type 0 where
     pub pages : List Page
     pub others : List ℕ
     pub loss : Loss
     pub are : ArePages others loss pages
     pub fails : FailsAt (length pages) f.at f.failure
-    pub appended : AppendsPages held holds pages
+    pub appended : AppendsPages old new pages
 
 -- what is wrong with the output of a picture of which the text was made
 abbrev pub IsOfPage : NamePattern → ℕ → At → Failure → Type 0
@@ -68,28 +69,32 @@ subject_at name places.File = name
 subject_at name (places.Frame number) = name ++ codes ": frame " ++ decimal number
 subject_at name (places.Output output) = string_bytes output
 
--- All pictures of a file were written, and standard error gets the lines that warn of what is left out, and of the error after the
+-- The outputs get all pictures of a file, and standard error the lines that warn of what is left out, and of the error after the
 -- codestream, unless nothing but errors is to be printed; it gets nothing then, nor where there is nothing to warn of.
-pub record AreDone (options : Options) (pattern : NamePattern) (file : List ℕ) (held holds : Option (List Page)) (Gets : List ℕ → Type 0) (Silent : Type 0) : Type 0 where
+pub record WritesAllFrames (options : Options) (pattern : NamePattern) (file : List ℕ) (old new : Option (List Page)) (Gets : List ℕ → Type 0) (Silent : Type 0) : Type 0 where
   pub others : List ℕ
   pub loss : Loss
   pub error : Option BoxError
-  pub written : AllWritten options.limits file options.format pattern held holds others loss
+  pub written : AllWritten options.limits file options.format pattern old new others loss
   pub later : HasLaterError file error
   pub gets : Gets (warnings options.quiet options.input.now others loss one_frame error)
   pub kept : options.quiet ≡ true → Silent
   pub none : others ≡ [] → has_loss loss ≡ false → error ≡ None → Silent
 
--- Not all pictures of what was read were written, and standard error gets the line of this failure.
-pub record AreFailedOf (options : Options) (pattern : NamePattern) (held holds : Option (List Page)) (Gets : Option (List ℕ) → Type 0) (file : List ℕ) : Type 0 where
+-- The outputs get the pictures of a file before the one that fails, and standard error the line of this failure.
+pub record WritesSomeFrames (options : Options) (pattern : NamePattern) (old new : Option (List Page)) (Silent : Type 0) (Gets : Option Error → List ℕ → Type 0) (file : List ℕ) : Type 0 where
   pub failed : FramesFailure
-  pub written : SomeWritten options.limits file options.format pattern held holds failed
-  pub gets : Gets (failure_line (subject_at options.input.now failed.at) failed.failure)
+  pub written : SomeWritten options.limits file options.format pattern old new failed
+  pub told : IsTold (subject_at options.input.now failed.at) failed.failure Silent Gets
 
--- the input cannot be read, and nothing is written; or so it is
-abbrev pub AreFailed : Options → NamePattern → Option (List ℕ) → Option (List ℕ) → Option (List Page) → Option (List Page) → (Option (List ℕ) → Type 0) → Type 0
-AreFailed options pattern left rest held holds Gets = AppendsPages held holds [] ⊎ IsReadWhole left rest (AreFailedOf options pattern held holds Gets)
+-- The input cannot be read, by this error; no output gets anything, and standard error gets the line of this failure.
+pub record WritesNoFrame (options : Options) (left rest : Option (List ℕ)) (Unread : Error → Type 0) (Stays : Type 0) (Gets : Option Error → List ℕ → Type 0) : Type 0 where
+  pub error : Error
+  pub part : IsReadPart left rest
+  pub unread : Unread error
+  pub stays : Stays
+  pub told : IsTold options.input.now (failures.Unreadable error) ⊥ Gets
 
--- the line on a name that is no pattern
+-- the words of the line on a name that is no pattern
 unfoldable pub pattern_line : List ℕ → List ℕ
-pattern_line name = codes "error: invalid value '" ++ name ++ codes "' for '--frames <PATTERN>': it needs one %d, or one %0Nd with N from 1 to 9\n"
+pattern_line name = codes "error: invalid value '" ++ name ++ codes "' for '--frames <PATTERN>': it needs one %d, or one %0Nd with N from 1 to 9"

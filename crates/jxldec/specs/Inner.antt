@@ -1,1 +1,2 @@
+pub mod Animated
 pub mod Failures

@@ -4,6 +4,7 @@ use Rattle.jxl_codestream.specs.declared.error.FrontError.{FrontError}
 use Rattle.jxl_codestream.specs.declared.error.FrontError.TheVariants as fronts
 use Rattle.jxl_frame_header.specs.declared.refusal.Refusal.TheVariants as frames
 use Rattle.jxl_image_header.specs.declared.refusal.Refusal.TheVariants as images
+use Rattle.jxl_lossless.specs.declared.error.FileError.{FileError}
 use Rattle.jxl_lossless.specs.declared.error.FileError.TheVariants as files
 use Rattle.jxldec_lines.specs.declared.failures.Failure.{Failure}
 use Rattle.jxldec_lines.specs.declared.failures.Failure.TheVariants as failures
@@ -27,7 +28,12 @@ abbrev pub lists_frames : Option FrontError → Bool
 lists_frames (Some error) = is_of_layers error
 lists_frames None = false
 
--- a still picture is not made since the file has several pictures, or layers
+-- a file is not decoded since it has several pictures, or layers
+abbrev pub is_layers_error : FileError → Bool
+is_layers_error (files.Front error) = is_of_layers error
+is_layers_error error = false
+
+-- so a still picture is not made
 abbrev pub is_layered : Failure → Bool
-is_layered (failures.File (files.Front error)) = is_of_layers error
+is_layered (failures.File error) = is_layers_error error
 is_layered failure = false

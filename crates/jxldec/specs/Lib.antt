@@ -1,9 +1,9 @@
+pub mod Animations
 pub mod Choices
 pub mod Contents
 pub mod Frames
 pub mod Inner
 pub mod Layers
-pub mod Options
 pub mod Pages
 pub mod Sources
 pub mod Texts

@@ -11,6 +11,6 @@ page_of name bytes = record { name = name; bytes = bytes }
 
 -- what is known to be written grows by these
 abbrev pub AppendsPages : Option (List Page) → Option (List Page) → List Page → Type 0
-AppendsPages None holds pages = Unit {0}
+AppendsPages None new pages = Unit {0}
 AppendsPages (Some before) None pages = ⊥
 AppendsPages (Some before) (Some after) pages = after ≡ before ++ pages

@@ -1,7 +1,8 @@
 -- What the program writes of a file: its picture, or what its headers tell.
-use Rattle.std.specs.Prelude.{◌≡◌, ◌⊎◌, ◌++◌, ℕ, List, [], length, not, Bool, true, false, MatchBool, MatchOption, Option, Some, None, Ok, is_some}
+use Rattle.std.specs.Prelude.{◌≡◌, ◌<◌, ◌⊎◌, ◌++◌, ℕ, List, [], length, not, Bool, true, false, MatchBool, MatchOption, Option, Some, None, Ok, is_some}
 use Rattle.std.specs.Option.{option_copied}
 use Rattle.std.specs.Io.KnownBytes.{Appends, Consumes, IsAtEnd}
+use Rattle.std.specs.declared.io.Error.{Error}
 use Rattle.jxl_codestream.specs.FrontParts.{bytes_if}
 use Rattle.jxl_coding.specs.Parse.{decoder_at}
 use Rattle.jxl_coding.specs.Tokens.{entropy}
@@ -10,8 +11,8 @@ use Rattle.jxl_container.specs.Metadata.{HasExif, HasXmp}
 use Rattle.jxl_container.specs.declared.error.FileError.{FileError as BoxError}
 use Rattle.jxl_animation.specs.declared.error.AnimationError.{AnimationError}
 use Rattle.jxl_animation.specs.declared.error.AnimationError.TheVariants as animations
-use Rattle.jxl_animation.specs.Files.{FrameOfFileFails, HasFewerFrames, IsFrameOfFile}
-use Rattle.jxl_command.specs.Streams.{IsReadWhole}
+use Rattle.jxl_animation.specs.Files.{BeginFrames, FileNotOpened, FrameOfFileFails, HasFewerFrames, IsFrameOfFile}
+use Rattle.jxl_command.specs.Streams.{IsReadPart, IsReadWhole, is_closed}
 use Rattle.jxl_command.specs.declared.extra.Extra.{Extra}
 use Rattle.jxl_command.specs.declared.extra.Extra.TheVariants as extras
 use Rattle.jxl_image_header.specs.Images.{Image, image_of}
@@ -30,21 +31,23 @@ use Rattle.jxl_lossless.specs.Pictures.{FileFails, IsPictureOfFile, ProfileOfFil
 use Rattle.jxl_codestream.specs.declared.error.FrontError.{FrontError}
 use Rattle.jxl_codestream.specs.declared.error.FrontError.TheVariants as fronts
 use Rattle.jxl_image_header.specs.declared.size.Size.{Size}
-use Rattle.jxldec_lines.specs.Failures.{failure_line, is_of_output}
+use Rattle.jxldec_lines.specs.Failures.{IsTold, is_of_output}
 use Rattle.jxldec_lines.specs.Formats.{IsWrittenAs, chosen}
-use Rattle.jxldec.specs.Options.{subject}
-use Rattle.jxldec.specs.Layers.{has_frames, is_of_layers, lists_frames}
+use Rattle.jxldec_options.specs.Options.{subject}
+use Rattle.jxldec.specs.Layers.{has_frames, is_layered, is_layers_error, is_of_layers, lists_frames}
 use Rattle.jxldec_lines.specs.Losses.{has_loss, loss_in, unless_saved}
 use Rattle.jxldec_lines.specs.Warnings.{has_more, kinds_left_out, one_frame, warnings}
 use Rattle.jxldec_lines.specs.declared.failures.Failure.{Failure}
 use Rattle.jxldec_lines.specs.declared.failures.Failure.TheVariants as failures
 use Rattle.jxldec_lines.specs.declared.format.OutputFormat.{OutputFormat}
+use Rattle.jxldec_lines.specs.declared.format.OutputFormat.TheVariants.{Png}
 use Rattle.jxldec_lines.specs.declared.loss.Loss.{Loss}
 use Rattle.jxldec_lines.specs.declared.loss.Loss.TheVariants.{Nothing}
+use Rattle.jxldec.specs.Animations.{IsApngText}
 use Rattle.jxldec.specs.declared.content.Beside.{Beside}
-use Rattle.jxldec.specs.declared.options.Options.{Options}
-use Rattle.jxldec.specs.declared.options.Task.{Task}
-use Rattle.jxldec.specs.declared.options.Task.TheVariants as tasks
+use Rattle.jxldec_options.specs.declared.options.Options.{Options}
+use Rattle.jxldec_options.specs.declared.options.Task.{Task}
+use Rattle.jxldec_options.specs.declared.options.Task.TheVariants as tasks
 use Rattle.jxldec_lines.specs.declared.warning.FrameCount.{FrameCount}
 
 -- What a file has beside its picture: Exif and XMP data, if present, and the first error of the boxes after the codestream.
@@ -102,9 +105,13 @@ pub record IsAboveLimits (limits : Limits) (file : List ℕ) (size : Size) (extr
   pub channels : extra ≡ length image.ec_info
   pub compared : most ≡ limits
 
+-- The profile of a file, if there is one: of a still picture; or of an animation, or of layers.
+abbrev pub HasProfile : Limits → List ℕ → Option (List ℕ) → Type 0
+HasProfile limits file icc = ProfileOfFile limits file icc ⊎ ((bytes : List ℕ) × (image : Image) × (start : ℕ) × BeginFrames limits file bytes image icc start)
+
 -- the file does not have these data
 abbrev pub IsMissing : Limits → List ℕ → Extra → Type 0
-IsMissing limits file extras.Profile = ProfileOfFile limits file None
+IsMissing limits file extras.Profile = HasProfile limits file None
 IsMissing limits file extras.Exif = HasExif file None
 IsMissing limits file extras.Xmp = HasXmp file None
 
@@ -113,17 +120,21 @@ abbrev pub TextFails : Limits → List ℕ → Option OutputFormat → Failure �
 TextFails limits file asked (failures.File error) = FileFails limits file error
 TextFails limits file asked (failures.TooLarge size extra most) = IsAboveLimits limits file size extra most
 TextFails limits file asked failures.NoFormat = HasNoFormat limits file asked
-TextFails limits file asked (failures.Missing extra) = IsMissing limits file extra
 TextFails limits file asked failures.OutOfMemory = Unit {0}
 TextFails limits file asked failure = ⊥
 
--- what each failure says of the file whose headers are asked for, or no output
+-- what each failure says of a file before its frames; that it has several pictures, or layers, is none
 abbrev pub InfoFails : Limits → List ℕ → Failure → Type 0
-InfoFails limits file (failures.File error) = FileFails limits file error
+InfoFails limits file (failures.File error) = FileFails limits file error × (is_layers_error error ≡ false)
 InfoFails limits file (failures.TooLarge size extra most) = IsAboveLimits limits file size extra most
-InfoFails limits file (failures.Missing extra) = IsMissing limits file extra
 InfoFails limits file failures.OutOfMemory = Unit {0}
 InfoFails limits file failure = ⊥
+
+-- what each failure says of the file whose profile, Exif or XMP data are asked for
+abbrev pub MetadataFails : Limits → List ℕ → Failure → Type 0
+MetadataFails limits file (failures.Missing extra) = IsMissing limits file extra
+MetadataFails limits file (failures.Frames error) = FileNotOpened limits file error
+MetadataFails limits file failure = InfoFails limits file failure
 
 -- what each failure says of the file of which the picture with this number is asked for
 abbrev pub FrameTextFails : Limits → List ℕ → ℕ → Option OutputFormat → Failure → Type 0
@@ -170,6 +181,7 @@ NotListed limits file e = ⊥
 
 -- what each failure says of the file whose headers are asked for
 abbrev pub ListFails : Limits → List ℕ → Failure → Type 0
+ListFails limits file (failures.File e) = FileFails limits file e
 ListFails limits file (failures.Frames e) = NotListed limits file e
 ListFails limits file failure = InfoFails limits file failure
 
@@ -188,80 +200,109 @@ abbrev pub IsPictureText : Limits → List ℕ → Option OutputFormat → List 
 IsPictureText limits file asked text others loss frames =
     (IsTextOfFile limits file asked text others loss × (frames ≡ one_frame)) ⊎ (HasLayers limits file × IsTextOfFrame limits file 0 asked text others loss × CountsFrames limits file frames)
 
--- what is asked of a file for the output: what its headers tell, its picture, the one with a number, or nothing
+-- The text is a PNG file of the first picture of a file, which is no animation and shows as many as this.
+pub record IsFirstPng (limits : Limits) (file text others : List ℕ) (loss : Loss) (frames : FrameCount) : Type 0 where
+  pub picture : IsTextOfFrame limits file 0 (Some Png) text others loss
+  pub still : (image_of picture.picture.header).animation ≡ None
+  pub counts : CountsFrames limits file frames
+
+-- The text is the animation of a file as an APNG file; or a PNG file of its picture, or of its first one if it has layers.
+abbrev pub IsAnimationText : Limits → List ℕ → List ℕ → List ℕ → Loss → FrameCount → Type 0
+IsAnimationText limits file text others loss frames =
+    (IsTextOfFile limits file (Some Png) text others loss × (frames ≡ one_frame)) ⊎
+    (HasLayers limits file × ((IsApngText limits file text others loss × (frames ≡ one_frame)) ⊎ IsFirstPng limits file text others loss frames))
+
+-- what is asked of a file for the output: what its headers tell, its picture, its animation, the picture with a number, or nothing
 abbrev pub IsAsked : Task → Limits → Option OutputFormat → List ℕ → List ℕ → List ℕ → Loss → FrameCount → Type 0
 IsAsked tasks.Headers limits asked file text others loss frames = IsInfo limits file text others loss × (frames ≡ one_frame)
 IsAsked tasks.Picture limits asked file text others loss frames = IsPictureText limits file asked text others loss frames
+IsAsked tasks.Animation limits asked file text others loss frames = IsAnimationText limits file text others loss frames
 IsAsked (tasks.Frame number) limits asked file text others loss frames = IsTextOfFrame limits file number asked text others loss × (frames ≡ one_frame)
 IsAsked tasks.Nothing limits asked file text others loss frames = (text ≡ []) × (others ≡ []) × (loss ≡ Nothing) × (frames ≡ one_frame)
 
 -- why the picture of a file is not made, or its first picture
 abbrev pub PictureFails : Limits → List ℕ → Option OutputFormat → Failure → Type 0
-PictureFails limits file asked failure = TextFails limits file asked failure ⊎ (HasLayers limits file × FrameTextFails limits file 0 asked failure)
+PictureFails limits file asked failure = (TextFails limits file asked failure × (is_layered failure ≡ false)) ⊎ (HasLayers limits file × FrameTextFails limits file 0 asked failure)
+
+-- more pictures than this are shown by a file, by the headers of its frames
+abbrev pub CountsMore : Limits → List ℕ → ℕ → Type 0
+CountsMore limits file number = (timeline : Timeline) × AreListed limits file timeline × (number < length timeline.durations.items)
+
+-- what each failure says of the file of several pictures, or of layers, whose animation is asked for: that it has fewer pictures is said
+-- of a number that its headers count, or of the first
+abbrev pub LayersFail : Limits → List ℕ → Failure → Type 0
+LayersFail limits file (failures.Frames error) = (number : ℕ) × FrameOfFileFails limits file number error
+LayersFail limits file (failures.NoFrame number) = HasFewerFrames limits file number × ((number ≡ 0) ⊎ CountsMore limits file number)
+LayersFail limits file failures.NoFormat = FramesHaveNoFormat limits file (Some Png)
+LayersFail limits file failure = InfoFails limits file failure
+
+-- why neither the animation of a file is made, nor its picture
+abbrev pub AnimationFails : Limits → List ℕ → Failure → Type 0
+AnimationFails limits file failure = (TextFails limits file (Some Png) failure × (is_layered failure ≡ false)) ⊎ (HasLayers limits file × LayersFail limits file failure)
 
 -- why what is asked of a file is not made
 abbrev pub AskedFails : Task → Limits → Option OutputFormat → List ℕ → Failure → Type 0
 AskedFails tasks.Headers limits asked file failure = ListFails limits file failure
 AskedFails tasks.Picture limits asked file failure = PictureFails limits file asked failure
+AskedFails tasks.Animation limits asked file failure = AnimationFails limits file failure
 AskedFails (tasks.Frame number) limits asked file failure = FrameTextFails limits file number asked failure
 AskedFails tasks.Nothing limits asked file failure = InfoFails limits file failure
 
--- The text is what is asked of a file, and the output, which held `held`, holds after it a beginning of the text.
-pub record IsBegun (task : Task) (limits : Limits) (asked : Option OutputFormat) (held holds : Option (List ℕ)) (file : List ℕ) : Type 0 where
+-- The text is what is asked of a file, and the output got a beginning of it.
+pub record IsBegun (task : Task) (limits : Limits) (asked : Option OutputFormat) (old new : Option (List ℕ)) (file : List ℕ) : Type 0 where
   pub text : List ℕ
   pub others : List ℕ
   pub loss : Loss
   pub frames : FrameCount
   pub is : IsAsked task limits asked file text others loss frames
-  pub begun : AppendsBeginning held holds text
+  pub begun : AppendsBeginning old new text
 
--- what each failure says of the input, from left to rest, and of the output, which held `held`: the input was read to its
--- end, but where it cannot be read; what is asked of it was made before the output was written, and the output holds a
+-- what each failure says of the input, from left to rest, and of the output: the input was read to its end, unless it cannot be
+-- read by this error; what is asked of it was made before the output was written, and the output got a
 -- beginning of that
-abbrev pub InputFails : Task → Limits → Option OutputFormat → Option (List ℕ) → Option (List ℕ) → Option (List ℕ) → Option (List ℕ) → Failure → Type 0
-InputFails task limits asked left rest held holds (failures.Unreadable error) = Unit {0}
-InputFails task limits asked left rest held holds (failures.Unwritable error) = IsReadWhole left rest (IsBegun task limits asked held holds)
-InputFails task limits asked left rest held holds failures.Closed = IsReadWhole left rest (IsBegun task limits asked held holds)
-InputFails task limits asked left rest held holds (failures.Unsaved extra error) = IsReadWhole left rest (IsBegun task limits asked held holds)
-InputFails task limits asked left rest held holds failure = IsReadWhole left rest (λ file. AskedFails task limits asked file failure)
+abbrev pub InputFails : Task → Limits → Option OutputFormat → Option (List ℕ) → Option (List ℕ) → (Error → Type 0) → Option (List ℕ) → Option (List ℕ) → Failure → Type 0
+InputFails task limits asked left rest Unread old new (failures.Unreadable error) = IsReadPart left rest × Unread error
+InputFails task limits asked left rest Unread old new (failures.Unwritable error) = IsReadWhole left rest (IsBegun task limits asked old new) × (is_closed error ≡ false)
+InputFails task limits asked left rest Unread old new failures.Closed = IsReadWhole left rest (IsBegun task limits asked old new)
+InputFails task limits asked left rest Unread old new (failures.Unsaved extra error) = IsReadWhole left rest (IsBegun task limits asked old new)
+InputFails task limits asked left rest Unread old new failure = IsReadWhole left rest (λ file. AskedFails task limits asked file failure ⊎ MetadataFails limits file failure)
 
--- The input was read to its end, from left to rest, and the output, which held `held`, holds after it what was asked of
--- what was read, which has this error after its codestream, or none.
-pub record IsWritten (task : Task) (limits : Limits) (asked : Option OutputFormat) (left rest held holds : Option (List ℕ)) (others : List ℕ) (loss : Loss) (frames : FrameCount) (error : Option BoxError) : Type 0 where
+-- The input was read to its end, from left to rest, and the output got what was asked of what was read, which has this error after its codestream, or none.
+pub record IsWritten (task : Task) (limits : Limits) (asked : Option OutputFormat) (left rest old new : Option (List ℕ)) (others : List ℕ) (loss : Loss) (frames : FrameCount) (error : Option BoxError) : Type 0 where
   pub file : List ℕ
   pub text : List ℕ
   pub read : Consumes left rest file
   pub ended : IsAtEnd rest
   pub is : IsAsked task limits asked file text others loss frames
   pub later : HasLaterError file error
-  pub written : Appends held holds text
+  pub written : Appends old new text
 
 -- these data of a file were found, if they are wanted
 abbrev pub IsFound : Bool → (List ℕ → Type 0) → Option (List ℕ) → Type 0
 IsFound wanted Has found = MatchBool wanted ((bytes : List ℕ) × Has bytes × (found ≡ Some bytes)) (found ≡ None)
 
--- If these data of a file are asked for, it has them, and their output, which held `held`, holds them after that, and has passed
--- them on; else their output stays as it was.
+-- If these data of a file are asked for, it has them, and their output got them, and has passed them on; else their output stays as it
+-- was.
 abbrev pub IsSaved : Bool → (List ℕ → Type 0) → Option (List ℕ) → Option (List ℕ) → Type 0 → Type 0 → Type 0
-IsSaved wanted Has held holds Flushed Stays = MatchBool wanted ((bytes : List ℕ) × Has bytes × Appends held holds bytes × Flushed) Stays
+IsSaved wanted Has old new Flushed Stays = MatchBool wanted ((bytes : List ℕ) × Has bytes × Appends old new bytes × Flushed) Stays
 
 -- So it is, and standard error gets the lines that warn of what is left out, and of the error after the codestream, unless
 -- nothing but errors is to be printed; it gets nothing then, nor where there is nothing to warn of. A profile that is saved is
 -- not left out.
-pub record IsDone (task : Task) (quiet saved : Bool) (limits : Limits) (asked : Option OutputFormat) (name : List ℕ) (left rest held holds : Option (List ℕ)) (Gets : List ℕ → Type 0) (Silent : Type 0) : Type 0 where
+pub record IsDone (task : Task) (quiet saved : Bool) (limits : Limits) (asked : Option OutputFormat) (name : List ℕ) (left rest old new : Option (List ℕ)) (Gets : List ℕ → Type 0) (Silent : Type 0) : Type 0 where
   pub others : List ℕ
   pub loss : Loss
   pub frames : FrameCount
   pub error : Option BoxError
-  pub written : IsWritten task limits asked left rest held holds others loss frames error
+  pub written : IsWritten task limits asked left rest old new others loss frames error
   pub gets : Gets (warnings quiet name others (unless_saved saved loss) frames error)
   pub kept : quiet ≡ true → Silent
   pub none : others ≡ [] → has_loss (unless_saved saved loss) ≡ false → has_more frames ≡ false → error ≡ None → Silent
 
 -- What is asked for is not done, by this failure; the output stays as it was, unless it is what fails; standard error gets
--- the line of the failure, about what fails.
-pub record IsFailed (options : Options) (left rest held holds : Option (List ℕ)) (Stays : Type 0) (Gets : Option (List ℕ) → Type 0) : Type 0 where
+-- the line of the failure, about what fails, or nothing if a pipe was closed.
+pub record IsFailed (options : Options) (left rest : Option (List ℕ)) (Unread : Error → Type 0) (old new : Option (List ℕ)) (Stays Silent : Type 0) (Gets : Option Error → List ℕ → Type 0) : Type 0 where
   pub failure : Failure
-  pub why : InputFails options.task options.limits options.format left rest held holds failure
+  pub why : InputFails options.task options.limits options.format left rest Unread old new failure
   pub kept : is_of_output failure ≡ false → Stays
-  pub gets : Gets (failure_line (subject options failure) failure)
+  pub told : IsTold (subject options failure) failure Silent Gets

@@ -1,34 +1,35 @@
 //! All pictures of a file, each to an output of its own.
 
-ghost use Rattle.std.specs.Prelude.{◌≡◌, ◌≤◌, ◌∷◌, [], ℕ, IfErr, IfOk, IfSome, OnErr, OnOk, string_bytes};
-ghost use Rattle.jxl_command.specs.Streams.{IsReadWhole, IsReported};
+ghost use Rattle.std.specs.Prelude.{◌≡◌, ◌≤◌, ◌∷◌, ◌⊎◌, [], ℕ, IfErr, IfOk, None, OnErr, OnOk, string_bytes};
+ghost use Rattle.jxl_command.specs.Streams.{IsReadWhole, IsReported, IsReportedLine};
 ghost use Rattle.jxl_container.specs.Files.{HasLaterError};
 ghost use Rattle.jxl_frame_names.specs.Names.{name_of};
 ghost use Rattle.jxldec.specs.Contents.{IsWritable, content_text};
-ghost use Rattle.jxldec.specs.Frames.{AllWritten, AreDone, AreFailed, PageFails, SomeWritten, pattern_line, subject_at};
+ghost use Rattle.jxldec.specs.Frames.{AllWritten, PageFails, SomeWritten, WritesAllFrames, WritesNoFrame, WritesSomeFrames, pattern_line, subject_at};
 ghost use Rattle.jxldec.specs.Inner.Failures.{page_failure};
 ghost use Rattle.jxldec.specs.Pages.{AppendsPages, page_of};
 ghost use Rattle.jxldec.specs.Sources.{IsSourceOf};
 ghost use Rattle.jxldec.specs.Texts.{FrameTextFails};
-ghost use Rattle.jxldec_lines.specs.Failures.{failure_line};
+ghost use Rattle.jxldec_lines.specs.Failures.{IsTold, cause_of, failure_line};
 ghost use Rattle.jxldec_lines.specs.Warnings.{one_frame};
 
 use crate::content::{Beside, Content, content_of};
-use crate::options::Options;
 use crate::outputs::Outputs;
-use crate::run::{read_file, report, succeed, support_frames};
+use crate::run::{read_file, support_frames};
 use jxl_animation::FrameDecoder;
 use jxl_command::end::End;
-use jxl_command::input::read_whole;
+use jxl_command::errors::{ErrorStream, put_line};
+use jxl_command::input::InputStream;
 use jxl_frame_names::pattern::NamePattern;
 use jxl_image_header::image::Animation;
 use jxl_lossless::{Limits, Steps};
+use jxldec_lines::ending::{report, succeed};
 use jxldec_lines::failures::Failure;
 use jxldec_lines::format::{OutputFormat, format_for};
 use jxldec_lines::warning::LeftOut;
+use jxldec_options::options::Options;
 use std::alloc::Global;
 use std::fmt;
-use std::io::{Read, Write};
 
 /// What a failure is about.
 #[derive(Drop)]
@@ -221,23 +222,32 @@ impl fmt::Display for Subject<'_> {
     }
 }
 
-// Writes the line of a failure, as far as it can be written, and ends with status 1. Of a closed pipe nothing is written.
-fn report_frames<E: Write>(errors: &mut E, name: &str, failed: &FramesFailure) -> End
-    ensures status { result.status ≡ 1 }
-    ensures line { IfSome (failure_line (subject_at name.now failed.now.at) failed.now.failure) (λ line.
-        IsReported result.reported (E.contents errors.old) (E.contents errors.new) line) }
+// Writes the line of a failure. It returns whether all of it was written.
+fn put_failure<E: ErrorStream>(errors: &mut E, subject: Subject<'_>, failure: Failure) -> bool
+    ensures { IsReportedLine result (E.contents errors.old) (E.contents errors.new) (E.has_failed errors.new)
+        (cause_of failure) (failure_line (subject_at subject.entry.name.now subject.entry.at.now) failure) }
 {
-    let (subject, failure) = (
-        Subject {
-            name,
-            at: &failed.at,
-        },
-        failed.failure,
-    );
-    let reported = match failure {
-        Failure::Closed => false,
-        _ => writeln!(errors, "jxldec: {subject}: {failure}").is_ok(),
+    let cause = failure.cause();
+    put_line(errors, format_args!("jxldec: {subject}: {failure}"), cause)
+}
+
+// Writes the line of a failure, and ends with status 1. Of a closed pipe nothing is written.
+fn report_frames<E: ErrorStream>(errors: &mut E, name: &str, failed: &FramesFailure) -> End
+    ensures status { result.status ≡ 1 }
+    ensures line { IsTold (subject_at name.now failed.now.at) failed.now.failure (errors.new ≡ errors.old)
+        (IsReportedLine result.reported (E.contents errors.old) (E.contents errors.new) (E.has_failed errors.new)) }
+{
+    if failed.failure.is_silent() {
+        return End {
+            status: 1,
+            reported: true,
+        };
+    }
+    let subject = Subject {
+        name,
+        at: &failed.at,
     };
+    let reported = put_failure(errors, subject, failed.failure);
     End {
         status: 1,
         reported,
@@ -246,9 +256,9 @@ fn report_frames<E: Write>(errors: &mut E, name: &str, failed: &FramesFailure) -
 
 /// Reads a file from `input`, and writes each picture that it shows to an output of its own: to the one of the pattern's
 /// name with the number of the picture, from 0 on. It returns the status to end with: 0 where all pictures were written;
-/// else 1, and `errors` got the line of a failure that holds of the file, of a picture or of its output, and the pictures
-/// before that were written. With status 0 `errors` got nothing but the lines that warn of what is left out.
-pub fn run_frames<R: Read, S: Outputs, E: Write>(
+/// else 1, and `errors` got the line of a failure that holds of the input, of the file, of a picture or of its output, and
+/// the pictures before that were written. With status 0 `errors` got nothing but the lines that warn of what is left out.
+pub fn run_frames<R: InputStream, S: Outputs, E: ErrorStream>(
     alloc: Global,
     options: &Options<'_>,
     pattern: &NamePattern<'_>,
@@ -258,13 +268,17 @@ pub fn run_frames<R: Read, S: Outputs, E: Write>(
 ) -> End
     ensures status { result.status ≤ 1 }
     ensures done { result.status ≡ 0 → IsReadWhole (R.remaining input.old) (R.remaining input.new) (λ file.
-        AreDone options.now pattern.now file (S.pages outputs.old) (S.pages outputs.new)
-        (IsReported result.reported (E.contents errors.old) (E.contents errors.new)) (errors.new ≡ errors.old)) }
-    ensures failed { result.status ≡ 1 → AreFailed options.now pattern.now (R.remaining input.old) (R.remaining input.new)
-        (S.pages outputs.old) (S.pages outputs.new)
-        (λ line. IfSome line (IsReported result.reported (E.contents errors.old) (E.contents errors.new))) }
+        WritesAllFrames options.now pattern.now file (S.pages outputs.old) (S.pages outputs.new)
+        (IsReported result.reported (E.contents errors.old) (E.contents errors.new) (E.has_failed errors.new))
+        (errors.new ≡ errors.old)) }
+    ensures failed { result.status ≡ 1 → WritesNoFrame options.now (R.remaining input.old) (R.remaining input.new)
+        (R.fails_by input.new) (outputs.new ≡ outputs.old)
+        (IsReportedLine result.reported (E.contents errors.old) (E.contents errors.new) (E.has_failed errors.new))
+        ⊎ IsReadWhole (R.remaining input.old) (R.remaining input.new) (WritesSomeFrames options.now pattern.now
+        (S.pages outputs.old) (S.pages outputs.new) (errors.new ≡ errors.old)
+        (IsReportedLine result.reported (E.contents errors.old) (E.contents errors.new) (E.has_failed errors.new))) }
 {
-    let file = match read_whole(alloc, input) {
+    let file = match input.read_rest(alloc) {
         Ok(file) => file,
         Err(error) => return report(errors, options.input, Failure::Unreadable(error)),
     };
@@ -276,23 +290,25 @@ pub fn run_frames<R: Read, S: Outputs, E: Write>(
         &options.limits,
         outputs,
     ) {
-        Ok(left_out) => succeed(errors, options, &left_out),
+        Ok(left_out) => succeed(errors, options.quiet, options.input, &left_out),
         Err(failed) => report_frames(errors, options.input, &failed),
     }
 }
 
-/// Writes the line that a name has no place for the number of a frame, or several, as far as it can be written, and ends
-/// with status 2.
+/// Writes the line that a name has no place for the number of a frame, or several, and ends with status 2.
 #[tactic(auto, unfolding(crate::specs::Frames::pattern_line))]
-pub fn refuse_pattern<E: Write>(errors: &mut E, name: &str) -> End
+pub fn refuse_pattern<E: ErrorStream>(errors: &mut E, name: &str) -> End
     ensures status { result.status ≡ 2 }
-    ensures line { IsReported result.reported (E.contents errors.old) (E.contents errors.new) (pattern_line name.now) }
+    ensures line { IsReportedLine result.reported (E.contents errors.old) (E.contents errors.new)
+        (E.has_failed errors.new) None (pattern_line name.now) }
 {
-    let reported = writeln!(
+    let reported = put_line(
         errors,
-        "error: invalid value '{name}' for '--frames <PATTERN>': it needs one %d, or one %0Nd with N from 1 to 9"
-    )
-    .is_ok();
+        format_args!(
+            "error: invalid value '{name}' for '--frames <PATTERN>': it needs one %d, or one %0Nd with N from 1 to 9"
+        ),
+        None,
+    );
     End {
         status: 2,
         reported,

@@ -20,8 +20,8 @@ fn is_layer(refusal: Refusal) -> bool
     }
 }
 
-/// Whether the error is that a file has several pictures, or layers.
-pub fn is_of_layers(error: FrontError) -> bool
+// Whether the error is that a file has several pictures, or layers.
+fn is_of_layers(error: FrontError) -> bool
     ensures { result ≡ the_is_of_layers error }
 {
     match error {

@@ -1,33 +1,34 @@
 //! Decodes a lossless JPEG XL file to a picture in PNG or a netpbm format, or tells what its headers say.
 #![tactic(auto)]
 
+mod animation;
 mod content;
 mod frames;
 mod layers;
 mod listing;
+mod metadata;
 mod meter;
-mod options;
 mod outputs;
 mod run;
 
 use crate::frames::{refuse_pattern, run_frames};
 use crate::meter::SectionMeter;
-use crate::options::Options;
 use crate::outputs::OutputFiles;
-use crate::run::{report, run};
+use crate::run::run;
 use jxl_command::end::End;
 use jxl_command::extra::{Extra, Extras};
-use jxl_command::input::InputFile;
+use jxl_command::input::{InputFile, InputStream};
 use jxl_command::meter::Meter;
 use jxl_command::output::OutputFile;
 use jxl_frame_names::pattern::NamePattern;
+use jxldec_lines::ending::report;
 use jxldec_lines::failures::Failure;
+use jxldec_options::options::{Options, command};
 use std::env;
-use std::io::Read;
 use std::process::ExitCode;
 
 // Writes what the options ask of the file that the reader gives.
-fn carry_out<R: Read>(rt: &HostRuntime, options: Options<'_>, input: &mut R) -> End {
+fn carry_out<R: InputStream>(rt: &HostRuntime, options: Options<'_>, input: &mut R) -> End {
     let alloc = rt.alloc();
     let errors = &mut rt.stderr();
     let mut meter = SectionMeter(Meter::new(rt, "jxldec", options.input, options.quiet));
@@ -60,7 +61,7 @@ fn carry_out<R: Read>(rt: &HostRuntime, options: Options<'_>, input: &mut R) -> 
 }
 
 // Writes each picture of the file that the reader gives to a file of its own, by names of this pattern.
-fn carry_out_frames<R: Read>(
+fn carry_out_frames<R: InputStream>(
     rt: &HostRuntime,
     options: Options<'_>,
     name: &str,
@@ -81,7 +82,7 @@ fn carry_out_frames<R: Read>(
 }
 
 // Does what the options ask with the file that the reader gives.
-fn carry_out_with<R: Read>(rt: &HostRuntime, options: Options<'_>, input: &mut R) -> End {
+fn carry_out_with<R: InputStream>(rt: &HostRuntime, options: Options<'_>, input: &mut R) -> End {
     match options.frames {
         Some(name) => carry_out_frames(rt, options, name, input),
         None => carry_out(rt, options, input),
@@ -102,7 +103,7 @@ fn decode(rt: &HostRuntime, options: Options<'_>) -> End {
 fn main(rt: HostRuntime) -> anyhow::Result<ExitCode> {
     let alloc = rt.alloc();
     let words: Vec<String> = env::args(&rt)?.collect(alloc)?;
-    let command = options::command(alloc)?;
+    let command = command(alloc)?;
     match command.try_get_matches_from(words.as_slice()) {
         Ok(matches) => Ok(ExitCode::from(decode(&rt, Options::of(&matches)).status)),
         Err(error) => {

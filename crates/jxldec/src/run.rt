@@ -1,49 +1,50 @@
 //! The program over a reader and two writers.
 
-ghost use Rattle.std.specs.Prelude.{◌≡◌, ◌≤◌, ℕ, List, [], Option, length, true, false, is_some, IfErr, IfOk, IfSome, IsTrue, None, OnErr, OnOk, Some, string_bytes};
+ghost use Rattle.std.specs.Prelude.{◌≡◌, ◌≤◌, ◌⊎◌, ℕ, List, [], Option, length, true, false, is_some, IfErr, IfOk, IfSome, IsTrue, None, OnErr, OnOk, Some, string_bytes};
 ghost use Rattle.std.specs.Option.{option_copied};
 ghost use Rattle.std.specs.Io.KnownBytes.{Appends};
 ghost use Rattle.jxl_codestream.specs.FrontParts.{bytes_if};
-ghost use Rattle.jxl_command.specs.Streams.{IsKept, IsReadWhole, IsReported};
+ghost use Rattle.jxl_command.specs.Streams.{IsReadWhole, IsReported, IsReportedLine};
 ghost use Rattle.jxl_container.specs.Files.{HasLaterError};
 ghost use Rattle.jxl_container.specs.Metadata.{HasExif, HasXmp};
 ghost use Rattle.jxl_image_header.specs.Images.{image_of};
 ghost use Rattle.jxl_lossless.specs.Files.{IsReadOf, IsReadyFile, header_of, reason_of};
-ghost use Rattle.jxl_lossless.specs.Pictures.{ProfileOfFile};
 ghost use Rattle.jxl_netpbm.specs.Output.{AppendsBeginning};
 ghost use Rattle.jxl_picture.specs.Pictures.{IsWhole};
 ghost use Rattle.jxl_picture.specs.declared.limits.Limits.{Limits as TheLimits};
 ghost use Rattle.jxldec.specs.Contents.{IsWritable, content_text};
-ghost use Rattle.jxldec_lines.specs.Failures.{IsOfContent, IsOfSaving, failure_line, is_of_output};
+ghost use Rattle.jxldec_lines.specs.Failures.{is_of_output};
 ghost use Rattle.jxldec_lines.specs.Formats.{IsWrittenAs, chosen, suits_output};
-ghost use Rattle.jxldec.specs.Layers.{has_frames};
+ghost use Rattle.jxldec.specs.Layers.{has_frames, lists_frames as the_lists_frames};
 ghost use Rattle.jxldec_lines.specs.Losses.{has_loss, loss_in};
-ghost use Rattle.jxldec.specs.Texts.{AskedFails, CountsFrames, FrameTextFails, InfoFails, InputFails, IsAsked, IsDone, IsFailed, IsFound, IsInfo, IsPictureText, IsSaved, IsTextOfFile, IsTextOfFrame, IsWritten, ListFails, PictureFails, TextFails};
+ghost use Rattle.jxldec.specs.Texts.{AskedFails, CountsFrames, FrameTextFails, HasProfile, InfoFails, InputFails, IsAsked, IsDone, IsFailed, IsFound, IsInfo, IsPictureText, IsSaved, IsTextOfFile, IsTextOfFrame, IsWritten, ListFails, MetadataFails, PictureFails, TextFails};
 ghost use Rattle.jxldec_lines.specs.Warnings.{has_more, kinds_left_out, one_frame, warnings};
 ghost use Rattle.jxldec_lines.specs.declared.format.OutputFormat.{OutputFormat as TheFormat};
 ghost use Rattle.jxldec_lines.specs.declared.loss.Loss.TheVariants.{Nothing as NoLoss};
 
+use crate::animation::animation_of_file;
 use crate::content::{Beside, Content, Output, pass_on};
-use crate::layers::{is_layered, is_of_layers};
+use crate::layers::{is_layered, lists_frames};
 use crate::listing::{text_of_headers, timeline_of_file};
-use crate::options::{Options, Task};
+use crate::metadata::{Metadata, metadata_asked, save_all};
 use jxl_animation::decode_frame;
 use jxl_codestream::error::FrontError;
 use jxl_coding::decoder::EntropyDecoder;
 use jxl_command::end::End;
-use jxl_command::extra::{Extra, Extras};
-use jxl_command::input::read_whole;
+use jxl_command::errors::ErrorStream;
+use jxl_command::extra::Extras;
+use jxl_command::input::InputStream;
 use jxl_command::meter::Line;
-use jxl_command::output::{Flush, write_flushed};
-use jxl_container::metadata::{find_exif, find_xmp};
+use jxl_command::output::Flush;
 use jxl_image_header::image::ImageHeader;
 use jxl_info::headers::{Headers, HeadersError};
 use jxl_lossless::{FileError, JxlFile, Limits, Progress, Steps};
+use jxldec_lines::ending::{report, succeed};
 use jxldec_lines::failures::Failure;
 use jxldec_lines::format::{OutputFormat, format_for};
-use jxldec_lines::warning::{FrameCount, LeftOut, warn};
+use jxldec_lines::warning::{FrameCount, LeftOut};
+use jxldec_options::options::{Options, Task};
 use std::alloc::Global;
-use std::io::{Read, Write};
 
 // What the headers of a file tell.
 fn info_of_file(alloc: Global, file: &[u8], limits: &Limits) -> Result<Output, Failure>
@@ -72,6 +73,7 @@ pub fn read_file<'a>(alloc: Global, file: &'a [u8], limits: &Limits) -> Result<J
     ensures ok { IfOk result (IsReadOf limits.now file.now) }
     ensures ready { IfOk result IsReadyFile }
     ensures err { IfErr result (InfoFails limits.now file.now) }
+    ensures of_list { IfErr result (ListFails limits.now file.now) }
     ensures of_text { (asked : Option TheFormat) → IfErr result (TextFails limits.now file.now asked) }
     ensures of_frame { (number : ℕ) (asked : Option TheFormat) → IfErr result (FrameTextFails limits.now file.now number
         asked) }
@@ -93,10 +95,11 @@ fn above(limits: &Limits, header: &ImageHeader) -> Failure
     }
 }
 
-// Whether a file that was read by these limits is supported, up to the sections of its frames, and within the limits.
-fn support(read: &JxlFile<'_>, limits: &Limits) -> Result<(), Failure>
+/// Whether a file that was read by these limits, and does not have several pictures, or layers, is supported, up to the
+/// sections of its frames, and within the limits.
+pub fn support(read: &JxlFile<'_>, limits: &Limits) -> Result<(), Failure>
     ensures ok { OnOk result (reason_of read.now ≡ None) }
-    ensures err { (file : List ℕ) → IsReadOf limits.now file read.now
+    ensures err { (file : List ℕ) → IsReadOf limits.now file read.now → the_lists_frames (reason_of read.now) ≡ false
         → IfErr result (InfoFails limits.now file) }
 {
     match read.reason() {
@@ -160,10 +163,8 @@ pub fn support_frames(read: &JxlFile<'_>, limits: &Limits) -> Result<(), Failure
     ensures err { (file : List ℕ) → IsReadOf limits.now file read.now
         → IfErr result (InfoFails limits.now file) }
 {
-    if let Some(error) = read.reason() {
-        if is_of_layers(error) {
-            return Ok(());
-        }
+    if lists_frames(read.reason()) {
+        return Ok(());
     }
     support(read, limits)
 }
@@ -213,8 +214,8 @@ fn count_of_file(alloc: Global, file: &[u8], limits: &Limits) -> Result<FrameCou
     })
 }
 
-// The first picture of a file that has several, or layers.
-fn first_of_file(
+/// The first picture of a file that has several, or layers.
+pub fn first_of_file(
     alloc: Global,
     file: &[u8],
     asked: Option<OutputFormat>,
@@ -292,117 +293,10 @@ fn output_asked<P: Progress + Line>(
     match options.task {
         Task::Headers => info_of_file(alloc, file, &options.limits),
         Task::Picture => { shown_of_file(alloc, file, options.format, &options.limits, progress) }
+        Task::Animation => animation_of_file(alloc, file, &options.limits, progress),
         Task::Frame(number) => frame_of_file(alloc, file, number, options.format, &options.limits),
         Task::Nothing => nothing_of_file(alloc, file, &options.limits),
     }
-}
-
-// What is asked for of a file beside its picture.
-#[derive(Drop)]
-struct Metadata<'a> {
-    profile: Option<Vec<u8>>,
-    exif: Option<&'a [u8]>,
-    xmp: Option<&'a [u8]>,
-}
-
-// The profile of a file.
-fn profile_of_file(alloc: Global, file: &[u8], limits: &Limits) -> Result<Vec<u8>, Failure>
-    ensures ok { IfOk result (λ v. ProfileOfFile limits.now file.now (Some v.items)) }
-    ensures err { IfErr result (InfoFails limits.now file.now) }
-{
-    let read = read_file(alloc, file, limits)?;
-    support(&read, limits)?;
-    match read.into_profile() {
-        Some(profile) => Ok(profile),
-        None => Err(Failure::Missing(Extra::Profile)),
-    }
-}
-
-// The same, if it is wanted.
-fn profile_if(
-    alloc: Global,
-    file: &[u8],
-    limits: &Limits,
-    wanted: bool,
-) -> Result<Option<Vec<u8>>, Failure>
-    ensures ok { IfOk result (λ v. IsFound wanted (λ bytes. ProfileOfFile limits.now file.now (Some bytes))
-        (bytes_if v)) }
-    ensures err { IfErr result (InfoFails limits.now file.now) }
-{
-    if !wanted {
-        return Ok(None);
-    }
-    let profile = profile_of_file(alloc, file, limits)?;
-    Ok(Some(profile))
-}
-
-// What was found of these data, if they are wanted.
-fn if_wanted(found: Option<&[u8]>, extra: Extra, wanted: bool) -> Result<Option<&[u8]>, Failure>
-    ensures ok { IfOk result (λ v. IsFound wanted (λ bytes. option_copied found.entry ≡ Some bytes) (option_copied v)) }
-    ensures err { IfErr result (λ failure. (failure ≡ Failure.Missing extra) × (option_copied found.entry ≡ None)) }
-{
-    if !wanted {
-        return Ok(None);
-    }
-    match found {
-        Some(bytes) => Ok(Some(bytes)),
-        None => Err(Failure::Missing(extra)),
-    }
-}
-
-// What is asked for of a file beside its picture.
-fn metadata_asked<'a>(
-    alloc: Global,
-    file: &'a [u8],
-    options: &Options<'_>,
-) -> Result<Metadata<'a>, Failure>
-    ensures profile { IfOk result (λ m. IsFound (is_some options.now.paths.icc)
-        (λ bytes. ProfileOfFile options.now.limits file.now (Some bytes)) (bytes_if m.profile)) }
-    ensures exif { IfOk result (λ m. IsFound (is_some options.now.paths.exif) (λ bytes. HasExif file.now (Some bytes))
-        (option_copied m.exif)) }
-    ensures xmp { IfOk result (λ m. IsFound (is_some options.now.paths.xmp) (λ bytes. HasXmp file.now (Some bytes))
-        (option_copied m.xmp)) }
-    ensures err { IfErr result (InfoFails options.now.limits file.now) }
-{
-    let profile = profile_if(alloc, file, &options.limits, options.paths.icc.is_some())?;
-    let exif = if_wanted(find_exif(file), Extra::Exif, options.paths.exif.is_some())?;
-    let xmp = if_wanted(find_xmp(file), Extra::Xmp, options.paths.xmp.is_some())?;
-    Ok(Metadata { profile, exif, xmp })
-}
-
-// Writes these data, if there are some, and passes them on.
-fn save<F: Flush>(output: &mut F, bytes: Option<&[u8]>, extra: Extra) -> Result<(), Failure>
-    ensures ok { OnOk result (IsKept (option_copied bytes.entry) (F.contents output.old) (F.contents output.new)
-        (F.is_flushed output.new) (output.new ≡ output.old)) }
-    ensures err { IfErr result IsOfSaving }
-{
-    let Some(bytes) = bytes else {
-        return Ok(());
-    };
-    match write_flushed(output, bytes) {
-        Ok(()) => Ok(()),
-        Err(error) => Err(Failure::Unsaved(extra, error)),
-    }
-}
-
-// Writes what is asked for of a file beside its picture.
-fn save_all<F: Flush>(extras: &mut Extras<F>, metadata: &Metadata<'_>) -> Result<(), Failure>
-    ensures profile { OnOk result (IsKept (bytes_if metadata.now.profile) (F.contents extras.old.profile)
-        (F.contents extras.new.profile) (F.is_flushed extras.new.profile) (extras.new.profile ≡ extras.old.profile)) }
-    ensures exif { OnOk result (IsKept (option_copied metadata.now.exif) (F.contents extras.old.exif)
-        (F.contents extras.new.exif) (F.is_flushed extras.new.exif) (extras.new.exif ≡ extras.old.exif)) }
-    ensures xmp { OnOk result (IsKept (option_copied metadata.now.xmp) (F.contents extras.old.xmp)
-        (F.contents extras.new.xmp) (F.is_flushed extras.new.xmp) (extras.new.xmp ≡ extras.old.xmp)) }
-    ensures err { IfErr result IsOfSaving }
-{
-    save(
-        &mut extras.profile,
-        metadata.profile.as_deref(),
-        Extra::Profile,
-    )?;
-    save(&mut extras.exif, metadata.exif, Extra::Exif)?;
-    save(&mut extras.xmp, metadata.xmp, Extra::Xmp)?;
-    Ok(())
 }
 
 // What is asked of a file that was read: the output, and what is asked for beside it.
@@ -425,12 +319,13 @@ fn asked_of_file<'a, P: Progress + Line>(
     ensures writable { IfOk result (λ a. IsWritable a.output.content) }
     ensures later { IfOk result (λ a. HasLaterError file.now a.output.left_out.later_error) }
     ensures profile { IfOk result (λ a. IsFound (is_some options.now.paths.icc)
-        (λ bytes. ProfileOfFile options.now.limits file.now (Some bytes)) (bytes_if a.metadata.profile)) }
+        (λ bytes. HasProfile options.now.limits file.now (Some bytes)) (bytes_if a.metadata.profile)) }
     ensures exif { IfOk result (λ a. IsFound (is_some options.now.paths.exif) (λ bytes. HasExif file.now (Some bytes))
         (option_copied a.metadata.exif)) }
     ensures xmp { IfOk result (λ a. IsFound (is_some options.now.paths.xmp) (λ bytes. HasXmp file.now (Some bytes))
         (option_copied a.metadata.xmp)) }
-    ensures err { IfErr result (AskedFails options.now.task options.now.limits options.now.format file.now) }
+    ensures err { IfErr result (λ failure. AskedFails options.now.task options.now.limits options.now.format file.now
+        failure ⊎ MetadataFails options.now.limits file.now failure) }
 {
     let metadata = metadata_asked(alloc, file, options)?;
     let made = output_asked(alloc, file, options, progress);
@@ -440,7 +335,7 @@ fn asked_of_file<'a, P: Progress + Line>(
 }
 
 // Reads the file, and writes what is asked of it. It returns what the output leaves out.
-fn carry_out<R: Read, W: Flush, F: Flush, P: Progress + Line>(
+fn carry_out<R: InputStream, W: Flush, F: Flush, P: Progress + Line>(
     alloc: Global,
     options: &Options<'_>,
     input: &mut R,
@@ -452,7 +347,7 @@ fn carry_out<R: Read, W: Flush, F: Flush, P: Progress + Line>(
         (R.remaining input.old) (R.remaining input.new) (W.contents output.old) (W.contents output.new)
         (string_bytes l.channels) l.loss l.frames l.later_error) }
     ensures saved { OnOk result (IsReadWhole (R.remaining input.old) (R.remaining input.new) (λ file.
-        IsSaved (is_some options.now.paths.icc) (λ bytes. ProfileOfFile options.now.limits file (Some bytes))
+        IsSaved (is_some options.now.paths.icc) (λ bytes. HasProfile options.now.limits file (Some bytes))
         (F.contents extras.old.profile) (F.contents extras.new.profile) (F.is_flushed extras.new.profile)
         (extras.new.profile ≡ extras.old.profile)
         × IsSaved (is_some options.now.paths.exif) (λ bytes. HasExif file (Some bytes)) (F.contents extras.old.exif)
@@ -460,12 +355,13 @@ fn carry_out<R: Read, W: Flush, F: Flush, P: Progress + Line>(
         × IsSaved (is_some options.now.paths.xmp) (λ bytes. HasXmp file (Some bytes)) (F.contents extras.old.xmp)
         (F.contents extras.new.xmp) (F.is_flushed extras.new.xmp) (extras.new.xmp ≡ extras.old.xmp))) }
     ensures failed { IfErr result (InputFails options.now.task options.now.limits options.now.format
-        (R.remaining input.old) (R.remaining input.new) (W.contents output.old) (W.contents output.new)) }
+        (R.remaining input.old) (R.remaining input.new) (R.fails_by input.new) (W.contents output.old)
+        (W.contents output.new)) }
     ensures flushed { OnOk result (W.is_flushed output.new) }
     ensures kept { IfErr result (λ failure. is_of_output failure ≡ false → output.new ≡ output.old) }
     ensures extras { IfErr result (λ failure. is_of_output failure ≡ false → extras.new ≡ extras.old) }
 {
-    let file = match read_whole(alloc, input) {
+    let file = match input.read_rest(alloc) {
         Ok(file) => file,
         Err(error) => return Err(Failure::Unreadable(error)),
     };
@@ -475,50 +371,15 @@ fn carry_out<R: Read, W: Flush, F: Flush, P: Progress + Line>(
     Ok(asked.output.left_out)
 }
 
-/// Writes the line of a failure about what has this name, as far as it can be written, and ends with status 1. Of a
-/// closed pipe nothing is written.
-pub fn report<E: Write>(errors: &mut E, name: &str, failure: Failure) -> End
-    ensures status { result.status ≡ 1 }
-    ensures line { IfSome (failure_line name.now failure) (λ line. IsTrue result.reported
-        → Appends (E.contents errors.old) (E.contents errors.new) line) }
-    ensures silent { failure ≡ Failure.Closed → errors.new ≡ errors.old }
-{
-    let reported = match failure {
-        Failure::Closed => false,
-        _ => writeln!(errors, "jxldec: {name}: {failure}").is_ok(),
-    };
-    End {
-        status: 1,
-        reported,
-    }
-}
-
-/// Ends with status 0, after the lines that warn of what is left out, as far as they can be written, unless nothing but
-/// errors is to be printed.
-pub fn succeed<E: Write>(errors: &mut E, options: &Options<'_>, left_out: &LeftOut) -> End
-    ensures status { result.status ≡ 0 }
-    ensures lines { IsTrue result.reported → Appends (E.contents errors.old) (E.contents errors.new)
-        (warnings options.now.quiet options.now.input.now (string_bytes left_out.now.channels) left_out.now.loss
-        left_out.now.frames left_out.now.later_error) }
-    ensures quiet { options.now.quiet ≡ true → errors.new ≡ errors.old }
-    ensures none { string_bytes left_out.now.channels ≡ [] → has_loss left_out.now.loss ≡ false
-        → has_more left_out.now.frames ≡ false → left_out.now.later_error ≡ None → errors.new ≡ errors.old }
-{
-    let reported = !options.quiet && warn(errors, options.input, left_out);
-    End {
-        status: 0,
-        reported,
-    }
-}
-
 /// Reads a file from `input`, and writes to `output` what its headers tell, or its picture in PNG, a netpbm format or
 /// decimal numbers, or nothing; and to `extras` its profile, its Exif data and its XMP data, those that are asked for.
 /// It returns the status to end with: 0 where each got that, alone and whole; else 1, and `errors` got the line of a
-/// failure that holds of the file, unless the output is a pipe that was closed. Nothing is written unless the whole
+/// failure that holds of the input or of the file, unless the output is a pipe that was closed. It also
+/// returns whether `errors` got its lines, or a write to it failed. Nothing is written unless the whole
 /// picture was decoded, and the file has all that is asked for; after a failed write the output holds a beginning of its
 /// text. With status 0 `errors` got nothing but the lines that warn of what is left out, and of the error of the boxes
 /// after the codestream; a profile that is saved is not left out. `progress` is called after each section.
-pub fn run<R: Read, W: Flush, F: Flush, E: Write, P: Progress + Line>(
+pub fn run<R: InputStream, W: Flush, F: Flush, E: ErrorStream, P: Progress + Line>(
     alloc: Global,
     options: Options<'_>,
     input: &mut R,
@@ -531,9 +392,10 @@ pub fn run<R: Read, W: Flush, F: Flush, E: Write, P: Progress + Line>(
     ensures done { result.status ≡ 0 → IsDone options.entry.task options.entry.quiet (is_some options.entry.paths.icc)
         options.entry.limits options.entry.format options.entry.input.now (R.remaining input.old)
         (R.remaining input.new) (W.contents output.old) (W.contents output.new)
-        (IsReported result.reported (E.contents errors.old) (E.contents errors.new)) (errors.new ≡ errors.old) }
+        (IsReported result.reported (E.contents errors.old) (E.contents errors.new) (E.has_failed errors.new))
+        (errors.new ≡ errors.old) }
     ensures saved { result.status ≡ 0 → IsReadWhole (R.remaining input.old) (R.remaining input.new) (λ file.
-        IsSaved (is_some options.entry.paths.icc) (λ bytes. ProfileOfFile options.entry.limits file (Some bytes))
+        IsSaved (is_some options.entry.paths.icc) (λ bytes. HasProfile options.entry.limits file (Some bytes))
         (F.contents extras.old.profile) (F.contents extras.new.profile) (F.is_flushed extras.new.profile)
         (extras.new.profile ≡ extras.old.profile)
         × IsSaved (is_some options.entry.paths.exif) (λ bytes. HasExif file (Some bytes)) (F.contents extras.old.exif)
@@ -542,13 +404,14 @@ pub fn run<R: Read, W: Flush, F: Flush, E: Write, P: Progress + Line>(
         (F.contents extras.new.xmp) (F.is_flushed extras.new.xmp) (extras.new.xmp ≡ extras.old.xmp)) }
     ensures flushed { result.status ≡ 0 → W.is_flushed output.new }
     ensures failed { result.status ≡ 1 → IsFailed options.entry (R.remaining input.old) (R.remaining input.new)
-        (W.contents output.old) (W.contents output.new) ((output.new ≡ output.old) × (extras.new ≡ extras.old)) (λ line.
-        IfSome line (IsReported result.reported (E.contents errors.old) (E.contents errors.new))) }
+        (R.fails_by input.new) (W.contents output.old) (W.contents output.new)
+        ((output.new ≡ output.old) × (extras.new ≡ extras.old)) (errors.new ≡ errors.old)
+        (IsReportedLine result.reported (E.contents errors.old) (E.contents errors.new) (E.has_failed errors.new)) }
 {
     match carry_out(alloc, &options, input, output, extras, progress) {
         Ok(left_out) => {
             let warned = left_out.but_saved(options.paths.icc.is_some());
-            succeed(errors, &options, &warned)
+            succeed(errors, options.quiet, options.input, &warned)
         }
         Err(failure) => report(errors, options.name_of(failure), failure),
     }

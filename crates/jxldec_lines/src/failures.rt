@@ -155,7 +155,7 @@ impl fmt::Display for Failure {
             Failure::Missing(extra) => f.write_str(missing_text(extra)),
             Failure::OutOfMemory => f.write_str("out of memory"),
             Failure::Ending => f.write_str(
-                "no format has this ending; there are .png, .pgm, .ppm, .pnm, .pam, .pfm and .text",
+                "no format has this ending; there are .png, .apng, .pgm, .ppm, .pnm, .pam, .pfm and .text",
             ),
             Failure::Unwritable(_) | Failure::Unsaved(..) => f.write_str("cannot write"),
             Failure::Closed => f.write_str("a pipe that was closed"),

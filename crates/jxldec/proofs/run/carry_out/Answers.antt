@@ -1,6 +1,6 @@
 use Rattle.std.proofs.Common.{rules}
 use Rattle.std.proofs.lemmas.Result.{err_from_is_err_and}
-use Rattle.jxldec.proofs.Saving.{saved, saving_fails, whole_begins}
+use Rattle.jxldec.proofs.Saving.{asked_fails, saved, saving_fails, whole_begins}
 use Rattle.jxldec.proofs.run.carry_out.Goals as goal
 
 pub returns-clause-saved : goal.returns-clause-saved
@@ -18,7 +18,7 @@ returns-clause-saved g c = record {
 pub returns-in_err-save_all-clause-failed : goal.returns-in_err-save_all-clause-failed
 returns-in_err-save_all-clause-failed g c =
     let p = err_from_is_err_and c.from_residual-in_err-save_all.result c.from_residual-in_err-save_all.ensures.1 in
-    rw (p.1, p.2) (saving_fails _ _ _ _ _ _ _ _ c.in_err-save_all.ensures.err (record {
+    rw (p.1, p.2) (saving_fails _ _ _ _ _ _ _ _ _ c.in_err-save_all.ensures.err (record {
       file = c.deref.result.now;
       read = search rules;
       ended = search rules;
@@ -30,4 +30,14 @@ returns-in_err-save_all-clause-failed g c =
         is = c.in_ok-asked.ensures.ok;
         begun = whole_begins _ _ _ c.in_ok-pass_on.ensures.ok;
       };
+    }))
+
+pub returns-in_err-asked-clause-failed : goal.returns-in_err-asked-clause-failed
+returns-in_err-asked-clause-failed g c =
+    let p = err_from_is_err_and c.from_residual.result c.from_residual.ensures.1 in
+    rw (p.1, p.2) (asked_fails _ _ _ _ _ _ _ _ _ (record {
+      file = c.deref.result.now;
+      read = search rules;
+      ended = search rules;
+      is = c.in_err-asked.ensures.err;
     }))

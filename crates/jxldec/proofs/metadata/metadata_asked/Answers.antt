@@ -4,7 +4,7 @@ use Rattle.std.specs.Option.{option_copied}
 use Rattle.jxl_container.specs.Metadata.{HasExif, HasXmp}
 use Rattle.jxldec.specs.Texts.{IsFound}
 use Rattle.jxldec.proofs.FileReading.{exif_missing, found_so, xmp_missing}
-use Rattle.jxldec.proofs.run.metadata_asked.Goals as goal
+use Rattle.jxldec.proofs.metadata.metadata_asked.Goals as goal
 
 pub returns-in_err-exif-clause-err : goal.returns-in_err-exif-clause-err
 returns-in_err-exif-clause-err c =

@@ -1,9 +1,10 @@
 //! What the program is asked for on its command line.
 
-ghost use Rattle.std.specs.Prelude.{◌≡◌, ◌≢◌, MatchOption, Some, map};
+ghost use Rattle.std.specs.Prelude.{◌≡◌, ◌≢◌, ◌↔◌, IsTrue, MatchOption, Some, codes, map};
 ghost use Rattle.std.specs.Option.{option_copied};
+ghost use Rattle.std.specs.Char.{to_ascii_lowercase};
 ghost use Rattle.std.specs.Path.{path_extension};
-ghost use Rattle.jxldec.specs.Options.{IsNoFormat, IsNoNetpbm, IsWordOf, limits_of as the_limits, subject};
+ghost use Rattle.jxldec_options.specs.Options.{IsNoFormat, IsNoNetpbm, IsWordOf, limits_of as the_limits, subject, task_of as the_task};
 ghost use Rattle.jxldec_lines.specs.declared.format.OutputFormat.TheVariants.{Netpbm};
 
 use clap::{Arg, ArgAction, ArgMatches, Command};
@@ -20,8 +21,10 @@ use std::path::Path;
 pub enum Task {
     /// What the headers tell.
     Headers,
-    /// The picture.
+    /// The picture; of an animation, its first one.
     Picture,
+    /// The animation, or the picture of a file that is none.
+    Animation,
     /// The picture with this number among those that the file shows, from 0 on.
     Frame(u32),
     /// Nothing: only other data of the file are asked for.
@@ -112,7 +115,7 @@ fn format(alloc: Global) -> Arg<'static> {
     Arg::new(alloc, "format")
         .long("format")
         .value_name("FORMAT")
-        .value_parser(["png", "pgm", "ppm", "pnm", "pam", "pfm", "text"].as_slice())
+        .value_parser(["png", "apng", "pgm", "ppm", "pnm", "pam", "pfm", "text"].as_slice())
         .help("Its format [default: by the ending of its name, else by what the picture holds]")
 }
 
@@ -201,11 +204,18 @@ fn netpbm_of(name: &str) -> Option<Format>
     }
 }
 
+// Whether this is the name of PNG files with several pictures, in letters of either case.
+fn is_apng(name: &str) -> bool
+    ensures { IsTrue result ↔ (map to_ascii_lowercase name.now ≡ codes "apng") }
+{
+    name.eq_ignore_ascii_case("apng")
+}
+
 // The format of this name, in letters of either case.
 fn format_of(name: &str) -> Option<OutputFormat>
     ensures { MatchOption result (IsNoFormat name.now) (IsWordOf name.now) }
 {
-    if name.eq_ignore_ascii_case("png") {
+    if name.eq_ignore_ascii_case("png") || is_apng(name) {
         return Some(OutputFormat::Png);
     }
     match netpbm_of(name) {
@@ -241,15 +251,19 @@ fn limits_of(
     }
 }
 
-// What is written to the output: the headers or a picture, unless only other data are asked for.
-fn task_of(info: bool, frame: Option<u32>, output: bool, others: bool) -> Task {
+// What is written to the output: the headers; or the picture with a number that is asked for; or, if a picture is wanted, the
+// animation or the picture.
+fn task_of(info: bool, frame: Option<u32>, picture: bool, animated: bool) -> Task
+    ensures { result ≡ the_task info frame picture animated }
+{
     if info {
         return Task::Headers;
     }
     match frame {
         Some(number) => Task::Frame(number),
-        None if output || !others => Task::Picture,
-        None => Task::Nothing,
+        None if !picture => Task::Nothing,
+        None if animated => Task::Animation,
+        None => Task::Picture,
     }
 }
 
@@ -275,8 +289,8 @@ impl<'a> Options<'a> {
             task: task_of(
                 matches.get_flag("info"),
                 matches.get_one("frame"),
-                matches.get_str("output").is_some(),
-                paths.has_some(),
+                matches.get_str("output").is_some() || !paths.has_some(),
+                name.is_some_and(is_apng),
             ),
             paths,
             format: name.and_then(format_of),

@@ -1,5 +1,5 @@
 -- What the command line asks for.
-use Rattle.std.specs.Prelude.{◌≡◌, ◌⊎◌, ℕ, ◌^◌, List, map, Option, if◌then◌else◌, codes}
+use Rattle.std.specs.Prelude.{◌≡◌, ◌⊎◌, ℕ, ◌^◌, List, map, Bool, true, false, Option, Some, None, if◌then◌else◌, codes}
 use Rattle.std.specs.Option.{unwrap_or}
 use Rattle.std.specs.Char.{to_ascii_lowercase}
 use Rattle.jxl_netpbm.specs.declared.format.Format.{Format}
@@ -11,16 +11,19 @@ use Rattle.jxldec_lines.specs.declared.failures.Failure.{Failure}
 use Rattle.jxldec_lines.specs.declared.failures.Failure.TheVariants as failures
 use Rattle.jxldec_lines.specs.declared.format.OutputFormat.{OutputFormat}
 use Rattle.jxldec_lines.specs.declared.format.OutputFormat.TheVariants.{Netpbm, Png}
-use Rattle.jxldec.specs.declared.options.Options.{Options}
+use Rattle.jxldec_options.specs.declared.options.Options.{Options}
+use Rattle.jxldec_options.specs.declared.options.Task.{Task}
+use Rattle.jxldec_options.specs.declared.options.Task.TheVariants as tasks
 
--- the word is a name of a format, which is an ending of its files, too: PNM is PGM for grey and PPM for red, green and blue
+-- the word is a name of a format, which is an ending of its files, too: PNM is PGM for grey and PPM for red, green and blue, and APNG is
+-- PNG with several pictures
 abbrev pub IsName : List ℕ → OutputFormat → Type 0
 IsName word (Netpbm formats.Pgm) = word ≡ codes "pgm"
 IsName word (Netpbm formats.Ppm) = (word ≡ codes "ppm") ⊎ (word ≡ codes "pnm")
 IsName word (Netpbm formats.Pam) = word ≡ codes "pam"
 IsName word (Netpbm formats.Pfm) = word ≡ codes "pfm"
 IsName word (Netpbm formats.Text) = word ≡ codes "text"
-IsName word Png = word ≡ codes "png"
+IsName word Png = (word ≡ codes "png") ⊎ (word ≡ codes "apng")
 
 -- the text is a name of a format, in letters of either case
 abbrev pub IsWordOf : List ℕ → OutputFormat → Type 0
@@ -45,6 +48,15 @@ limits_of pixels bytes decisions codewords = record {
   decisions = unwrap_or decisions 128;
   codewords = unwrap_or codewords (2 ^ 26);
 }
+
+-- what is written to the output: with `--info`, the headers; else the picture with the number that is asked for; else the animation, if
+-- a picture is wanted and its format has several, or the picture, or nothing
+abbrev pub task_of : Bool → Option ℕ → Bool → Bool → Task
+task_of true frame picture animated = tasks.Headers
+task_of false (Some number) picture animated = tasks.Frame number
+task_of false None false animated = tasks.Nothing
+task_of false None true true = tasks.Animation
+task_of false None true false = tasks.Picture
 
 -- the name of what fails: of where other data are written, of the output, or of the file
 abbrev pub subject : Options → Failure → List ℕ
