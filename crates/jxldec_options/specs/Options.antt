@@ -1,6 +1,7 @@
 -- What the command line asks for.
-use Rattle.std.specs.Prelude.{◌≡◌, ◌⊎◌, ℕ, ◌^◌, List, map, Bool, true, false, Option, Some, None, if◌then◌else◌, codes}
-use Rattle.std.specs.Option.{unwrap_or}
+use Rattle.std.specs.Prelude.{◌≡◌, ◌⊎◌, ℕ, ◌^◌, List, map, Bool, true, false, Option, Some, None, if◌then◌else◌, codes, not, is_some, ◌&&◌}
+use Rattle.std.specs.Option.{unwrap_or, option_or, option_map_or}
+use Rattle.std.specs.Path.{path_extension}
 use Rattle.std.specs.Char.{to_ascii_lowercase}
 use Rattle.jxl_netpbm.specs.declared.format.Format.{Format}
 use Rattle.jxl_netpbm.specs.declared.format.Format.TheVariants as formats
@@ -62,3 +63,8 @@ task_of false None true false = tasks.Picture
 abbrev pub subject : Options → Failure → List ℕ
 subject options (failures.Unsaved extra error) = path_of options.paths extra
 subject options failure = if is_of_output failure then options.output_name.now else options.input.now
+
+-- the name of the output, or the pattern of names, has an ending, and no format is known: by its name or by that ending
+abbrev pub has_other_ending : Options → Bool
+has_other_ending options = not (is_some options.format)
+    && option_map_or (λ path. is_some (path_extension path.now)) (option_or options.frames options.output) false

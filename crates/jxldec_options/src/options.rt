@@ -4,7 +4,10 @@ ghost use Rattle.std.specs.Prelude.{◌≡◌, ◌≢◌, ◌↔◌, IsTrue, Mat
 ghost use Rattle.std.specs.Option.{option_copied};
 ghost use Rattle.std.specs.Char.{to_ascii_lowercase};
 ghost use Rattle.std.specs.Path.{path_extension};
-ghost use Rattle.jxldec_options.specs.Options.{IsNoFormat, IsNoNetpbm, IsWordOf, limits_of as the_limits, subject, task_of as the_task};
+ghost use Rattle.clap.specs.Matches.{found_of};
+ghost use Rattle.jxldec_options.specs.Asked.{AreOptions};
+ghost use Rattle.jxldec_options.specs.Options.{IsNoFormat, IsNoNetpbm, IsWordOf, has_other_ending as the_other, limits_of as the_limits};
+ghost use Rattle.jxldec_options.specs.Options.{subject, task_of as the_task};
 ghost use Rattle.jxldec_lines.specs.declared.format.OutputFormat.TheVariants.{Netpbm};
 
 use clap::{Arg, ArgAction, ArgMatches, Command};
@@ -269,7 +272,9 @@ fn task_of(info: bool, frame: Option<u32>, picture: bool, animated: bool) -> Tas
 
 impl<'a> Options<'a> {
     /// What a command line asks for: of the format by its name, else by the ending of the picture's path.
-    pub fn of(matches: &ArgMatches<'a>) -> Options<'a> {
+    pub fn of(matches: &ArgMatches<'a>) -> Options<'a>
+        ensures { AreOptions (found_of matches.now) result }
+    {
         let path = matches.get_str("output").unwrap_or("-");
         let output = if path == "-" { None } else { Some(path) };
         let frames = matches.get_str("frames");
@@ -316,7 +321,9 @@ impl<'a> Options<'a> {
     }
 
     /// Whether the ending of the picture's path is that of no format, and none is asked for by its name.
-    pub fn has_other_ending(&self) -> bool {
+    pub fn has_other_ending(&self) -> bool
+        ensures { result ≡ the_other self.now }
+    {
         match self.frames.or(self.output) {
             Some(path) => self.format.is_none() && ending(path).is_some(),
             None => false,
