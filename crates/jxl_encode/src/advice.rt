@@ -322,7 +322,7 @@ fn colours_by_errors(effort: Effort, colours: &[Option<u32>]) -> &[Option<u32>] 
     match effort {
         Effort::Fast => &[],
         Effort::Usual if colours.len() > 1 => &[Some(LUMA)],
-        Effort::Best if colours.len() > 1 => &[None, Some(LUMA), Some(GREEN)],
+        Effort::Best => colours,
         _ => &[None],
     }
 }
@@ -397,6 +397,28 @@ fn efforts_of(effort: Effort, repeats: bool) -> &'static [Effort] {
     }
 }
 
+/// The colour transforms that are tried of a picture at an effort: of floats and of very deep samples none. Those at the greatest
+/// effort beside luma and green have a difference to one channel and one to the mean of two, in five orders of the channels.
+fn colours_of(header: &ImageHeader, effort: Effort) -> &'static [Option<u32>] {
+    let depth = header.bit_depth;
+    if is_grey(header) || depth.exp_bits != 0 || depth.bits_per_sample > 24 {
+        return &[None];
+    }
+    if matches!(effort, Effort::Best) {
+        return &[
+            None,
+            Some(LUMA),
+            Some(GREEN),
+            Some(5),
+            Some(12),
+            Some(19),
+            Some(26),
+            Some(40),
+        ];
+    }
+    &[None, Some(LUMA)]
+}
+
 /// Ways to code a picture, of which samples repeat if `repeats` says so.
 pub(crate) fn advices_for(
     alloc: Global,
@@ -405,21 +427,13 @@ pub(crate) fn advices_for(
     repeats: bool,
 ) -> Result<Vec<Advice>, OutOfMemory> {
     let header = &picture.header;
-    let depth = header.bit_depth;
     let mut list = Vec::new(alloc);
     let samples = Samples {
         channels: &picture.channels,
-        depth,
-    };
-    let colours: &[Option<u32>] = if is_grey(header)
-        || depth.exp_bits != 0
-        || depth.bits_per_sample > 24
-    {
-        &[None]
-    } else {
-        &[None, Some(LUMA)]
+        depth: header.bit_depth,
     };
     for effort in efforts_of(effort, repeats) {
+        let colours = colours_of(header, *effort);
         add_ways_of(alloc, &mut list, samples, *effort, colours)?;
         add_palette_ways(alloc, &mut list, picture, *effort)?;
     }
