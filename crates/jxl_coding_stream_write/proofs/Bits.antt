@@ -7,7 +7,7 @@ use Rattle.std.specs.Int.{rotate_right, w64}
 use Rattle.std.specs.Int.Bits.{bit_or, or_zero_l}
 use Rattle.std.specs.Simd.{first_chunks}
 use Rattle.std.proofs.lemmas.Nat.{pow_pos, pow-add, shr_high, field_of, mod_below, mod-pow-add, or_shr, shl-shr, shr-shr, div-add-mod'}
-use Rattle.std.proofs.Math.Nat.{add-mul-mod_self_right, add-mul, mul_assoc, mul_comm, mul-le-mul_left, suc-mul, zero-mul}
+use Rattle.std.proofs.Math.Nat.{add-mul, mul_assoc, mul_comm, suc-mul, zero-mul}
 use Rattle.jxlm_bit_writer.specs.Written.{digits, words_back}
 use Rattle.jxlm_bit_writer.proofs.BitLists.{digits_low}
 use Rattle.jxlm_bit_writer.proofs.HeldBits.{digits_split, digits_mod}
@@ -41,12 +41,20 @@ module _ (value count n piece : ℕ) (fits : piece < 2 ^ n) where
       (sym (digits_wrapped (count + n) 64 sum le) ∙ ap (digits (count + n)) same ∙ digits_wrapped (count + n) 64 (value * 2 ^ n + piece) le ∙ sum_digits)
       ∙ append_assoc (digits n piece) (digits count value) (words_back words)
 
+-- the lowest bits of a number after the last 16 of a state
+pub after_state : (width token state : ℕ) →
+    digits (width + 16) ((token * 65536 + state % 65536) % 2 ^ (width + 16)) ≡ digits 16 (state % 65536) ++ digits width (token % 2 ^ width)
+after_state width token state =
+    digits_mod (width + 16) (token * 65536 + state % 65536)
+    ∙ sum_digits token width 16 (state % 65536) (omega arith)
+    ∙ ap (λ xs. digits 16 (state % 65536) ++ xs) (sym (digits_mod width token))
+
 -- a sum in 64 bits
 sum_wrapped : (x piece : ℕ) → (x % 18446744073709551616 + piece) % 18446744073709551616 % 18446744073709551616 ≡ (x + piece) % 18446744073709551616
 sum_wrapped x piece = omega arith
 
 -- a number that is rotated has its lowest bits highest
-pub rotated_high : (number n : ℕ) → number < 2 ^ 32 → n ≤ 32 → rotate_right w64 number n / 2 ^ (64 - n) ≡ number % 2 ^ n
+pub rotated_high : (number n : ℕ) → number < 2 ^ 64 → n < 64 → rotate_right w64 number n / 2 ^ (64 - n) ≡ number % 2 ^ n
 rotated_high number zero small narrow =
     let low : number / 2 ^ 0 / 2 ^ 64 ≡ 0 = omega (arith, small) in
     let high : number * 2 ^ 0 % 2 ^ 64 / 2 ^ 64 ≡ number % 2 ^ 0 = omega (arith, small) in
@@ -69,11 +77,11 @@ rotated_high number (suc m) small narrow =
     ∙ or_zero_l (number * 2 ^ ((64 - n % 64) % 64) % 2 ^ 64 / 2 ^ (64 - n))
     ∙ high
   where
-    above_all : (x : ℕ) → x < 2 ^ 32 → x / 2 ^ 64 ≡ 0
+    above_all : (x : ℕ) → x < 2 ^ 64 → x / 2 ^ 64 ≡ 0
     above_all x lt = omega (arith, lt)
 
 -- the lowest bits of a number below others, as the machine computes them
-pub low_same : (value n number : ℕ) → number < 2 ^ 32 → n ≤ 32 → (by piece : ℕ) → by ≡ n → piece ≡ rotate_right w64 number n →
+pub low_same : (value n number : ℕ) → number < 2 ^ 64 → n < 64 → (by piece : ℕ) → by ≡ n → piece ≡ rotate_right w64 number n →
     (value * 2 ^ by % 18446744073709551616 + piece / 2 ^ 1 / 2 ^ (63 - by)) % 18446744073709551616 % 18446744073709551616 ≡ (value * 2 ^ n + number % 2 ^ n) % 18446744073709551616
 low_same value n number small narrow by piece e is =
     let moved : 1 + (63 - by) ≡ 64 - n = omega (arith, e, narrow) in
@@ -88,7 +96,7 @@ words_and_one [] word = sym (append-nil (digits 64 word))
 words_and_one (x ∷ words) word = ap (λ (xs : List ℕ). xs ++ digits 64 x) (words_and_one words word) ∙ append_assoc (digits 64 word) (words_back words) (digits 64 x)
 
 -- if the lowest n bits of a number come before others, the last 64 of them all are a word
-module _ (value count n number : ℕ) (small : number < 2 ^ 32) (few : count < 64) (full : 64 ≤ count + n) where
+module _ (value count n number : ℕ) (small : number < 2 ^ 64) (few : count < 64) (full : 64 ≤ count + n) where
   abbrev rest : ℕ
   rest = count + n - 64
 
@@ -117,7 +125,7 @@ module _ (value count n number : ℕ) (small : number < 2 ^ 32) (few : count < 6
       ∙ ap (λ xs. xs ++ digits 64 high) (digits_mod rest number)
 
   -- the word, as the machine computes it
-  pub word_same : n ≤ 32 → (upper piece : ℕ) → upper ≡ last → piece ≡ rotate_right w64 number n →
+  pub word_same : n < 64 → (upper piece : ℕ) → upper ≡ last → piece ≡ rotate_right w64 number n →
       (value * 2 ^ upper % 18446744073709551616 + piece / 2 ^ (64 - upper)) % 18446744073709551616 % 18446744073709551616 ≡ high % 18446744073709551616
   word_same narrow upper piece e is =
       let moved : 64 - upper ≡ 64 - n + rest = omega (arith, e, few, full, narrow) in

@@ -8,7 +8,6 @@ use Rattle.std.proofs.Math.Nat.{pow-le-pow_right, pow-suc}
 use Rattle.jxl_coding_codes.specs.IntegerConfigs.{IsConfig}
 use Rattle.jxl_coding_codes.specs.declared.config.IntegerConfig.{IntegerConfig}
 use Rattle.jxl_coding_write.specs.HybridIntegers.{IsSpelled, long_symbol, symbol_of}
-use Rattle.jxl_coding_stream_write.specs.Inner.TokenRests.{symbol_unless}
 use Rattle.jxl_coding_stream_write.specs.declared.cluster.ClusterWriter.{ClusterWriter}
 use Rattle.jxl_coding_write.proofs.Spellings.{not_longer_one, read_short, spelled, leading, sum_small, times_low_small, symbol_small}
 
@@ -80,23 +79,6 @@ module _ (o : Option ℕ) (split coded token : ℕ) (none : o ≡ None → coded
       by : (p : Option ℕ) → o ≡ p → is_some p ≡ true
       by (Some symbol) e = refl
       by None e = let z = none e in absurd (omega (arith, z, le, lt))
-
--- a symbol, if no symbol is the only one
-pub unless_some : (o : Option ℕ) (symbol : ℕ) → is_some o ≡ true → None ≡ symbol_unless o symbol
-unless_some (Some only) symbol e = refl
-unless_some None symbol e = cc
-
-pub unless_none : (o : Option ℕ) (symbol s : ℕ) → is_some o ≡ false → s ≡ symbol → Some s ≡ symbol_unless o symbol
-unless_none (Some only) symbol s e f = cc
-unless_none None symbol s e f = ap Some f
-
-pub some_unless : (o : Option ℕ) (symbol s : ℕ) → Some s ≡ symbol_unless o symbol → (is_some o ≡ false) × (s ≡ symbol)
-some_unless (Some only) symbol s e = cc
-some_unless None symbol s e = (refl, cc)
-
-pub none_unless : (o : Option ℕ) (symbol : ℕ) → None ≡ symbol_unless o symbol → is_some o ≡ true
-none_unless (Some only) symbol e = refl
-none_unless None symbol e = cc
 
 -- the symbol of a token that is not below the split, by the steps before the split
 module _ (h : IntegerConfig) (valid : IsConfig h) (n token steps : ℕ) (few : n < 32) (least : 2 ^ n ≤ token) (most : token < 2 ^ (n + 1)) (beyond : 2 ^ h.split_exponent ≤ token)

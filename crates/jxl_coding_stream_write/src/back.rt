@@ -18,14 +18,14 @@ use std::mem;
 pub(crate) fn prepend_lowest(
     words: &mut Vec<u64>,
     first: FirstBits,
-    number: u32,
+    number: u64,
     width: u32,
 ) -> Result<FirstBits, AllocError>
-    requires { width ≤ 32 }
+    requires { width < 64 }
     ensures { IfOk result (λ f. bits_back f words.new.items
         ≡ digits width (number % 2 ^ width) ++ bits_back first words.old.items) }
 {
-    let piece = u64::from(number).rotate_right(width);
+    let piece = number.rotate_right(width);
     let count = first.count + width;
     if count < 64 {
         let by = width % 64;
@@ -37,7 +37,7 @@ pub(crate) fn prepend_lowest(
     let word = (first.value << upper).wrapping_add(piece >> (64 - upper));
     words.push(word)?;
     Ok(FirstBits {
-        value: u64::from(number),
+        value: number,
         count: rest,
     })
 }
@@ -55,7 +55,7 @@ pub(crate) fn prepend(
     if piece.count == 0 {
         return Ok(first);
     }
-    let first = prepend_lowest(words, first, piece.value, piece.count)?;
+    let first = prepend_lowest(words, first, u64::from(piece.value), piece.count)?;
     Ok(first)
 }
 

@@ -1,12 +1,12 @@
 //! The code of a cluster, and the bits of its tokens after their symbols.
 
-ghost use Rattle.std.specs.Prelude.{◌≡◌, ℕ, ◌+◌, ◌-◌, ◌<◌, ◌≤◌, ◌^◌, ◌++◌, ◌↔◌, Option, Some, None, IfOk, IsTrue, false, is_some, length, slice_index, sum, true};
+ghost use Rattle.std.specs.Prelude.{◌≡◌, ℕ, ◌+◌, ◌-◌, ◌<◌, ◌≤◌, ◌%◌, ◌^◌, ◌++◌, ◌↔◌, Option, Some, None, IfOk, IsTrue, false, is_some, length, slice_index, sum, true};
 ghost use Rattle.jxl_coding_codes.specs.Alias.{only_from};
 ghost use Rattle.jxl_coding_codes.specs.IntegerConfigs.{IsConfig};
-ghost use Rattle.jxl_coding_write.specs.HybridIntegers.{symbol_of};
+ghost use Rattle.jxl_coding_write.specs.HybridIntegers.{IsSpelled, symbol_of};
 ghost use Rattle.jxl_coding_stream_write.specs.Inner.Backward.{bits_back};
 
-use crate::back::{prepend, prepend_lowest};
+use crate::back::prepend_lowest;
 use crate::first_bits::FirstBits;
 use jxl_coding_codes::alias::only;
 use jxl_coding_codes::config::IntegerConfig;
@@ -87,15 +87,15 @@ fn base_of(config: &IntegerConfig) -> u32
     power(least) - 1 - least
 }
 
-/// The first bits of a stream, and the symbol that comes before them, if it takes bits.
+/// A symbol, and the number of bits after it: the lowest of its token.
 #[derive(Clone, Copy)]
-pub(crate) struct Rest {
-    pub(crate) first: FirstBits,
-    pub(crate) symbol: Option<u32>,
+pub(crate) struct UpperSymbol {
+    pub(crate) symbol: u32,
+    pub(crate) width: u32,
 }
 
 impl ClusterWriter {
-    ghost use Rattle.jxl_coding_stream_write.specs.Inner.TokenRests.{HasRest, symbol_unless};
+    ghost use Rattle.jxl_coding_stream_write.specs.Inner.TokenRests.{HasRest};
     ghost use Rattle.jxl_coding_stream_write.specs.Tokens.{Occurs};
 
     /// The code of this configuration, and a distribution of at most 2^log symbols.
@@ -138,108 +138,39 @@ impl ClusterWriter {
         self.slots.occurs(spell(&self.config, token).symbol)
     }
 
-    /// Writes the bits after the symbol of a token that is not below the split, where symbols have none of the lowest bits.
+    /// Writes the bits of a token after the only symbol: the lowest bits of the token.
     #[inline(always)]
-    fn write_upper_bits(
+    pub(crate) fn write_upper_bits(
         &self,
         words: &mut Vec<u64>,
         first: FirstBits,
         token: u32,
     ) -> Result<FirstBits, AllocError>
-        requires beyond { 2 ^ self.now.config.split_exponent ≤ token }
-        requires none { self.now.config.lsb_in_token ≡ 0 }
-        ensures { IfOk result (λ f. HasRest self.now.config token
+        requires { self.now.only_upper < token }
+        ensures alone { IfOk result (λ _. is_some self.now.only ≡ true) }
+        ensures bits { IfOk result (λ f. HasRest self.now.config token
             (bits_back f words.new.items) (bits_back first words.old.items)) }
     {
         let n = log_of(token);
         let width = n - self.config.msb_in_token;
-        let first = prepend_lowest(words, first, token, width)?;
+        let first = prepend_lowest(words, first, u64::from(token), width)?;
         Ok(first)
     }
 
-    /// The same, with the symbol.
+    /// The symbol of a token with bits after it: symbols have none of the lowest bits, and there is no only symbol.
     #[inline(always)]
-    fn write_upper(
-        &self,
-        words: &mut Vec<u64>,
-        first: FirstBits,
-        token: u32,
-    ) -> Result<Rest, AllocError>
-        requires beyond { 2 ^ self.now.config.split_exponent ≤ token }
-        requires none { self.now.config.lsb_in_token ≡ 0 }
-        requires several { is_some self.now.only ≡ false }
-        ensures bits { IfOk result (λ r. HasRest self.now.config token
-            (bits_back r.first words.new.items) (bits_back first words.old.items)) }
-        ensures symbol { IfOk result (λ r. r.symbol ≡ symbol_unless self.now.only (symbol_of self.now.config token)) }
+    pub(crate) fn upper_symbol(&self, token: u32) -> UpperSymbol
+        requires { self.now.upper < token }
+        ensures several { is_some self.now.only ≡ false }
+        ensures symbol { result.symbol ≡ symbol_of self.now.config token }
+        ensures read { IsSpelled self.now.config token (symbol_of self.now.config token)
+            result.width (token % 2 ^ result.width) }
+        ensures few { result.width < 32 }
     {
         let n = log_of(token);
         let width = n - self.config.msb_in_token;
-        let first = self.write_upper_bits(words, first, token)?;
         let wide = power(width);
         let symbol = (width + self.base) * self.high + token / wide;
-        Ok(Rest {
-            first,
-            symbol: Some(symbol),
-        })
-    }
-
-    /// Writes the bits after the symbol of a token that is not below the split.
-    #[inline(always)]
-    fn write_long(
-        &self,
-        words: &mut Vec<u64>,
-        first: FirstBits,
-        token: u32,
-    ) -> Result<Rest, AllocError>
-        ensures bits { IfOk result (λ r. HasRest self.now.config token
-            (bits_back r.first words.new.items) (bits_back first words.old.items)) }
-        ensures symbol { IfOk result (λ r. r.symbol ≡ symbol_unless self.now.only (symbol_of self.now.config token)) }
-    {
-        let spelling = spell(&self.config, token);
-        let first = prepend(words, first, spelling.rest)?;
-        if self.only.is_some() {
-            return Ok(Rest {
-                first,
-                symbol: None,
-            });
-        }
-        Ok(Rest {
-            first,
-            symbol: Some(spelling.symbol),
-        })
-    }
-
-    /// Writes the bits after the symbol of a token, before others; there are such bits, or the symbol is the only one.
-    #[inline(always)]
-    pub(crate) fn write_rest(
-        &self,
-        words: &mut Vec<u64>,
-        first: FirstBits,
-        token: u32,
-    ) -> Result<Rest, AllocError>
-        requires { self.now.coded ≤ token }
-        ensures bits { IfOk result (λ r. HasRest self.now.config token
-            (bits_back r.first words.new.items) (bits_back first words.old.items)) }
-        ensures symbol { IfOk result (λ r. r.symbol ≡ symbol_unless self.now.only (symbol_of self.now.config token)) }
-    {
-        if token > self.only_upper {
-            let first = self.write_upper_bits(words, first, token)?;
-            return Ok(Rest {
-                first,
-                symbol: None,
-            });
-        }
-        if token < self.split {
-            return Ok(Rest {
-                first,
-                symbol: None,
-            });
-        }
-        if token > self.upper {
-            let rest = self.write_upper(words, first, token)?;
-            return Ok(rest);
-        }
-        let rest = self.write_long(words, first, token)?;
-        Ok(rest)
+        UpperSymbol { symbol, width }
     }
 }
