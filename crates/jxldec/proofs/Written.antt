@@ -20,7 +20,7 @@ use Rattle.jxldec_lines.specs.declared.failures.Failure.TheVariants as failures
 use Rattle.jxldec_lines.specs.declared.format.OutputFormat.{OutputFormat}
 use Rattle.jxldec_lines.specs.declared.loss.Loss.{Loss}
 use Rattle.jxldec_lines.specs.declared.loss.Loss.TheVariants.{Nothing}
-use Rattle.jxldec.specs.Frames.{AllWritten, ArePages, FailsAt, IsOfPage, PageFails, SomeWritten}
+use Rattle.jxldec.specs.Frames.{AddsAllPages, ArePages, FailsAt, IsOfPage, PageFails, AddsPagesBefore}
 use Rattle.jxldec.specs.Frames.{NextPage, NoPage}
 use Rattle.jxldec.specs.Inner.Failures.{page_failure}
 use Rattle.jxldec.specs.Pages.{AppendsPages, Page, page_of}
@@ -92,16 +92,16 @@ module _ (limits : Limits) (file : List ℕ) (asked : Option OutputFormat) (patt
     }
 
     -- all are written
-    pub all_written : HasFewerFrames limits file number → AllWritten limits file asked pattern old mid others loss
+    pub all_written : HasFewerFrames limits file number → AddsAllPages limits file asked pattern old mid others loss
     all_written fewer = record { pages = at.pages; are = at.are; all = subst (λ (n : ℕ). HasFewerFrames limits file n) (sym at.count) fewer; appended = at.appended }
 
     -- the next picture fails
-    pub frame_fails : (failure : Failure) → FrameTextFails limits file number asked failure → (f : FramesFailure) → f ≡ record { at = places.Frame number; failure = failure } → SomeWritten limits file asked pattern old mid f
-    frame_fails failure why f e = subst (λ (x : FramesFailure). SomeWritten limits file asked pattern old mid x) (sym e)
+    pub frame_fails : (failure : Failure) → FrameTextFails limits file number asked failure → (f : FramesFailure) → f ≡ record { at = places.Frame number; failure = failure } → AddsPagesBefore limits file asked pattern old mid f
+    frame_fails failure why f e = subst (λ (x : FramesFailure). AddsPagesBefore limits file asked pattern old mid x) (sym e)
         (record { pages = at.pages; others = others; loss = loss; are = at.are; fails = (sym at.count, why); appended = at.appended })
 
     -- its output fails
-    pub page_fails : (new : Option (List Page)) (f : FramesFailure) → AppendsPages mid new [] → PageFails pattern number f → SomeWritten limits file asked pattern old new f
+    pub page_fails : (new : Option (List Page)) (f : FramesFailure) → AppendsPages mid new [] → PageFails pattern number f → AddsPagesBefore limits file asked pattern old new f
     page_fails new f kept why = record { pages = at.pages; others = others; loss = loss; are = at.are; fails = by f.at f.failure why; appended = none_more old mid new at.pages at.appended kept } where
       by : (place : At) (failure : Failure) → IsOfPage pattern number place failure → FailsAt limits file asked pattern (length at.pages) place failure
       by places.File failure h = absurd h
@@ -110,8 +110,8 @@ module _ (limits : Limits) (file : List ℕ) (asked : Option OutputFormat) (patt
 
 -- the file fails before its pictures
 pub file_fails : (limits : Limits) (file : List ℕ) (asked : Option OutputFormat) (pattern : NamePattern) (old : Option (List Page)) (failure : Failure) → FrameTextFails limits file 0 asked failure →
-    (f : FramesFailure) → f ≡ record { at = places.File; failure = failure } → SomeWritten limits file asked pattern old old f
-file_fails limits file asked pattern old failure why f e = subst (λ (x : FramesFailure). SomeWritten limits file asked pattern old old x) (sym e)
+    (f : FramesFailure) → f ≡ record { at = places.File; failure = failure } → AddsPagesBefore limits file asked pattern old old f
+file_fails limits file asked pattern old failure why f e = subst (λ (x : FramesFailure). AddsPagesBefore limits file asked pattern old old x) (sym e)
     (record { pages = []; others = []; loss = Nothing; are = NoPage; fails = (refl, why); appended = no_page old })
 
 -- an output fails, or it is out of memory for it

@@ -9,7 +9,7 @@ use Rattle.jxl_container.specs.declared.error.FileError.{FileError as BoxError}
 use Rattle.jxl_frame_names.specs.Names.{name_of}
 use Rattle.jxl_frame_names.specs.declared.pattern.NamePattern.{NamePattern}
 use Rattle.jxl_picture.specs.declared.limits.Limits.{Limits}
-use Rattle.jxldec_lines.specs.Failures.{IsOfWriting, IsTold}
+use Rattle.jxldec_lines.specs.Failures.{IsOfWriting, Reports}
 use Rattle.jxldec_lines.specs.Losses.{has_loss}
 use Rattle.jxldec_lines.specs.Warnings.{one_frame, warnings}
 use Rattle.jxldec_lines.specs.declared.failures.Failure.{Failure}
@@ -32,7 +32,7 @@ module _ (limits : Limits) (file : List ℕ) (asked : Option OutputFormat) (patt
         IsTextOfFrame limits file (length pages) asked page.bytes others loss → ArePages others loss (pages ++ page ∷ [])
 
   -- All pictures of the file were written so, after what was old.
-  pub record AllWritten (old new : Option (List Page)) (others : List ℕ) (loss : Loss) : Type 0 where
+  pub record AddsAllPages (old new : Option (List Page)) (others : List ℕ) (loss : Loss) : Type 0 where
     pub pages : List Page
     pub are : ArePages others loss pages
     pub all : HasFewerFrames limits file (length pages)
@@ -46,7 +46,7 @@ module _ (limits : Limits) (file : List ℕ) (asked : Option OutputFormat) (patt
   FailsAt count (places.Output name) failure = (string_bytes name ≡ name_of pattern count) × IsOfWriting failure
 
   -- The pictures before the one that fails were written so.
-  pub record SomeWritten (old new : Option (List Page)) (f : FramesFailure) : Type 0 where
+  pub record AddsPagesBefore (old new : Option (List Page)) (f : FramesFailure) : Type 0 where
     pub pages : List Page
     pub others : List ℕ
     pub loss : Loss
@@ -75,7 +75,7 @@ pub record WritesAllFrames (options : Options) (pattern : NamePattern) (file : L
   pub others : List ℕ
   pub loss : Loss
   pub error : Option BoxError
-  pub written : AllWritten options.limits file options.format pattern old new others loss
+  pub written : AddsAllPages options.limits file options.format pattern old new others loss
   pub later : HasLaterError file error
   pub gets : Gets (warnings options.quiet options.input.now others loss one_frame error)
   pub kept : options.quiet ≡ true → Silent
@@ -84,8 +84,8 @@ pub record WritesAllFrames (options : Options) (pattern : NamePattern) (file : L
 -- The outputs get the pictures of a file before the one that fails, and standard error the line of this failure.
 pub record WritesSomeFrames (options : Options) (pattern : NamePattern) (old new : Option (List Page)) (Silent : Type 0) (Gets : Option Error → List ℕ → Type 0) (file : List ℕ) : Type 0 where
   pub failed : FramesFailure
-  pub written : SomeWritten options.limits file options.format pattern old new failed
-  pub told : IsTold (subject_at options.input.now failed.at) failed.failure Silent Gets
+  pub written : AddsPagesBefore options.limits file options.format pattern old new failed
+  pub reports : Reports (subject_at options.input.now failed.at) failed.failure Silent Gets
 
 -- The input cannot be read, by this error; no output gets anything, and standard error gets the line of this failure.
 pub record WritesNoFrame (options : Options) (left rest : Option (List ℕ)) (Unread : Error → Type 0) (Stays : Type 0) (Gets : Option Error → List ℕ → Type 0) : Type 0 where
@@ -93,7 +93,7 @@ pub record WritesNoFrame (options : Options) (left rest : Option (List ℕ)) (Un
   pub part : IsReadPart left rest
   pub unread : Unread error
   pub stays : Stays
-  pub told : IsTold options.input.now (failures.Unreadable error) ⊥ Gets
+  pub reports : Reports options.input.now (failures.Unreadable error) ⊥ Gets
 
 -- the words of the line on a name that is no pattern
 unfoldable pub pattern_line : List ℕ → List ℕ

@@ -31,7 +31,7 @@ use Rattle.jxl_lossless.specs.Pictures.{FileFails, IsPictureOfFile, ProfileOfFil
 use Rattle.jxl_codestream.specs.declared.error.FrontError.{FrontError}
 use Rattle.jxl_codestream.specs.declared.error.FrontError.TheVariants as fronts
 use Rattle.jxl_image_header.specs.declared.size.Size.{Size}
-use Rattle.jxldec_lines.specs.Failures.{IsTold, is_of_output}
+use Rattle.jxldec_lines.specs.Failures.{Reports, is_of_output}
 use Rattle.jxldec_lines.specs.Formats.{IsWrittenAs, chosen}
 use Rattle.jxldec_options.specs.Options.{subject}
 use Rattle.jxldec.specs.Layers.{has_frames, is_layered, is_layers_error, is_of_layers, lists_frames}
@@ -305,4 +305,4 @@ pub record IsFailed (options : Options) (left rest : Option (List ℕ)) (Unread 
   pub failure : Failure
   pub why : InputFails options.task options.limits options.format left rest Unread old new failure
   pub kept : is_of_output failure ≡ false → Stays
-  pub told : IsTold (subject options failure) failure Silent Gets
+  pub reports : Reports (subject options failure) failure Silent Gets

@@ -5,12 +5,12 @@ ghost use Rattle.jxl_command.specs.Streams.{IsReadWhole, IsReported, IsReportedL
 ghost use Rattle.jxl_container.specs.Files.{HasLaterError};
 ghost use Rattle.jxl_frame_names.specs.Names.{name_of};
 ghost use Rattle.jxldec.specs.Contents.{IsWritable, content_text};
-ghost use Rattle.jxldec.specs.Frames.{AllWritten, PageFails, SomeWritten, WritesAllFrames, WritesNoFrame, WritesSomeFrames, pattern_line, subject_at};
+ghost use Rattle.jxldec.specs.Frames.{AddsAllPages, PageFails, AddsPagesBefore, WritesAllFrames, WritesNoFrame, WritesSomeFrames, pattern_line, subject_at};
 ghost use Rattle.jxldec.specs.Inner.Failures.{page_failure};
 ghost use Rattle.jxldec.specs.Pages.{AppendsPages, page_of};
 ghost use Rattle.jxldec.specs.Sources.{IsSourceOf};
 ghost use Rattle.jxldec.specs.Texts.{FrameTextFails};
-ghost use Rattle.jxldec_lines.specs.Failures.{IsTold, cause_of, failure_line};
+ghost use Rattle.jxldec_lines.specs.Failures.{Reports, cause_of, failure_line};
 ghost use Rattle.jxldec_lines.specs.Warnings.{one_frame};
 
 use crate::content::{Beside, Content, content_of};
@@ -163,11 +163,11 @@ pub fn write_frames<S: Outputs>(
     limits: &Limits,
     outputs: &mut S,
 ) -> Result<LeftOut, FramesFailure>
-    ensures written { IfOk result (λ l. AllWritten limits.now file.now asked pattern.now (S.pages outputs.old)
+    ensures written { IfOk result (λ l. AddsAllPages limits.now file.now asked pattern.now (S.pages outputs.old)
         (S.pages outputs.new) (string_bytes l.channels) l.loss) }
     ensures frames { IfOk result (λ l. l.frames ≡ one_frame) }
     ensures later { IfOk result (λ l. HasLaterError file.now l.later_error) }
-    ensures err { IfErr result (SomeWritten limits.now file.now asked pattern.now (S.pages outputs.old)
+    ensures err { IfErr result (AddsPagesBefore limits.now file.now asked pattern.now (S.pages outputs.old)
         (S.pages outputs.new)) }
 {
     let source = match open_frames(alloc, file, asked, limits) {
@@ -234,7 +234,7 @@ fn put_failure<E: ErrorStream>(errors: &mut E, subject: Subject<'_>, failure: Fa
 // Writes the line of a failure, and ends with status 1. Of a closed pipe nothing is written.
 fn report_frames<E: ErrorStream>(errors: &mut E, name: &str, failed: &FramesFailure) -> End
     ensures status { result.status ≡ 1 }
-    ensures line { IsTold (subject_at name.now failed.now.at) failed.now.failure (errors.new ≡ errors.old)
+    ensures line { Reports (subject_at name.now failed.now.at) failed.now.failure (errors.new ≡ errors.old)
         (IsReportedLine result.reported (E.contents errors.old) (E.contents errors.new) (E.has_failed errors.new)) }
 {
     if failed.failure.is_silent() {

@@ -88,5 +88,5 @@ abbrev pub failure_line : List ℕ → Failure → List ℕ
 failure_line name failure = codes "jxldec: " ++ (name ++ (codes ": " ++ failure_text failure))
 
 -- standard error gets that line; of a closed pipe nothing is said
-abbrev pub IsTold : List ℕ → Failure → Type 0 → (Option Error → List ℕ → Type 0) → Type 0
-IsTold name failure Silent Gets = MatchBool (is_silent failure) Silent (Gets (cause_of failure) (failure_line name failure))
+abbrev pub Reports : List ℕ → Failure → Type 0 → (Option Error → List ℕ → Type 0) → Type 0
+Reports name failure Silent Gets = MatchBool (is_silent failure) Silent (Gets (cause_of failure) (failure_line name failure))

@@ -2,7 +2,7 @@
 
 ghost use Rattle.std.specs.Prelude.{◌≡◌, [], None, false, string_bytes, true};
 ghost use Rattle.jxl_command.specs.Streams.{IsReported, IsReportedLine};
-ghost use Rattle.jxldec_lines.specs.Failures.{IsTold, cause_of, failure_line};
+ghost use Rattle.jxldec_lines.specs.Failures.{Reports, cause_of, failure_line};
 ghost use Rattle.jxldec_lines.specs.Losses.{has_loss};
 ghost use Rattle.jxldec_lines.specs.Warnings.{has_more, warnings};
 
@@ -23,7 +23,7 @@ fn put_failure<E: ErrorStream>(errors: &mut E, name: &str, failure: Failure) -> 
 /// Writes the line of a failure about what has this name, and ends with status 1. Of a closed pipe nothing is written.
 pub fn report<E: ErrorStream>(errors: &mut E, name: &str, failure: Failure) -> End
     ensures status { result.status ≡ 1 }
-    ensures told { IsTold name.now failure (errors.new ≡ errors.old) (IsReportedLine result.reported
+    ensures reports { Reports name.now failure (errors.new ≡ errors.old) (IsReportedLine result.reported
         (E.contents errors.old) (E.contents errors.new) (E.has_failed errors.new)) }
 {
     if failure.is_silent() {

@@ -138,8 +138,8 @@ InputFails Unread UnreadExtra boxed left rest Given held holds failures.Closed =
 InputFails Unread UnreadExtra boxed left rest Given held holds failure = MakingFails Unread UnreadExtra left rest Given failure
 
 -- standard error gets the line of a failure about what has this name; of a closed pipe nothing is said
-abbrev pub IsTold : List ℕ → Failure → Type 0 → (Option Error → List ℕ → Type 0) → Type 0
-IsTold name failure Silent Gets = MatchBool (is_silent failure) Silent (Gets (cause_of failure) (failure_line name failure))
+abbrev pub Reports : List ℕ → Failure → Type 0 → (Option Error → List ℕ → Type 0) → Type 0
+Reports name failure Silent Gets = MatchBool (is_silent failure) Silent (Gets (cause_of failure) (failure_line name failure))
 
 -- The picture is not encoded, by this failure; the output stays as it was, unless it is what fails; standard error gets the line of
 -- the failure, about what fails.
@@ -147,4 +147,4 @@ pub record IsFailed (options : Options) (Fails : Failure → Type 0) (Stays Sile
   pub failure : Failure
   pub why : Fails failure
   pub kept : is_of_output failure ≡ false → Stays
-  pub told : IsTold (subject options failure) failure Silent Gets
+  pub reports : Reports (subject options failure) failure Silent Gets

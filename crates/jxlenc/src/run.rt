@@ -10,7 +10,7 @@ ghost use Rattle.jxl_command.specs.declared.extra.Extra.{Extra as TheExtra};
 ghost use Rattle.jxl_encode.specs.Codable.{IsCodable};
 ghost use Rattle.jxl_image_header.specs.Images.{image_of};
 ghost use Rattle.jxl_picture.specs.Pictures.{IsWhole};
-ghost use Rattle.jxlenc.specs.Encodings.{AreGiven, ExtraFails, InputFails, IsDone, IsEncodingOf, IsFailed, IsGiven, IsMade, IsOrientedBy, IsTold, MakingFails, ProfileFails, image_with};
+ghost use Rattle.jxlenc.specs.Encodings.{AreGiven, ExtraFails, InputFails, IsDone, IsEncodingOf, IsFailed, IsGiven, IsMade, IsOrientedBy, Reports, MakingFails, ProfileFails, image_with};
 ghost use Rattle.jxlenc.specs.Failures.{IsExtraUnread, cause_of, failure_line, is_of_output};
 
 use crate::failures::Failure;
@@ -212,7 +212,7 @@ fn put_failure<E: ErrorStream>(errors: &mut E, name: &str, failure: Failure) -> 
 /// Writes the line of a failure about what has this name, and ends with status 1. Of a closed pipe nothing is written.
 pub fn report<E: ErrorStream>(errors: &mut E, name: &str, failure: Failure) -> End
     ensures status { result.status ≡ 1 }
-    ensures told { IsTold name.now failure (errors.new ≡ errors.old) (IsReportedLine result.reported
+    ensures reports { Reports name.now failure (errors.new ≡ errors.old) (IsReportedLine result.reported
         (E.contents errors.old) (E.contents errors.new) (E.has_failed errors.new)) }
 {
     if failure.is_silent() {
