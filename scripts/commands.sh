@@ -581,6 +581,33 @@ encode_rows() {
         judge $? "noise that repeats is another picture at effort $effort"
     done
 
+    # A slope with noise in three channels of 64 by 64 samples. The numbers below 256 are the high bytes, and their squares modulo 199 the
+    # low bytes. If no channel has a palette, each sample takes some seven bits more.
+    state=1
+    { printf 'P6\n64 64\n65535\n'
+        y=0
+        while [ $y -lt 64 ]; do
+            row=
+            x=0
+            while [ $x -lt 192 ]; do
+                state=$(((state * 75 + 74) % 65537))
+                number=$((x % 3 * 40 + x / 3 + y + state % 4))
+                square=$((number * number % 199))
+                row="$row\\$((number / 64))$((number / 8 % 8))$((number % 8))"
+                row="$row\\$((square / 64))$((square / 8 % 8))$((square % 8))"
+                x=$((x + 1))
+            done
+            printf "$row"
+            y=$((y + 1))
+        done; } > ranks.ppm
+    for effort in fast usual best; do
+        expect 0 - ranks.ppm --effort $effort -o c.jxl
+        test "$(wc -c < c.jxl)" -lt 8000
+        judge $? "no palette of each channel at effort $effort: $(wc -c < c.jxl) bytes, 12,800 and more without"
+        "$decoder" c.jxl -o again.ppm && cmp -s ranks.ppm again.ppm
+        judge $? "a picture with a palette of each channel is another one at effort $effort"
+    done
+
     # Boxes, Exif data and XMP data.
     expect 0 - grey.pgm --container -o c.jxl
     test "$(head -c 8 c.jxl | tail -c 4)" = 'JXL '

@@ -1,27 +1,19 @@
 //! How a picture is coded: a choice that no sample depends on.
 
-ghost use Rattle.std.specs.Prelude.{◌≡◌, Ok, IfOk};
-ghost use Rattle.std.specs.Option.{IfSome};
-ghost use Rattle.jxlm_transform.specs.ChannelSteps.{RctStep, list_after};
-ghost use Rattle.jxlm_transform.specs.Transforms.{IsRct};
-ghost use Rattle.jxl_image_header.specs.Images.{image_of};
-ghost use Rattle.jxl_lossless.specs.Frames.{channels_given};
-
 use crate::effort::Effort;
 use crate::palettes::add_palette_ways;
+use crate::ranks::{Ranks, add_rank_ways};
 use jxl_encode_advice::residuals::{Care, scheme_by_residuals};
 use jxl_encode_advice::values::scheme_by_values;
 use jxl_encode_colours::shades::scheme_by_colours;
 use jxl_encode_learn::axis::Axis;
+use jxl_encode_image::transform::PalettePlan;
 use jxl_encode_learn::scheme::Scheme;
-use jxl_encode_palette::colours::ColourOrder;
 use jxl_encode_properties::learn::scheme_by_errors;
 use jxl_image_header::channel::BitDepth;
-use jxl_image_header::image::ImageHeader;
 use jxl_picture::picture::{Picture, is_grey};
 use jxlm_base::grid::{AlignedGrid, OutOfMemory};
 use jxlm_encode_write::tree::EncodeNode;
-use jxlm_transform::transform::Rct;
 use std::alloc::Global;
 
 /// How a picture is coded: its tree, level by level, with the clusters of its leaves in their order, and how its colours
@@ -33,8 +25,8 @@ pub(crate) struct Advice {
     pub(crate) colour: Option<u32>,
     /// Whether groups may have trees of their own.
     pub(crate) own: bool,
-    /// The order of the colours, if all channels become a palette: then the tree is that of its table and its indices.
-    pub(crate) palette: Option<ColourOrder>,
+    /// The palettes, if there are some: then the tree is that of their tables and of all other channels.
+    pub(crate) palettes: Vec<PalettePlan>,
 }
 
 /// The samples of a picture, and how they are stored.
@@ -57,7 +49,7 @@ impl Advice {
     /// Whether a picture is coded alike by both.
     fn is_same(&self, other: &Advice) -> bool {
         self.colour == other.colour
-            && self.palette == other.palette
+            && self.palettes.as_slice() == other.palettes.as_slice()
             && self.clusters.as_slice() == other.clusters.as_slice()
             && self.nodes.as_slice() == other.nodes.as_slice()
     }
@@ -336,7 +328,7 @@ pub(crate) fn add_advice(list: &mut Vec<Advice>, advice: Advice) -> Result<(), O
 }
 
 /// Adds a way, if there is one that is not among them.
-fn add_way(list: &mut Vec<Advice>, way: Option<Way>) -> Result<(), OutOfMemory> {
+fn add_way(alloc: Global, list: &mut Vec<Advice>, way: Option<Way>) -> Result<(), OutOfMemory> {
     let Some(way) = way else {
         return Ok(());
     };
@@ -345,7 +337,7 @@ fn add_way(list: &mut Vec<Advice>, way: Option<Way>) -> Result<(), OutOfMemory> 
         clusters: way.scheme.clusters,
         colour: way.colour,
         own: way.own,
-        palette: None,
+        palettes: Vec::new(alloc),
     };
     add_advice(list, advice)
 }
@@ -378,12 +370,12 @@ pub(crate) fn add_ways_of(
     colours: &[Option<u32>],
 ) -> Result<(), OutOfMemory> {
     let best = learnt(alloc, picture, effort, colours)?;
-    add_way(list, or_by_values(alloc, picture, best)?)?;
+    add_way(alloc, list, or_by_values(alloc, picture, best)?)?;
     if picture.depth.exp_bits != 0 {
         return Ok(());
     }
     let tried = colours_by_errors(effort, colours);
-    add_way(list, by_errors(alloc, picture, care_of(effort).1, tried)?)
+    add_way(alloc, list, by_errors(alloc, picture, care_of(effort).1, tried)?)
 }
 
 /// The efforts of which the ways are tried: at the greatest those of all, and where samples repeat also those of a lower one,
@@ -399,7 +391,8 @@ fn efforts_of(effort: Effort, repeats: bool) -> &'static [Effort] {
 
 /// The colour transforms that are tried of a picture at an effort: of floats and of very deep samples none. Those at the greatest
 /// effort beside luma and green have a difference to one channel and one to the mean of two, in five orders of the channels.
-fn colours_of(header: &ImageHeader, effort: Effort) -> &'static [Option<u32>] {
+pub(crate) fn colours_of(picture: &Picture, effort: Effort) -> &'static [Option<u32>] {
+    let header = &picture.header;
     let depth = header.bit_depth;
     if is_grey(header) || depth.exp_bits != 0 || depth.bits_per_sample > 24 {
         return &[None];
@@ -419,48 +412,25 @@ fn colours_of(header: &ImageHeader, effort: Effort) -> &'static [Option<u32>] {
     &[None, Some(LUMA)]
 }
 
-/// Ways to code a picture, of which samples repeat if `repeats` says so.
+/// Ways to code a picture, of which samples repeat if `repeats` says so, and whose values have these ranks, if they are few.
 pub(crate) fn advices_for(
     alloc: Global,
     picture: &Picture,
     effort: Effort,
     repeats: bool,
+    ranks: &Option<Ranks>,
 ) -> Result<Vec<Advice>, OutOfMemory> {
-    let header = &picture.header;
     let mut list = Vec::new(alloc);
     let samples = Samples {
         channels: &picture.channels,
-        depth: header.bit_depth,
+        depth: picture.header.bit_depth,
     };
     for effort in efforts_of(effort, repeats) {
-        let colours = colours_of(header, *effort);
-        add_ways_of(alloc, &mut list, samples, *effort, colours)?;
+        add_ways_of(alloc, &mut list, samples, *effort, colours_of(picture, *effort))?;
         add_palette_ways(alloc, &mut list, picture, *effort)?;
+        if let Some(ranks) = ranks {
+            add_rank_ways(alloc, &mut list, picture, ranks, *effort)?;
+        }
     }
     Ok(list)
-}
-
-/// The colour transform of this kind, where there are three channels of colours and there is such a kind.
-pub(crate) fn transform_by(header: &ImageHeader, kind: Option<u32>) -> Option<Rct>
-    ensures spelled { IfSome result (λ t. IsRct t) }
-    ensures suits { IfSome result (λ t. list_after (RctStep t)
-        (channels_given (image_of header.now) header.now.size)
-        ≡ Ok (channels_given (image_of header.now) header.now.size)) }
-{
-    if is_grey(header) {
-        return None;
-    }
-    match kind {
-        Some(kind) => {
-            if kind < 42 {
-                Some(Rct {
-                    begin_c: 0,
-                    rct_type: kind,
-                })
-            } else {
-                None
-            }
-        }
-        None => None,
-    }
 }

@@ -12,6 +12,7 @@ use crate::codestream::codestream_by;
 use crate::effort::Effort;
 use crate::groups::{OwnTrees, own_trees};
 use crate::progress::Progress;
+use crate::ranks::ranks_of;
 use jxl_encode_copies::repeats::do_repeat;
 use jxl_picture::picture::Picture;
 use jxlm_base::grid::OutOfMemory;
@@ -76,8 +77,9 @@ pub(crate) fn encode_codestream<P: Progress>(
     ensures { IfOk result (λ v. IsCodestreamOf picture.now v.items) }
 {
     let copies = are_copied(alloc, picture, effort)?;
-    let advices = advices_for(alloc, picture, effort, copies)?;
-    let own = own_trees(alloc, picture, effort, &advices)?;
+    let ranks = ranks_of(alloc, picture)?;
+    let advices = advices_for(alloc, picture, effort, copies, &ranks)?;
+    let own = own_trees(alloc, picture, effort, &advices, &ranks)?;
     if let Some(bytes) = shortest(alloc, picture, &advices, &own, copies, progress)? {
         return Ok(bytes);
     }
@@ -86,7 +88,7 @@ pub(crate) fn encode_codestream<P: Progress>(
         clusters: Vec::new(alloc),
         colour: None,
         own: false,
-        palette: None,
+        palettes: Vec::new(alloc),
     };
     codestream_by(alloc, picture, &plain, &[], copies)
 }

@@ -1,31 +1,23 @@
 //! The sections of a picture's only frame.
 
-ghost use Rattle.std.specs.Prelude.{◌≡◌, ◌≤◌, IfErr, IfOk, Ok, length, map};
-ghost use Rattle.std.specs.Option.{IfSome};
+ghost use Rattle.std.specs.Prelude.{◌≡◌, ◌≤◌, IfErr, IfOk, length, map};
 ghost use Rattle.jxlm_encode.specs.declared.error.EncodeError.TheVariants.{OutOfMemory as Memory};
-ghost use Rattle.jxlm_transform.specs.ChannelSteps.{RctStep, list_after};
-ghost use Rattle.jxlm_transform.specs.Transforms.{IsRct};
 ghost use Rattle.jxlm_tree.specs.declared.ma.MaConfigParams.{MaConfigParams as Params};
 ghost use Rattle.jxl_codestream.specs.LayoutParts.{parts_of};
 ghost use Rattle.jxl_codestream.specs.Starts.{tree_limit as the_tree_limit};
 ghost use Rattle.jxl_image_header.specs.Images.{image_of};
-ghost use Rattle.jxl_lossless.specs.Frames.{channels_given};
 ghost use Rattle.jxl_picture.specs.Limits.{channel_count};
 ghost use Rattle.jxl_picture.specs.Pictures.{IsWhole};
 ghost use Rattle.jxl_encode_tree.specs.Trees.{IsNoTree};
 ghost use Rattle.jxl_encode.specs.Codable.{IsCodable};
 ghost use Rattle.jxl_encode.specs.Inner.Frames.{AreGiven, AreSectionsOf, cut_of};
 
-use crate::advice::{Advice, transform_by};
+use crate::advice::Advice;
 use crate::channels::copies_of;
-use crate::palettes::{MOST_CHANNELS, MOST_COLOURS};
 use jxl_codestream::layout::Layout;
 use jxl_codestream::start::tree_limit;
-use jxl_encode_palette::colours::ColourOrder;
-use jxl_encode_palette::palette::palette_of;
-use jxl_encode_sections::frame::{
-    FrameCut, FrameTree, encode_sections, encode_sections_by_palette,
-};
+use jxl_encode_image::transform::ImagePlan;
+use jxl_encode_sections::frame::{FrameCut, FrameTree, encode_sections};
 use jxl_encode_sections::own::GroupTree;
 use jxl_image_header::image::ImageHeader;
 use jxl_picture::picture::{Picture, colours};
@@ -34,7 +26,6 @@ use jxlm_encode::error::EncodeError;
 use jxlm_encode_write::tree::EncodeNode;
 use jxlm_predictor::predictor::Predictor;
 use jxlm_transform::param::ModularChannelParams;
-use jxlm_transform::transform::Rct;
 use jxlm_tree::ma::MaConfigParams;
 use std::alloc::Global;
 
@@ -73,11 +64,11 @@ fn limits_of(header: &ImageHeader) -> MaConfigParams
     }
 }
 
-/// The sections of the frame by this colour transform and the tree of these nodes, whose leaves have these clusters.
+/// The sections of the frame by the transforms of this plan and the tree of these nodes, whose leaves have these clusters.
 fn sections_by_tree(
     alloc: Global,
     input: &FrameInput<'_>,
-    colour: Option<Rct>,
+    plan: &ImagePlan<'_>,
     nodes: &[EncodeNode],
     clusters: &[u8],
 ) -> Result<Vec<Vec<u8>>, EncodeError>
@@ -85,10 +76,6 @@ fn sections_by_tree(
     requires whole { IsWhole (image_of input.now.picture.now.header) input.now.picture.now.channels.items }
     requires given { AreGiven (image_of input.now.picture.now.header) input.now.given.now }
     requires layout { parts_of input.now.layout.now ≡ cut_of (image_of input.now.picture.now.header) }
-    requires spelled { IfSome colour (λ t. IsRct t) }
-    requires suits { IfSome colour (λ t. list_after (RctStep t)
-        (channels_given (image_of input.now.picture.now.header) input.now.picture.now.header.size)
-        ≡ Ok (channels_given (image_of input.now.picture.now.header) input.now.picture.now.header.size)) }
     ensures ok { IfOk result (λ v. AreSectionsOf input.now.picture.now (map (λ s. s.items) v.items)) }
     ensures err { IfErr result (λ e. IsNoTree nodes.now clusters.now
         (record {
@@ -109,23 +96,19 @@ fn sections_by_tree(
         group_dim: GROUP_DIM,
         layout: input.layout,
     };
-    encode_sections(alloc, input.given, grids, colour, &tree, &cut)
+    encode_sections(alloc, input.given, grids, plan, &tree, &cut)
 }
 
-/// The sections of the frame by this colour transform, each sample by the gradient.
+/// The sections of the frame by the transforms of this plan, each sample by the gradient.
 fn plain_sections(
     alloc: Global,
     input: &FrameInput<'_>,
-    colour: Option<Rct>,
+    plan: &ImagePlan<'_>,
 ) -> Result<Vec<Vec<u8>>, EncodeError>
     requires codable { IsCodable input.now.picture.now }
     requires whole { IsWhole (image_of input.now.picture.now.header) input.now.picture.now.channels.items }
     requires given { AreGiven (image_of input.now.picture.now.header) input.now.given.now }
     requires layout { parts_of input.now.layout.now ≡ cut_of (image_of input.now.picture.now.header) }
-    requires spelled { IfSome colour (λ t. IsRct t) }
-    requires suits { IfSome colour (λ t. list_after (RctStep t)
-        (channels_given (image_of input.now.picture.now.header) input.now.picture.now.header.size)
-        ≡ Ok (channels_given (image_of input.now.picture.now.header) input.now.picture.now.header.size)) }
     ensures ok { IfOk result (λ v. AreSectionsOf input.now.picture.now (map (λ s. s.items) v.items)) }
     ensures err { IfErr result (λ e. e ≡ Memory) }
 {
@@ -133,68 +116,7 @@ fn plain_sections(
         predictor: Predictor::Gradient,
         offset: 0,
     };
-    sections_by_tree(alloc, input, colour, &[leaf], &[0])
-}
-
-/// The sections of the frame by a palette of all channels, of colours in this order, and the tree of these nodes,
-/// whose leaves have these clusters. None, if the channels are not one to four of one size, or their colours are too
-/// many.
-fn sections_by_palette(
-    alloc: Global,
-    input: &FrameInput<'_>,
-    order: ColourOrder,
-    nodes: &[EncodeNode],
-    clusters: &[u8],
-) -> Result<Option<Vec<Vec<u8>>>, EncodeError>
-    requires codable { IsCodable input.now.picture.now }
-    requires whole { IsWhole (image_of input.now.picture.now.header) input.now.picture.now.channels.items }
-    requires given { AreGiven (image_of input.now.picture.now.header) input.now.given.now }
-    requires layout { parts_of input.now.layout.now ≡ cut_of (image_of input.now.picture.now.header) }
-    ensures ok { IfOk result (λ o. IfSome o (λ v. AreSectionsOf input.now.picture.now (map (λ s. s.items) v.items))) }
-{
-    let grids = copies_of(alloc, &input.picture.channels)?;
-    if grids.len() > MOST_CHANNELS || input.given.len() > MOST_CHANNELS {
-        return Ok(None);
-    }
-    let Some(coding) = palette_of(alloc, &grids, 0, order, MOST_COLOURS)? else {
-        return Ok(None);
-    };
-    let tree = FrameTree {
-        nodes,
-        clusters,
-        limits: limits_of(&input.picture.header),
-        own: input.own,
-        copies: input.copies,
-    };
-    let cut = FrameCut {
-        group_dim: GROUP_DIM,
-        layout: input.layout,
-    };
-    let sections = encode_sections_by_palette(alloc, input.given, grids, coding, &tree, &cut)?;
-    Ok(Some(sections))
-}
-
-/// The sections of the frame by a palette, as of `sections_by_palette`; where there is none, or its nodes are no tree, by the
-/// gradient.
-fn palette_sections(
-    alloc: Global,
-    input: &FrameInput<'_>,
-    order: ColourOrder,
-    advice: &Advice,
-) -> Result<Vec<Vec<u8>>, EncodeError>
-    requires codable { IsCodable input.now.picture.now }
-    requires whole { IsWhole (image_of input.now.picture.now.header) input.now.picture.now.channels.items }
-    requires given { AreGiven (image_of input.now.picture.now.header) input.now.given.now }
-    requires layout { parts_of input.now.layout.now ≡ cut_of (image_of input.now.picture.now.header) }
-    ensures ok { IfOk result (λ v. AreSectionsOf input.now.picture.now (map (λ s. s.items) v.items)) }
-    ensures err { IfErr result (λ e. e ≡ Memory) }
-{
-    match sections_by_palette(alloc, input, order, &advice.nodes, &advice.clusters) {
-        Ok(Some(sections)) => Ok(sections),
-        Ok(None) => plain_sections(alloc, input, None),
-        Err(EncodeError::InvalidTree) => plain_sections(alloc, input, None),
-        Err(_) => Err(EncodeError::OutOfMemory),
-    }
+    sections_by_tree(alloc, input, plan, &[leaf], &[0])
 }
 
 /// The sections of the frame by this advice; where its nodes are no tree, by the gradient.
@@ -210,13 +132,13 @@ pub(crate) fn frame_sections(
     ensures ok { IfOk result (λ v. AreSectionsOf input.now.picture.now (map (λ s. s.items) v.items)) }
     ensures err { IfErr result (λ e. e ≡ Memory) }
 {
-    if let Some(order) = advice.palette {
-        return palette_sections(alloc, input, order, advice);
-    }
-    let colour = transform_by(&input.picture.header, advice.colour);
-    match sections_by_tree(alloc, input, colour, &advice.nodes, &advice.clusters) {
+    let plan = ImagePlan {
+        palettes: &advice.palettes,
+        colour: advice.colour,
+    };
+    match sections_by_tree(alloc, input, &plan, &advice.nodes, &advice.clusters) {
         Ok(sections) => Ok(sections),
-        Err(EncodeError::InvalidTree) => plain_sections(alloc, input, colour),
+        Err(EncodeError::InvalidTree) => plain_sections(alloc, input, &plan),
         Err(_) => Err(EncodeError::OutOfMemory),
     }
 }

@@ -1,9 +1,11 @@
 //! Trees that groups of a picture may have of their own, learnt from the samples of each.
 
-use crate::advice::{Advice, group_scheme};
+use crate::advice::{Advice, Samples, group_scheme};
 use crate::effort::Effort;
 use crate::frame::GROUP_DIM;
+use crate::ranks::Ranks;
 use jxl_encode_sections::own::GroupTree;
+use jxl_image_header::size::Size;
 use jxl_picture::picture::Picture;
 use jxlm_base::grid::{AlignedGrid, OutOfMemory};
 use jxlm_groups::part::SectionPart;
@@ -12,9 +14,10 @@ use std::alloc::Global;
 /// The side of a group.
 const SIDE: usize = GROUP_DIM as usize;
 
-/// The trees that groups may have of their own by a colour transform.
+/// The trees that groups may have of their own by palettes, if there are some, and by a colour transform.
 #[derive(Drop)]
 struct ColourTrees {
+    palettes: bool,
     colour: Option<u32>,
     trees: Vec<GroupTree>,
 }
@@ -25,11 +28,18 @@ pub(crate) struct OwnTrees {
     sets: Vec<ColourTrees>,
 }
 
+impl ColourTrees {
+    /// Whether groups that are coded in this way have these samples.
+    fn is_for(&self, advice: &Advice) -> bool {
+        self.colour == advice.colour && self.palettes == !advice.palettes.is_empty()
+    }
+}
+
 impl OwnTrees {
     /// Those of groups that are coded in this way.
     pub(crate) fn by(&self, advice: &Advice) -> &[GroupTree] {
         for set in &self.sets {
-            if advice.own && set.colour == advice.colour {
+            if advice.own && set.is_for(advice) {
                 return &set.trees;
             }
         }
@@ -80,7 +90,7 @@ fn channels_in(
 /// The tree of the group of this number, where this number of groups are side by side.
 fn tree_of(
     alloc: Global,
-    picture: &Picture,
+    samples: Samples<'_>,
     effort: Effort,
     colour: Option<u32>,
     group: u64,
@@ -90,11 +100,11 @@ fn tree_of(
     let top = (group / across.max(1)) as usize;
     let channels = channels_in(
         alloc,
-        &picture.channels,
+        samples.channels,
         left.saturating_mul(SIDE),
         top.saturating_mul(SIDE),
     )?;
-    let scheme = group_scheme(alloc, &channels, picture.header.bit_depth, effort, colour)?;
+    let scheme = group_scheme(alloc, &channels, samples.depth, effort, colour)?;
     Ok(GroupTree {
         part: SectionPart::Pass(0, group),
         nodes: scheme.nodes,
@@ -106,14 +116,15 @@ fn tree_of(
 fn add_trees(
     alloc: Global,
     trees: &mut Vec<GroupTree>,
-    picture: &Picture,
+    samples: Samples<'_>,
+    size: Size,
     effort: Effort,
     colour: Option<u32>,
 ) -> Result<(), OutOfMemory> {
-    let across = u64::from(picture.header.size.width.div_ceil(GROUP_DIM));
-    let down = u64::from(picture.header.size.height.div_ceil(GROUP_DIM));
+    let across = u64::from(size.width.div_ceil(GROUP_DIM));
+    let down = u64::from(size.height.div_ceil(GROUP_DIM));
     for group in 0..across.saturating_mul(down) {
-        trees.push(tree_of(alloc, picture, effort, colour, group, across)?)?;
+        trees.push(tree_of(alloc, samples, effort, colour, group, across)?)?;
     }
     Ok(())
 }
@@ -121,14 +132,15 @@ fn add_trees(
 /// The trees of all groups: at the greatest effort also those that are learnt at the usual one.
 fn trees_by(
     alloc: Global,
-    picture: &Picture,
+    samples: Samples<'_>,
+    size: Size,
     effort: Effort,
     colour: Option<u32>,
 ) -> Result<Vec<GroupTree>, OutOfMemory> {
     let mut trees = Vec::new(alloc);
-    add_trees(alloc, &mut trees, picture, Effort::Usual, colour)?;
+    add_trees(alloc, &mut trees, samples, size, Effort::Usual, colour)?;
     if matches!(effort, Effort::Best) {
-        add_trees(alloc, &mut trees, picture, effort, colour)?;
+        add_trees(alloc, &mut trees, samples, size, effort, colour)?;
     }
     Ok(trees)
 }
@@ -141,12 +153,13 @@ fn are_tried(picture: &Picture, effort: Effort) -> bool {
     several && !floats && !matches!(effort, Effort::Fast)
 }
 
-/// The trees that groups may have of their own, for each colour transform that these ways have.
+/// The trees that groups may have of their own, for each colour transform that these ways have, of samples or of their ranks.
 pub(crate) fn own_trees(
     alloc: Global,
     picture: &Picture,
     effort: Effort,
     advices: &[Advice],
+    ranks: &Option<Ranks>,
 ) -> Result<OwnTrees, OutOfMemory> {
     let mut own = OwnTrees {
         sets: Vec::new(alloc),
@@ -155,10 +168,22 @@ pub(crate) fn own_trees(
         return Ok(own);
     }
     for advice in advices {
+        let palettes = !advice.palettes.is_empty();
         let colour = advice.colour;
-        if advice.own && !own.sets.iter().any(|set| set.colour == colour) {
-            let trees = trees_by(alloc, picture, effort, colour)?;
-            own.sets.push(ColourTrees { colour, trees })?;
+        let samples = match ranks {
+            Some(ranks) if palettes => ranks.samples(),
+            _ => Samples {
+                channels: &picture.channels,
+                depth: picture.header.bit_depth,
+            },
+        };
+        if advice.own && !own.sets.iter().any(|set| set.is_for(advice)) {
+            let trees = trees_by(alloc, samples, picture.header.size, effort, colour)?;
+            own.sets.push(ColourTrees {
+                palettes,
+                colour,
+                trees,
+            })?;
         }
     }
     Ok(own)

@@ -7,6 +7,9 @@ use std::alloc::Global;
 /// The most levels of a tree that is joined.
 const MOST_LEVELS: usize = 128;
 
+/// The property that is the number of the channel.
+pub(crate) const CHANNEL: u32 = 0;
+
 /// A tree that is read level by level.
 #[derive(Clone, Copy)]
 pub(crate) struct Levels<'a> {
@@ -16,13 +19,19 @@ pub(crate) struct Levels<'a> {
     node: usize,
     leaf: usize,
     width: usize,
-    // What is added to clusters.
+    // What is added to clusters, and to the numbers of channels.
     shift: u8,
+    channels: i32,
 }
 
 impl Levels<'_> {
-    /// A tree from its root on, whose clusters come after others of this number.
-    pub(crate) fn new<'a>(nodes: &'a [EncodeNode], clusters: &'a [u8], shift: u8) -> Levels<'a> {
+    /// A tree from its root on, whose clusters and channels come after others of these numbers.
+    pub(crate) fn new<'a>(
+        nodes: &'a [EncodeNode],
+        clusters: &'a [u8],
+        shift: u8,
+        channels: i32,
+    ) -> Levels<'a> {
         Levels {
             nodes,
             clusters,
@@ -30,6 +39,20 @@ impl Levels<'_> {
             leaf: 0,
             width: 1,
             shift,
+            channels,
+        }
+    }
+
+    /// The node, of channels behind others.
+    fn moved(&self, node: EncodeNode) -> EncodeNode {
+        match node {
+            EncodeNode::Decision { property, value } if property == CHANNEL => {
+                EncodeNode::Decision {
+                    property,
+                    value: value.saturating_add(self.channels),
+                }
+            }
+            other => other,
         }
     }
 
@@ -41,7 +64,7 @@ impl Levels<'_> {
                 break;
             };
             self.node = self.node.saturating_add(1);
-            tree.nodes.push(node)?;
+            tree.nodes.push(self.moved(node))?;
             if matches!(node, EncodeNode::Decision { .. }) {
                 decisions = decisions.saturating_add(1);
             } else {

@@ -16,4 +16,5 @@ pub mod orientation;
 mod palettes;
 pub mod profile;
 pub mod progress;
+mod ranks;
 mod sizes;

@@ -2,8 +2,9 @@
 
 use crate::advice::{Advice, Samples, add_advice, add_ways_of, care_of, shade_axes};
 use crate::effort::Effort;
-use crate::joined::{Levels, joined};
+use crate::joined::{CHANNEL, Levels, joined};
 use jxl_encode_advice::residuals::scheme_by_residuals;
+use jxl_encode_image::transform::PalettePlan;
 use jxl_encode_learn::scheme::Scheme;
 use jxl_encode_palette::colours::ColourOrder;
 use jxl_encode_palette::palette::{PaletteGrids, palette_of};
@@ -24,9 +25,6 @@ const PIXELS: usize = 8;
 /// The side of a group: the indices of a larger picture are in other sections than the table.
 const GROUP_DIM: usize = 256;
 
-/// The property that is the number of the channel.
-const CHANNEL: u32 = 0;
-
 /// The property that is the number of the stream, greater than 0 in sections of groups.
 const STREAM: u32 = 1;
 
@@ -39,38 +37,48 @@ fn cluster_count(clusters: &[u8]) -> u8 {
     most.saturating_add(1)
 }
 
-/// The tree of a table and of indices.
-fn tree_of(
+/// The way whose tree is that of tables, and of all other channels; none, if it has too many clusters.
+fn way_of(
     alloc: Global,
     table: &Scheme,
     index: Advice,
-    order: ColourOrder,
+    palettes: &[PalettePlan],
     large: bool,
 ) -> Result<Option<Advice>, OutOfMemory> {
     let shift = cluster_count(&table.clusters);
     if cluster_count(&index.clusters).checked_add(shift).is_none() {
         return Ok(None);
     }
-    let property = if large { STREAM } else { CHANNEL };
-    let greater = Levels::new(&index.nodes, &index.clusters, shift);
-    let others = Levels::new(&table.nodes, &table.clusters, 0);
-    let tree = joined(alloc, property, 0, greater, others)?;
+    let tables = palettes.len().min(255) as i32;
+    let (property, value, behind) = if large {
+        (STREAM, 0, 0)
+    } else {
+        (CHANNEL, tables.saturating_sub(1), tables)
+    };
+    let greater = Levels::new(&index.nodes, &index.clusters, shift, behind);
+    let others = Levels::new(&table.nodes, &table.clusters, 0, 0);
+    let tree = joined(alloc, property, value, greater, others)?;
+    let mut plans = Vec::new(alloc);
+    for plan in palettes {
+        plans.push(*plan)?;
+    }
     Ok(Some(Advice {
         nodes: tree.nodes,
         clusters: tree.clusters,
-        colour: None,
-        own: false,
-        palette: Some(order),
+        colour: index.colour,
+        own: index.own,
+        palettes: plans,
     }))
 }
 
 /// How indices are stored.
-fn depth_of(colours: usize) -> BitDepth {
+pub(crate) fn depth_of(colours: usize) -> BitDepth {
     let bits_per_sample = match colours {
         0..=256 => 8,
         257..=1024 => 10,
         1025..=4096 => 12,
-        _ => 14,
+        4097..=16384 => 14,
+        _ => 17,
     };
     BitDepth {
         bits_per_sample,
@@ -85,31 +93,63 @@ fn list_of(alloc: Global, grid: AlignedGrid<i32>) -> Result<Vec<AlignedGrid<i32>
     Ok(list)
 }
 
-/// Adds the ways by this palette, whose colours are in this order.
-fn add_ways_by(
+/// Channels as palettes code them: the tables, all other channels, and how these are stored.
+#[derive(Clone, Copy)]
+pub(crate) struct Coded<'a> {
+    pub(crate) tables: &'a [AlignedGrid<i32>],
+    pub(crate) samples: Samples<'a>,
+}
+
+/// Adds the ways by these palettes, and one of these colour transforms.
+pub(crate) fn add_ways_by(
+    alloc: Global,
+    list: &mut Vec<Advice>,
+    coded: Coded<'_>,
+    palettes: &[PalettePlan],
+    colours: &[Option<u32>],
+    effort: Effort,
+) -> Result<(), OutOfMemory> {
+    let large = match coded.samples.channels.get(0) {
+        Some(first) => first.width() > GROUP_DIM || first.height() > GROUP_DIM,
+        None => false,
+    };
+    let care = care_of(effort).1;
+    let scheme = scheme_by_residuals(alloc, coded.tables, None, shade_axes(alloc)?, care)?;
+    let mut ways = Vec::new(alloc);
+    add_ways_of(alloc, &mut ways, coded.samples, effort, colours)?;
+    for way in ways {
+        if let Some(advice) = way_of(alloc, &scheme, way, palettes, large)? {
+            add_advice(list, advice)?;
+        }
+    }
+    Ok(())
+}
+
+/// Adds the ways by this palette of all channels.
+fn add_ways_of_all(
     alloc: Global,
     list: &mut Vec<Advice>,
     coding: PaletteGrids<i32>,
-    order: ColourOrder,
+    plan: PalettePlan,
     effort: Effort,
 ) -> Result<(), OutOfMemory> {
     let PaletteGrids { table, index, .. } = coding;
-    let large = index.width() > GROUP_DIM || index.height() > GROUP_DIM;
     let depth = depth_of(table.width());
     let tables = list_of(alloc, table)?;
-    let care = care_of(effort).1;
-    let scheme = scheme_by_residuals(alloc, &tables, None, shade_axes(alloc)?, care)?;
     let indices = list_of(alloc, index)?;
-    let samples = Samples {
-        channels: &indices,
-        depth,
+    let coded = Coded {
+        tables: &tables,
+        samples: Samples {
+            channels: &indices,
+            depth,
+        },
     };
     let mut ways = Vec::new(alloc);
-    add_ways_of(alloc, &mut ways, samples, effort, &[None])?;
+    add_ways_by(alloc, &mut ways, coded, &[plan], &[None], effort)?;
     for way in ways {
-        if let Some(advice) = tree_of(alloc, &scheme, way, order, large)? {
-            add_advice(list, advice)?;
-        }
+        let mut way = way;
+        way.own = false;
+        add_advice(list, way)?;
     }
     Ok(())
 }
@@ -132,7 +172,7 @@ fn orders_of(effort: Effort, channels: usize) -> &'static [ColourOrder] {
 
 /// Whether the samples of a table in rising order are so far apart that its indices may take fewer bits than the
 /// samples that they stand for: a table of several channels always is.
-fn is_sparse(table: &AlignedGrid<i32>) -> bool {
+pub(crate) fn is_sparse(table: &AlignedGrid<i32>) -> bool {
     if table.height() != 1 || table.width() == 0 {
         return true;
     }
@@ -168,11 +208,17 @@ pub(crate) fn add_palette_ways(
     }
     let most = most_colours(first.buf().len(), effort);
     for order in orders_of(effort, channels.len()) {
+        let plan = PalettePlan {
+            first: 0,
+            count: channels.len(),
+            order: *order,
+            most,
+        };
         let Some(coding) = palette_of(alloc, channels, 0, *order, most)? else {
             return Ok(());
         };
         if is_sparse(&coding.table) {
-            add_ways_by(alloc, list, coding, *order, effort)?;
+            add_ways_of_all(alloc, list, coding, plan, effort)?;
         }
     }
     Ok(())

@@ -1,11 +1,13 @@
 -- Spellings of a header that uses the frame's tree, or has one of its own.
-use Rattle.std.proofs.Common.{◌≡◌, ◌∙◌, ℕ, List, [], ◌∷◌, Bool, true, false, codes, if◌then◌else◌, Option, None, Some, refl, sym, ap, subst}
+use Rattle.std.proofs.Common.{◌≡◌, ◌∙◌, ℕ, ◌+◌, ◌<◌, ◌≤◌, arith, get_or, length, take, List, [], Bool, true, false, codes, if◌then◌else◌, Option, None, Some, refl, sym, ap, subst}
 use Rattle.std.specs.Prelude.{◌==◌, ok_or, slice_get}
+use Rattle.std.specs.List.{All}
+use Rattle.std.proofs.lemmas.List.{get_or-map, length-map, take_all, take_more}
 use Rattle.jxlm_bits.specs.ErrorKind.{BadEnum}
-use Rattle.jxlm_bits.specs.Grammar.{flag, from_result, number, u32}
+use Rattle.jxlm_bits.specs.Grammar.{flag, from_result, number, repeated, u32}
 use Rattle.jxlm_bits.specs.declared.bits.U32Spec.TheVariants.{Const, Offset}
 use Rattle.jxlm_bit_writer.specs.Writes.{Spells}
-use Rattle.jxlm_bit_writer.proofs.WriteLaws.{after, becomes}
+use Rattle.jxlm_bit_writer.proofs.WriteLaws.{after, becomes, one_more}
 use Rattle.jxlm_header.specs.Header.{header}
 use Rattle.jxlm_transform.specs.Transforms.{OfPalette, OfRct, Transform, begin_channel, transform, weights_for}
 use Rattle.jxlm_transform.specs.declared.transform.Palette.{Palette}
@@ -16,7 +18,8 @@ use Rattle.jxlm_predictor.specs.declared.predictor.Predictor.TheVariants.{West, 
 use Rattle.jxlm_weighted.specs.WeightsHeader.{default_weights}
 use Rattle.jxlm_weighted.specs.declared.weights.WpHeader.{WpHeader}
 use Rattle.jxl_encode_palette.specs.Palettes.{plain_predictor}
-use Rattle.jxl_encode_image.specs.Preparations.{IsPlainPalette, own_header, shared_header}
+use Rattle.jxl_encode_image.specs.Preparations.{IsPlainPalette, IsSpelled, image_transforms, own_header, shared_header, transform_listed}
+use Rattle.jxl_encode_image.specs.declared.transform.ImageTransform.{ImageTransform}
 use Rattle.jxl_encode_image.specs.Inner.Lists.{transform_list}
 
 pub colour_spelled : (t : Rct) (b0 b1 b2 b3 : List ℕ) → Spells b0 b1 (number 2) 0 → Spells b1 b2 begin_channel t.begin_c → Spells b2 b3 (u32 (Const 6) (Offset 0 2) (Offset 2 4) (Offset 10 6)) t.rct_type →
@@ -46,11 +49,30 @@ palette_spelled t plain m found b0 b1 b2 b3 b4 b5 b6 n b c k d p =
     let deltas = colours.2 in
     (1, s.0, s.1, (t, q, (t.begin_c, s.2.0, s.2.1, (t.num_c, channels.0, channels.1, (t.nb_colours, colours.0, colours.1, (0, deltas.0, deltas.1, (predictor, q, (m, q, deltas.2, subst (λ (o : Option Predictor). (from_result (ok_or o (BadEnum (codes "MaProperty") m))).Stands bytes q predictor q) there (refl, refl)), (is, refl)))))), (refl, refl))))
 
-pub none_listed : (a b : List ℕ) → Spells a b (u32 (Const 0) (Const 1) (Offset 2 4) (Offset 18 8)) 0 → Spells a b transform_list []
-none_listed a b u = becomes u (λ bytes p q s. (0, q, s, (refl, refl)))
+pub all_listed : (n : ℕ) (ts : List Transform) (a b c : List ℕ) → Spells a b (u32 (Const 0) (Const 1) (Offset 2 4) (Offset 18 8)) n → Spells b c (repeated n (transform default_weights)) ts → Spells a c transform_list ts
+all_listed n ts a b c u v = becomes (after u v) (λ bytes p q s. (n, s.0, s.1, s.2))
 
-pub one_listed : (t : Transform) (a b c : List ℕ) → Spells a b (u32 (Const 0) (Const 1) (Offset 2 4) (Offset 18 8)) 1 → Spells b c (transform default_weights) t → Spells a c transform_list (t ∷ [])
-one_listed t a b c u v = becomes (after u v) (λ bytes p q s. (1, s.0, s.1, (t, q, s.2, ([], q, (refl, refl), (refl, refl)))))
+-- transforms one after another
+pub next_listed : (ts : List ImageTransform) (i : ℕ) (d : ImageTransform) (a b c : List ℕ) → i < length ts → Spells a b (repeated i (transform default_weights)) (take i (image_transforms ts)) →
+    Spells b c (transform default_weights) (transform_listed (get_or ts i d)) → Spells a c (repeated (i + 1) (transform default_weights)) (take (i + 1) (image_transforms ts))
+next_listed ts i d a b c lt u v =
+    let long = length-map ts transform_listed in
+    let here : transform_listed (get_or ts i d) ≡ get_or (image_transforms ts) i (transform_listed d) = sym (get_or-map transform_listed ts i d (transform_listed d) lt) in
+    rw (take_more (image_transforms ts) i (transform_listed d) (omega (arith, long, lt)))
+    (one_more i (transform default_weights) (take i (image_transforms ts)) (get_or (image_transforms ts) i (transform_listed d)) a b c u (subst (λ (t : Transform). Spells b c (transform default_weights) t) here v))
+
+pub whole_list : (ts : List ImageTransform) (i : ℕ) (a b : List ℕ) → length ts ≤ i → i ≤ length ts → Spells a b (repeated i (transform default_weights)) (take i (image_transforms ts)) →
+    Spells a b (repeated (length ts) (transform default_weights)) (image_transforms ts)
+whole_list ts i a b least most u =
+    let long = length-map ts transform_listed in
+    let e : i ≡ length ts = omega (arith, least, most) in
+    subst (λ (ys : List Transform). Spells a b (repeated (length ts) (transform default_weights)) ys) (take_all (length ts) (image_transforms ts) (omega (arith, long)))
+    (subst (λ (n : ℕ). Spells a b (repeated n (transform default_weights)) (take n (image_transforms ts))) e u)
+
+pub listed_spelled : (ts : List ImageTransform) (i : ℕ) (d : ImageTransform) → All IsSpelled (image_transforms ts) → i < length ts → IsSpelled (transform_listed (get_or ts i d))
+listed_spelled ts i d all lt =
+    let long = length-map ts transform_listed in
+    subst IsSpelled (get_or-map transform_listed ts i d (transform_listed d) lt) (all i (transform_listed d) (omega (arith, long, lt)))
 
 pub header_spelled : (ts : List Transform) (b0 b1 b2 b3 : List ℕ) → Spells b0 b1 flag true → Spells b1 b2 flag true → Spells b2 b3 transform_list ts → Spells b0 b3 header (shared_header ts)
 header_spelled ts b0 b1 b2 b3 f g l =

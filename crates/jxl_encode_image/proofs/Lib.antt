@@ -2,6 +2,9 @@ pub mod HeaderSpellings
 pub mod PaletteFields
 pub mod Spelled
 pub mod Buffers
-pub mod Images
-pub mod PaletteCoded
+pub mod Joined
+pub mod Steps
+pub mod ColourSteps
+pub mod PaletteSteps
+pub mod First
 pub mod Parts

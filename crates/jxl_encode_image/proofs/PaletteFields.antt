@@ -1,5 +1,5 @@
 -- Which values the fields of a palette can spell.
-use Rattle.std.proofs.Common.{◌≡◌, inl, inr, ℕ, ◌-◌, ◌^◌, ◌<◌, ◌≤◌, Bool, true, false, refl, arith}
+use Rattle.std.proofs.Common.{◌≡◌, inl, inr, ℕ, zero, suc, ◌-◌, ◌^◌, ◌<◌, ◌≤◌, Bool, true, false, refl, arith}
 use Rattle.std.specs.Prelude.{nat_lt, nat_le, ◌||◌}
 use Rattle.std.proofs.lemmas.Bool.{cases_lt, and_from, le-leb, lt-ltb}
 use Rattle.jxlm_bits.specs.declared.bits.U32Spec.TheVariants.{Const, Offset}
@@ -37,4 +37,16 @@ colours_spelled v few =
           | inr most ↦ or_second (a || b || c) d (held 5376 16 v most (omega (arith, few)))
         ]
       ]
+    ]
+
+pub count_spelled : (v : ℕ) → v ≤ 273 → is_spelled (Const 0) (Const 1) (Offset 2 4) (Offset 18 8) v ≡ true
+count_spelled zero few = refl
+count_spelled (suc zero) few = refl
+count_spelled (suc (suc v)) few =
+    let n : ℕ = suc (suc v) in
+    let c : Bool = holds (Offset 2 4) n in
+    let d : Bool = holds (Offset 18 8) n in
+    elim (cases_lt n 18) [
+      | inl lt ↦ or_first (holds (Const 0) n || holds (Const 1) n || c) d (or_second (holds (Const 0) n || holds (Const 1) n) c (held 2 4 n (omega arith) (omega (arith, lt))))
+      | inr ge ↦ or_second (holds (Const 0) n || holds (Const 1) n || c) d (held 18 8 n ge (omega (arith, few)))
     ]

@@ -1,6 +1,6 @@
 -- What an encoder makes of an image before it writes samples: a header, and coded samples (ISO/IEC 18181-1, Modular: Modular
 -- header, TransformInfo).
-use Rattle.std.specs.Prelude.{◌≡◌, ℕ, ◌≤◌, ℤ, List, [], ◌∷◌, length, true, false, Option, None, Some, Ok}
+use Rattle.std.specs.Prelude.{◌≡◌, ℕ, ◌≤◌, ℤ, List, [], length, map, true, false, Ok}
 use Rattle.std.specs.Int.{Width}
 use Rattle.std.specs.List.{All}
 use Rattle.jxlm_base.specs.Grid.{Grid}
@@ -10,7 +10,6 @@ use Rattle.jxlm_transform.specs.Channels.{ChannelList}
 use Rattle.jxlm_transform.specs.ChannelSteps.{CodedList, coded_list}
 use Rattle.jxlm_transform.specs.Transforms.{IsPalette, IsRct, IsSqueeze, OfPalette, OfRct, OfSqueeze, Transform}
 use Rattle.jxlm_transform.specs.declared.transform.Palette.{Palette}
-use Rattle.jxlm_transform.specs.declared.transform.Rct.{Rct}
 use Rattle.jxlm_weighted.specs.WeightsHeader.{default_weights}
 use Rattle.jxl_encode_palette.specs.Palettes.{plain_palette}
 use Rattle.jxl_encode_image.specs.declared.transform.ImageTransform.{ImageTransform}
@@ -23,11 +22,6 @@ shared_header ts = record { use_global_tree = true; wp_params = default_weights;
 -- a header that has a tree of its own, with the default weights and without transforms
 abbrev pub own_header : Header
 own_header = record { use_global_tree = false; wp_params = default_weights; transform = [] }
-
--- a colour transform, if there is one
-abbrev pub colour_transforms : Option Rct → List Transform
-colour_transforms None = []
-colour_transforms (Some t) = OfRct t ∷ []
 
 -- a palette without differences that a header can spell; by the tables of deltas it is the same
 pub record IsPlainPalette (t : Palette) : Type 0 where
@@ -46,10 +40,9 @@ abbrev pub transform_listed : ImageTransform → Transform
 transform_listed (images.Colour t) = OfRct t
 transform_listed (images.Palette t) = OfPalette t
 
--- the list of a transform, if there is one
-abbrev pub image_transforms : Option ImageTransform → List Transform
-image_transforms None = []
-image_transforms (Some t) = transform_listed t ∷ []
+-- transforms of an image, as its header lists them
+abbrev pub image_transforms : List ImageTransform → List Transform
+image_transforms ts = map transform_listed ts
 
 -- The transforms are at most 273, an encoder writes each, and they come to these steps and channels.
 pub record AreReady (ts : List Transform) (l : ChannelList) (coded : CodedList) : Type 0 where

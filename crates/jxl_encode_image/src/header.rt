@@ -1,9 +1,9 @@
 //! The Modular header of a part that uses the tree of its frame, or has one of its own, written (ISO/IEC 18181-1, Modular: Modular header,
 //! TransformInfo).
 
-ghost use Rattle.std.specs.Prelude.{◌≡◌, ◌≤◌, IfOk};
-ghost use Rattle.std.specs.Option.{IfSome};
-ghost use Rattle.jxlm_bits.specs.Grammar.{u32 as the_u32};
+ghost use Rattle.std.specs.Prelude.{◌≡◌, ◌≤◌, IfOk, length};
+ghost use Rattle.std.specs.List.{All};
+ghost use Rattle.jxlm_bits.specs.Grammar.{repeated, u32 as the_u32};
 ghost use Rattle.jxlm_bits.specs.declared.bits.U32Spec.TheVariants.{Const, Offset};
 ghost use Rattle.jxlm_bit_writer.specs.Writes.{Spells};
 ghost use Rattle.jxlm_header.specs.Header.{header};
@@ -21,7 +21,7 @@ use std::alloc::AllocError;
 
 // Adds how many transforms there are.
 fn write_count(bits: &mut BitWriter, count: u32) -> Result<(), AllocError>
-    requires { count ≤ 1 }
+    requires { count ≤ 273 }
     ensures { IfOk result (λ _. Spells bits.old bits.new (the_u32 (Const 0) (Const 1) (Offset 2 4) (Offset 18 8))
         count) }
 {
@@ -121,35 +121,42 @@ fn write_transform(bits: &mut BitWriter, transform: ImageTransform) -> Result<()
     }
 }
 
-// Adds the list of transforms: this one, if there is one.
-fn write_transforms(
-    bits: &mut BitWriter,
-    transform: Option<ImageTransform>,
-) -> Result<(), AllocError>
-    requires { IfSome transform (λ t. IsSpelled (transform_listed t)) }
-    ensures { IfOk result (λ _. Spells bits.old bits.new transform_list (image_transforms transform)) }
+// Adds these transforms.
+fn write_each(bits: &mut BitWriter, transforms: &[ImageTransform]) -> Result<(), AllocError>
+    requires { All IsSpelled (image_transforms transforms.now) }
+    ensures { IfOk result (λ _. Spells bits.old bits.new
+        (repeated (length transforms.now) (the_transform default_weights)) (image_transforms transforms.now)) }
 {
-    let Some(transform) = transform else {
-        write_count(bits, 0)?;
-        return Ok(());
-    };
-    write_count(bits, 1)?;
-    write_transform(bits, transform)?;
+    for transform in transforms {
+        write_transform(bits, *transform)?;
+    }
     Ok(())
 }
 
-/// Adds the header of a part that uses the tree of its frame, with the default weights and this transform, if there is one,
-/// which a header can spell. The parser reads this header there.
+// Adds the list of transforms.
+fn write_transforms(bits: &mut BitWriter, transforms: &[ImageTransform]) -> Result<(), AllocError>
+    requires few { length transforms.now ≤ 273 }
+    requires spelled { All IsSpelled (image_transforms transforms.now) }
+    ensures { IfOk result (λ _. Spells bits.old bits.new transform_list (image_transforms transforms.now)) }
+{
+    write_count(bits, transforms.len() as u32)?;
+    write_each(bits, transforms)?;
+    Ok(())
+}
+
+/// Adds the header of a part that uses the tree of its frame, with the default weights and these transforms, which a header can
+/// spell. The parser reads this header there.
 pub fn write_shared_header(
     bits: &mut BitWriter,
-    transform: Option<ImageTransform>,
+    transforms: &[ImageTransform],
 ) -> Result<(), AllocError>
-    requires { IfSome transform (λ t. IsSpelled (transform_listed t)) }
-    ensures { IfOk result (λ _. Spells bits.old bits.new header (shared_header (image_transforms transform))) }
+    requires few { length transforms.now ≤ 273 }
+    requires spelled { All IsSpelled (image_transforms transforms.now) }
+    ensures { IfOk result (λ _. Spells bits.old bits.new header (shared_header (image_transforms transforms.now))) }
 {
     write_flag(bits, true)?;
     write_flag(bits, true)?;
-    write_transforms(bits, transform)?;
+    write_transforms(bits, transforms)?;
     Ok(())
 }
 

@@ -1,100 +1,161 @@
-//! An image as it is coded by a palette.
+//! Channels of an image as palettes code them.
 
-ghost use Rattle.std.specs.Prelude.{◌≡◌, ◌<◌, ◌≤◌, ◌++◌, [], ◌∷◌, IfOk, length, map, slice_set};
-ghost use Rattle.std.specs.List.{All};
-ghost use Rattle.jxlm_base.specs.Regions.{store_meanings};
-ghost use Rattle.jxlm_transform.specs.Channels.{AreGridsOf, image_list};
-ghost use Rattle.jxlm_transform.specs.ChannelSteps.{range};
-ghost use Rattle.jxlm_transform.specs.Params.{IsValidChannel};
-ghost use Rattle.jxlm_transform.specs.Transforms.{OfPalette, transform_of};
-ghost use Rattle.jxl_encode_palette.specs.Palettes.{IsPaletteFor};
-ghost use Rattle.jxl_encode_image.specs.Images.{IsCodedImage};
-ghost use Rattle.jxl_encode_image.specs.Inner.Placing.{IsPlacedFor};
+ghost use Rattle.std.specs.Prelude.{◌≡◌, ◌+◌, ◌<◌, ◌≤◌, ◌++◌, [], ◌∷◌, ℕ, IfOk, IsTrue, length, slice_set};
+ghost use Rattle.std.specs.Option.{IfSome};
+ghost use Rattle.jxl_encode_image.specs.Inner.Placing.{GoesOnTo, IsPaletteAt, LieAlone, LiesWhole, region_at};
 
-use crate::image::CodedImage;
-use jxl_encode_palette::palette::PaletteGrids;
-use jxlm_base::grid::{AlignedGrid, OutOfMemory};
+use crate::image::{CodedImage, LAST_BEGIN, MOST_TRANSFORMS, placed_after, with_transform};
+use crate::transform::{ImageTransform, PalettePlan};
+use jxl_encode_palette::palette::{PaletteGrids, palette_of};
+use jxlm_base::grid::{AlignedGrid, OutOfMemory, Region};
 use jxlm_base::sample::Sample;
 use jxlm_chain::placed::PlacedChannels;
-use jxlm_transform::channels::{ModularChannelInfo, image_channels};
-use jxlm_transform::param::ModularChannelParams;
-use jxlm_transform::transform::{Palette, TransformInfo};
+use jxlm_transform::channels::ModularChannels;
 use std::alloc::Global;
 
-// The palette as a list.
-fn palette_list(alloc: Global, palette: Palette) -> Result<Vec<TransformInfo>, OutOfMemory>
-    ensures { IfOk result (λ v. map transform_of v.items ≡ OfPalette palette ∷ []) }
+// Whether this number of elements from `begin` on are there among `many`.
+fn is_range(begin: usize, count: usize, many: usize) -> bool
+    ensures { IsTrue result → begin + count ≤ many }
 {
-    let mut transforms = Vec::new(alloc);
-    transforms.push(TransformInfo::Palette(palette))?;
-    Ok(transforms)
+    begin <= many && count <= many - begin
 }
 
-// The channels where they lie after the palette.
-fn placed_by_palette(
-    alloc: Global,
-    given: &[ModularChannelInfo],
-    palette: Palette,
-) -> Result<PlacedChannels, OutOfMemory>
-    requires { 1 ≤ palette.num_c }
-    ensures { IfOk result (λ p. IsPlacedFor (OfPalette palette ∷ []) given.now p) }
+// Where a channel lies.
+fn region_of(channels: &ModularChannels, number: usize) -> Region
+    requires { number < length channels.now.placed.items }
+    ensures { result ≡ region_at channels.now number }
 {
-    let Ok(mut placed) = PlacedChannels::whole(alloc, given) else {
-        return Err(OutOfMemory);
-    };
-    let mut transforms = palette_list(alloc, palette)?;
-    match placed.apply(alloc, &mut transforms) {
-        Ok(()) => Ok(placed),
-        Err(_) => Err(OutOfMemory),
+    channels.placed[number].region
+}
+
+// Whether the region is the whole of this buffer.
+fn is_whole<S: Sample>(region: Region, buffer: usize, store: &[AlignedGrid<S>]) -> bool
+    requires { buffer < length store.now }
+    ensures { IsTrue result → LiesWhole region buffer store.now }
+{
+    if region.buffer != buffer || region.x != 0 || region.y != 0 {
+        return false;
     }
+    if region.width != store[buffer].width() || region.height != store[buffer].height() {
+        return false;
+    }
+    true
 }
 
-// The grids with these indices in place of grid `begin`, and the table after them.
+// Whether these channels are the whole of these buffers.
+fn are_whole<S: Sample>(
+    channels: &ModularChannels,
+    begin: usize,
+    first: usize,
+    count: usize,
+    store: &[AlignedGrid<S>],
+) -> bool
+    requires there { begin + count ≤ length channels.now.placed.items }
+    requires taken { first + count ≤ length store.now }
+    ensures { IsTrue result → (k : ℕ) → k < count → LiesWhole (region_at channels.now (begin + k)) (first + k) store.now }
+{
+    for k in 0..count {
+        if !is_whole(region_of(channels, begin + k), first + k, store) {
+            return false;
+        }
+    }
+    true
+}
+
+// The palette that a plan asks for, if the channels of an image are whole buffers, their colours are few, and a header can spell
+// it after the transforms of the image.
+fn palette_in<S: Sample>(
+    alloc: Global,
+    image: &CodedImage<S>,
+    plan: PalettePlan,
+) -> Result<Option<PaletteGrids<S>>, OutOfMemory>
+    ensures is { IfOk result (λ o. IfSome o (λ p. IsPaletteAt S.to_int S.width image.now.channels image.now.store.items
+        plan.first plan.count p.palette p.table p.index)) }
+    ensures few { IfOk result (λ o. IfSome o (λ _. length image.now.transforms.items < 273)) }
+{
+    let begin = image.channels.nb_meta_channels.saturating_add(plan.first);
+    let (channels, grids) = (image.channels.placed.len(), image.store.len());
+    if begin > LAST_BEGIN || image.transforms.len() >= MOST_TRANSFORMS {
+        return Ok(None);
+    }
+    if !is_range(begin, plan.count, channels) || !is_range(plan.first, plan.count, grids) {
+        return Ok(None);
+    }
+    if !are_whole(&image.channels, begin, plan.first, plan.count, &image.store) {
+        return Ok(None);
+    }
+    let range = &image.store[plan.first..plan.first + plan.count];
+    let coding = palette_of(alloc, range, begin as u32, plan.order, plan.most)?;
+    Ok(coding)
+}
+
+// The grids and after them the table, with these indices in place of grid `first`.
 fn coded_store<S: Sample>(
     grids: Vec<AlignedGrid<S>>,
-    begin: u32,
+    first: usize,
     table: AlignedGrid<S>,
     index: AlignedGrid<S>,
 ) -> Result<Vec<AlignedGrid<S>>, OutOfMemory>
-    requires { begin < length grids.items }
-    ensures { IfOk result (λ v. v.items ≡ slice_set grids.items begin index ++ table ∷ []) }
+    requires { first < length grids.items }
+    ensures { IfOk result (λ v. v.items ≡ slice_set (grids.items ++ table ∷ []) first index) }
 {
     let mut store = grids;
-    store[begin as usize] = index;
     store.push(table)?;
+    store[first] = index;
     Ok(store)
 }
 
-/// Codes the samples of an image, of these channels, by a palette of channels of them, with its table and its indices.
-///
-/// # Errors
-///
-/// `OutOfMemory`, and no other. It takes lists as long as the list of channels.
-pub fn code_by_palette<S: Sample>(
+// The image after the palette that a plan asks for as well, if there is one.
+fn with_palette<S: Sample>(
     alloc: Global,
-    given: &[ModularChannelParams],
-    coding: PaletteGrids<S>,
-    grids: Vec<AlignedGrid<S>>,
+    image: CodedImage<S>,
+    plan: PalettePlan,
 ) -> Result<CodedImage<S>, OutOfMemory>
-    requires valid { All IsValidChannel given.now }
-    requires few { length given.now < 65536 }
-    requires sides { AreGridsOf (image_list given.now).channels grids.items }
-    requires begin { coding.palette.begin_c ≤ 9287 }
-    requires made { IsPaletteFor S.to_int S.width coding.palette.begin_c
-        (range coding.palette.begin_c coding.palette.num_c grids.items) coding.palette coding.table coding.index }
-    ensures { IfOk result (λ i. IsCodedImage S.to_int S.width (OfPalette coding.palette ∷ []) (image_list given.now)
-        (store_meanings S.to_int grids.items) i.channels i.store.items) }
+    requires { LieAlone image.channels image.store.items }
+    ensures lie { IfOk result (λ i. LieAlone i.channels i.store.items) }
+    ensures goes { IfOk result (λ i. GoesOnTo S.to_int S.width image.channels image.store.items image.transforms.items
+        i.channels i.store.items i.transforms.items) }
 {
-    let Ok(infos) = image_channels(alloc, given) else {
-        return Err(OutOfMemory);
+    let found = palette_in(alloc, &image, plan)?;
+    let Some(coding) = found else {
+        return Ok(image);
     };
+    let CodedImage {
+        channels,
+        store,
+        transforms,
+    } = image;
     let PaletteGrids {
         palette,
         table,
         index,
     } = coding;
-    let placed = placed_by_palette(alloc, &infos, palette)?;
-    let store = coded_store(grids, palette.begin_c, table, index)?;
+    let transform = ImageTransform::Palette(palette);
+    let placed = placed_after(alloc, channels, transform)?;
+    let grids = coded_store(store, plan.first, table, index)?;
+    let list = with_transform(transforms, transform)?;
     let PlacedChannels { channels, .. } = placed;
-    Ok(CodedImage { channels, store })
+    Ok(CodedImage {
+        channels,
+        store: grids,
+        transforms: list,
+    })
+}
+
+/// The image after the palettes that these plans ask for, one after another.
+pub(crate) fn with_palettes<S: Sample>(
+    alloc: Global,
+    image: CodedImage<S>,
+    palettes: &[PalettePlan],
+) -> Result<CodedImage<S>, OutOfMemory>
+    requires { LieAlone image.channels image.store.items }
+    ensures lie { IfOk result (λ i. LieAlone i.channels i.store.items) }
+    ensures goes { IfOk result (λ i. GoesOnTo S.to_int S.width image.channels image.store.items image.transforms.items
+        i.channels i.store.items i.transforms.items) }
+{
+    let mut image = image;
+    for plan in palettes {
+        image = with_palette(alloc, image, *plan)?;
+    }
+    Ok(image)
 }

@@ -1,10 +1,6 @@
-//! A transform of an image that an encoder runs forward and writes.
+//! The transforms of an image that an encoder runs forward and writes.
 
-ghost use Rattle.std.specs.Prelude.{◌≡◌};
-ghost use Rattle.std.specs.Option.{IfSome};
-ghost use Rattle.jxlm_transform.specs.Transforms.{IsRct};
-ghost use Rattle.jxl_encode_image.specs.Preparations.{IsSpelled, colour_transforms, image_transforms, transform_listed};
-
+use jxl_encode_palette::colours::ColourOrder;
 use jxlm_transform::transform::{Palette, Rct};
 
 /// A transform of an image.
@@ -16,13 +12,24 @@ pub enum ImageTransform {
     Palette(Palette),
 }
 
-/// A colour transform, if there is one, as a transform of an image.
-pub fn colour_transform(colour: Option<Rct>) -> Option<ImageTransform>
-    ensures same { image_transforms result ≡ colour_transforms colour }
-    ensures spelled { IfSome colour (λ t. IsRct t) → IfSome result (λ t. IsSpelled (transform_listed t)) }
-{
-    let Some(colour) = colour else {
-        return None;
-    };
-    Some(ImageTransform::Colour(colour))
+/// Channels of an image that become a palette, if their colours are few.
+#[derive(Clone, Copy, Debug, PartialEq, Eq)]
+pub struct PalettePlan {
+    /// The first of the channels.
+    pub first: usize,
+    /// How many there are, one to four.
+    pub count: usize,
+    /// The order of their colours.
+    pub order: ColourOrder,
+    /// The most colours that they may have.
+    pub most: usize,
+}
+
+/// The transforms that an image is coded by, where they suit its channels.
+#[derive(Clone, Copy)]
+pub struct ImagePlan<'a> {
+    /// Palettes, one after another.
+    pub palettes: &'a [PalettePlan],
+    /// The kind of the colour transform of the first three channels after them, if there is one.
+    pub colour: Option<u32>,
 }

@@ -13,7 +13,7 @@ use Rattle.jxlm_transform.specs.declared.transform.Palette.{Palette}
 use Rattle.jxlm_inverse.specs.Palette.{IsPaletteOf, finished_sample}
 use Rattle.jxlm_inverse.proofs.PaletteSteps.{simple_sample}
 use Rattle.jxl_encode_palette.specs.Palettes.{plain_palette}
-use Rattle.jxl_encode_palette.specs.Inner.Named.{AreNamed, IsNamed}
+use Rattle.jxl_encode_palette.specs.Inner.Names.{NamesAll, NamesPixel}
 
 module _ {S : Type 0} (to_int : S → ℤ) (w : Width) (begin : ℕ) (grids : List (Grid S)) (table index : Grid S) where
   abbrev t : Palette
@@ -26,7 +26,7 @@ module _ {S : Type 0} (to_int : S → ℤ) (w : Width) (begin : ℕ) (grids : Li
   meant_sides g h = record { same_width = h.same_width; same_height = h.same_height; full = IsFull-meanings to_int g h.full }
 
   -- the finished sample of an index is the sample of the channel
-  sample_is : (depth c x y width : ℕ) (before : List ℤ) → IsNamed to_int w grids table index x y → c < length grids →
+  sample_is : (depth c x y width : ℕ) (before : List ℤ) → NamesPixel to_int w grids table index x y → c < length grids →
       at (meanings to_int (get_or grids c none)) x y ≡ finished_sample w depth t (meanings to_int table) (at (meanings to_int index) x y) c before width
   sample_is depth c x y width before named below =
       let sample = named.samples c below in
@@ -35,7 +35,7 @@ module _ {S : Type 0} (to_int : S → ℤ) (w : Width) (begin : ℕ) (grids : Li
       simple_sample w depth t (meanings to_int table) (pos named.number) c before width (omega arith, named.within) in
       sym (ap (λ (i : ℤ). finished_sample w depth t (meanings to_int table) i c before width) named.is ∙ simple ∙ ap (int_wrap w) sample.same ∙ int_wrap_fits w v sample.fits)
 
-  pub palette_image : All (HasSides index.width index.height) grids → AreNamed to_int w grids table index →
+  pub palette_image : All (HasSides index.width index.height) grids → NamesAll to_int w grids table index →
       (depth : ℕ) → IsPaletteOf w depth t (meanings to_int table) (meanings to_int index) (map (meanings to_int) grids)
   palette_image sides named depth = record {
     count = length-map grids (meanings to_int);

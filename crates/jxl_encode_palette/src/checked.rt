@@ -3,7 +3,7 @@
 ghost use Rattle.std.specs.Prelude.{◌≡◌, ◌<◌, IsTrue, length};
 ghost use Rattle.std.specs.List.{All};
 ghost use Rattle.jxlm_transform.specs.Channels.{HasSides};
-ghost use Rattle.jxl_encode_palette.specs.Inner.Named.{AreNamed, IsNamed, IsRowNamed, IsSampleNamed};
+ghost use Rattle.jxl_encode_palette.specs.Inner.Names.{NamesAll, NamesPixel, NamesRow, NamesSample};
 
 use jxlm_base::grid::AlignedGrid;
 use jxlm_base::sample::Sample;
@@ -21,7 +21,7 @@ fn names_sample<S: Sample>(
     requires channel { channel < table.now.height }
     requires column { x < grid.now.width }
     requires in_rows { y < grid.now.height }
-    ensures { IsTrue result → IsSampleNamed S.to_int S.width grid.now table.now number channel x y }
+    ensures { IsTrue result → NamesSample S.to_int S.width grid.now table.now number channel x y }
 {
     let listed = table.get(number, channel).to_i32();
     let sample = grid.get(x, y).to_i32();
@@ -41,7 +41,7 @@ fn names_pixel<S: Sample>(
     requires sides { All (HasSides index.now.width index.now.height) grids.now }
     requires column { x < index.now.width }
     requires in_rows { y < index.now.height }
-    ensures { IsTrue result → IsNamed S.to_int S.width grids.now table.now index.now x y }
+    ensures { IsTrue result → NamesPixel S.to_int S.width grids.now table.now index.now x y }
 {
     let named = index.get(x, y).to_i32();
     if named < 0 {
@@ -69,7 +69,7 @@ fn names_row<S: Sample>(
     requires rows { table.now.height ≡ length grids.now }
     requires sides { All (HasSides index.now.width index.now.height) grids.now }
     requires in_rows { y < index.now.height }
-    ensures { IsTrue result → IsRowNamed S.to_int S.width grids.now table.now index.now y }
+    ensures { IsTrue result → NamesRow S.to_int S.width grids.now table.now index.now y }
 {
     for x in 0..index.width() {
         if !names_pixel(grids, table, index, x, y) {
@@ -87,7 +87,7 @@ fn names_rows<S: Sample>(
 ) -> bool
     requires rows { table.now.height ≡ length grids.now }
     requires sides { All (HasSides index.now.width index.now.height) grids.now }
-    ensures { IsTrue result → AreNamed S.to_int S.width grids.now table.now index.now }
+    ensures { IsTrue result → NamesAll S.to_int S.width grids.now table.now index.now }
 {
     for y in 0..index.height() {
         if !names_row(grids, table, index, y) {
@@ -118,7 +118,7 @@ pub(crate) fn names_all<S: Sample>(
 ) -> bool
     ensures rows { IsTrue result → table.now.height ≡ length grids.now }
     ensures sides { IsTrue result → All (HasSides index.now.width index.now.height) grids.now }
-    ensures samples { IsTrue result → AreNamed S.to_int S.width grids.now table.now index.now }
+    ensures samples { IsTrue result → NamesAll S.to_int S.width grids.now table.now index.now }
 {
     if table.height() != grids.len() {
         return false;

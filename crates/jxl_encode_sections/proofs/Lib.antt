@@ -11,6 +11,5 @@ pub mod OneGroup
 pub mod AlphabetSums
 pub mod OwnTrees
 pub mod EncodedFrames
-pub mod CodedColours
-pub mod CodedPalettes
+pub mod CodedLists
 pub mod Codings

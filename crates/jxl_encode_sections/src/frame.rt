@@ -1,6 +1,6 @@
 //! All sections of a frame.
 
-ghost use Rattle.std.specs.Prelude.{◌≡◌, ◌≢◌, ◌⊎◌, ◌<◌, ◌≤◌, ◌^◌, Ok, length, map, true, IfOk, IfErr, IsTrue};
+ghost use Rattle.std.specs.Prelude.{◌≡◌, ◌≢◌, ◌⊎◌, ◌<◌, ◌≤◌, ◌^◌, Ok, length, map, true, IfOk, IfErr};
 ghost use Rattle.std.specs.List.{All};
 ghost use Rattle.std.specs.Option.{IfSome};
 ghost use Rattle.jxl_codestream.specs.LayoutParts.{parts_of};
@@ -10,8 +10,7 @@ ghost use Rattle.jxl_coding_build.specs.AnyWriters.{HasHead, HaveSlots, codes_in
 ghost use Rattle.jxl_encode_frame.specs.Laws.{IsOfSize};
 ghost use Rattle.jxl_encode_frame.specs.Numbers.{HasNumber};
 ghost use Rattle.jxl_encode_image.specs.Images.{LieCoded, samples_in};
-ghost use Rattle.jxl_encode_image.specs.Preparations.{IsSpelled, image_transforms, transform_listed};
-ghost use Rattle.jxl_encode_palette.specs.Palettes.{IsPaletteFor};
+ghost use Rattle.jxl_encode_image.specs.Preparations.{IsSpelled, image_transforms};
 ghost use Rattle.jxl_encode_sections.specs.Inner.Frames.{AreByTokens, AreTokensOfFrame, AreWrittenSections, IsFrameBy, IsFrameOfCoded};
 ghost use Rattle.jxl_encode_sections.specs.Inner.Groups.{MayHaveOwn};
 ghost use Rattle.jxl_encode_sections.specs.Sections.{AreFrameSections, most_codewords};
@@ -21,17 +20,15 @@ ghost use Rattle.jxlm_base.specs.Regions.{store_meanings};
 ghost use Rattle.jxlm_encode_tokens.specs.Tokens.{MultipliesByOne};
 ghost use Rattle.jxlm_encode_write.specs.Nodes.{has_token};
 ghost use Rattle.jxlm_encode_write.specs.Trees.{leaves_in};
-ghost use Rattle.jxlm_groups.specs.Cutting.{can_cut, has_cells};
+ghost use Rattle.jxlm_groups.specs.Cutting.{has_cells};
 ghost use Rattle.jxlm_groups.specs.Pieces.{part_channels};
 ghost use Rattle.jxlm_groups.specs.declared.part.SectionPart.{SectionPart as APart};
 ghost use Rattle.jxlm_groups.specs.declared.part.SectionPart.TheVariants as parts;
 ghost use Rattle.jxlm_samples.specs.Part.{cell_count};
 ghost use Rattle.jxlm_section_split.specs.CutPicture.{one_pass as the_pass};
 ghost use Rattle.jxlm_transform.specs.Channels.{AreGridsOf, image_list};
-ghost use Rattle.jxlm_transform.specs.ChannelSteps.{RctStep, list_after, range};
 ghost use Rattle.jxlm_transform.specs.Lists.{list_of};
 ghost use Rattle.jxlm_transform.specs.Params.{IsGroupDim, IsValidChannel};
-ghost use Rattle.jxlm_transform.specs.Transforms.{IsRct};
 ghost use Rattle.jxlm_tree.specs.Tree.{AllLeaves};
 
 use crate::codes::codes_for;
@@ -47,9 +44,7 @@ use jxl_coding_build::any::AnyWriter;
 use jxl_coding_stream_write::copies::TokenCopy;
 use jxl_encode_frame::sections::{empty_sections, put_section};
 use jxl_encode_image::image::{CodedImage, code_image};
-use jxl_encode_image::palette::code_by_palette;
-use jxl_encode_image::transform::{ImageTransform, colour_transform};
-use jxl_encode_palette::palette::PaletteGrids;
+use jxl_encode_image::transform::{ImagePlan, ImageTransform};
 use jxl_encode_tree::tree::tree_config;
 use jxlm_base::grid::{AlignedGrid, OutOfMemory};
 use jxlm_base::sample::Sample;
@@ -58,7 +53,6 @@ use jxlm_encode::error::EncodeError;
 use jxlm_encode_write::tree::EncodeNode;
 use jxlm_groups::part::SectionPart;
 use jxlm_transform::param::ModularChannelParams;
-use jxlm_transform::transform::Rct;
 use jxlm_tree::ma::MaConfigParams;
 use std::alloc::{AllocError, Global};
 
@@ -136,7 +130,7 @@ fn written(
     layout: &Layout,
     nodes: &[EncodeNode],
     codes: &AnyWriter,
-    transform: Option<ImageTransform>,
+    transforms: &[ImageTransform],
     tokens: &FrameTokens,
     copies: &[Vec<TokenCopy>],
 ) -> Result<Vec<Vec<u8>>, AllocError>
@@ -144,12 +138,13 @@ fn written(
     requires few { length nodes.now ≤ 2 ^ 26 }
     requires head { HasHead codes.now }
     requires contexts { length (codes_in codes.now).clusters ≡ leaves_in nodes.now }
-    requires spelled { IfSome transform (λ t. IsSpelled (transform_listed t)) }
+    requires transforms { length transforms.now ≤ 273 }
+    requires spelled { All IsSpelled (image_transforms transforms.now) }
     requires first { HaveSlots codes.now tokens.now.global.items }
     requires slots { All (λ p. HaveSlots codes.now p.tokens.items) tokens.now.groups.items }
     requires numbers { All (λ p. HasNumber (parts_of layout.now) p.part) tokens.now.groups.items }
     requires others { All (λ p. p.part ≢ parts.Global) tokens.now.groups.items }
-    ensures { IfOk result (λ v. AreWrittenSections nodes.now (codes_in codes.now) (image_transforms transform)
+    ensures { IfOk result (λ v. AreWrittenSections nodes.now (codes_in codes.now) (image_transforms transforms.now)
         (parts_of layout.now) tokens.now v.items) }
 {
     let mut sections = empty_sections(alloc, layout)?;
@@ -157,7 +152,7 @@ fn written(
         alloc,
         nodes,
         codes,
-        transform,
+        transforms,
         &tokens.global,
         copies_at(copies, 0),
     )?;
@@ -239,7 +234,7 @@ fn both_ways(
     tree: &FrameTree<'_>,
     layout: &Layout,
     many: u32,
-    transform: Option<ImageTransform>,
+    transforms: &[ImageTransform],
     tokens: &FrameTokens,
     search: Option<CopySearch>,
 ) -> Result<BothWays, OutOfMemory>
@@ -248,20 +243,21 @@ fn both_ways(
     requires contexts { length tree.now.clusters.now ≡ leaves_in tree.now.nodes.now }
     requires few { many ≤ 256 }
     requires used { count_of tree.now.clusters.now ≡ Ok many }
-    requires spelled { IfSome transform (λ t. IsSpelled (transform_listed t)) }
+    requires transforms { length transforms.now ≤ 273 }
+    requires spelled { All IsSpelled (image_transforms transforms.now) }
     requires first { All (λ t. t.cluster < many) tokens.now.global.items }
     requires tokens { All (λ p. All (λ t. t.cluster < many) p.tokens.items) tokens.now.groups.items }
     requires numbers { All (λ p. HasNumber (parts_of layout.now) p.part) tokens.now.groups.items }
     requires others { All (λ p. p.part ≢ parts.Global) tokens.now.groups.items }
-    ensures plain { IfOk result (λ b. AreByTokens tree.now.nodes.now tree.now.clusters.now (image_transforms transform)
+    ensures plain { IfOk result (λ b. AreByTokens tree.now.nodes.now tree.now.clusters.now (image_transforms transforms.now)
         (parts_of layout.now) tokens.now b.plain.items) }
     ensures copied { IfOk result (λ b. IfSome b.copied (λ v. AreByTokens tree.now.nodes.now tree.now.clusters.now
-        (image_transforms transform) (parts_of layout.now) tokens.now v.items)) }
+        (image_transforms transforms.now) (parts_of layout.now) tokens.now v.items)) }
 {
     let codes = codes_for(alloc, tree.clusters, many, &tokens.global, &tokens.groups)?;
     let with_copies = copying_for(alloc, &codes, &tokens.global, &tokens.groups, search)?;
     let codes = AnyWriter::Plain(codes);
-    let plain = written(alloc, layout, tree.nodes, &codes, transform, tokens, &[])?;
+    let plain = written(alloc, layout, tree.nodes, &codes, transforms, tokens, &[])?;
     let Some(copying) = with_copies else {
         return Ok(BothWays {
             plain,
@@ -273,7 +269,7 @@ fn both_ways(
         layout,
         tree.nodes,
         &copying.codes,
-        transform,
+        transforms,
         tokens,
         &copying.copies,
     )?;
@@ -297,7 +293,7 @@ fn shorter_sections<S: Sample>(
     image: &CutImage<'_, S>,
     tree: &FrameTree<'_>,
     many: u32,
-    transform: Option<ImageTransform>,
+    transforms: &[ImageTransform],
     tokens: &FrameTokens,
     search: Option<CopySearch>,
 ) -> Result<Vec<Vec<u8>>, OutOfMemory>
@@ -309,7 +305,8 @@ fn shorter_sections<S: Sample>(
     requires contexts { length tree.now.clusters.now ≡ leaves_in tree.now.nodes.now }
     requires few { many ≤ 256 }
     requires used { count_of tree.now.clusters.now ≡ Ok many }
-    requires spelled { IfSome transform (λ t. IsSpelled (transform_listed t)) }
+    requires transforms { length transforms.now ≤ 273 }
+    requires spelled { All IsSpelled (image_transforms transforms.now) }
     requires first { All (λ t. t.cluster < many) tokens.now.global.items }
     requires tokens { All (λ p. All (λ t. t.cluster < many) p.tokens.items) tokens.now.groups.items }
     requires numbers { All (λ p. HasNumber (parts_of image.now.layout.now) p.part) tokens.now.groups.items }
@@ -318,10 +315,10 @@ fn shorter_sections<S: Sample>(
       list = list_of image.now.coded.now.channels;
       samples = samples_in S.to_int image.now.coded.now.channels image.now.coded.now.store.items;
     })
-        (parts_of image.now.layout.now) tree.now.nodes.now tree.now.clusters.now (image_transforms transform) tokens.now
+        (parts_of image.now.layout.now) tree.now.nodes.now tree.now.clusters.now (image_transforms transforms.now) tokens.now
         v.items) }
 {
-    let ways = both_ways(alloc, tree, image.layout, many, transform, tokens, search)?;
+    let ways = both_ways(alloc, tree, image.layout, many, transforms, tokens, search)?;
     let BothWays { plain, copied } = ways;
     let Some(copied) = copied else {
         let own = with_own(alloc, plain, image, tree, None)?;
@@ -332,18 +329,18 @@ fn shorter_sections<S: Sample>(
     Ok(shorter_of(own, other))
 }
 
-/// The sections of a frame of one pass by a coded image, made by this transform, if there was one. A group has a tree of its
-/// own, and tokens are copied, where sections are shorter by it.
+/// The sections of a frame of one pass by a coded image. A group has a tree of its own, and tokens are copied, where sections
+/// are shorter by it.
 fn sections_of_coded<S: Sample>(
     alloc: Global,
     given: &[ModularChannelParams],
     coded: &CodedImage<S>,
-    transform: Option<ImageTransform>,
     tree: &FrameTree<'_>,
     cut: &FrameCut<'_>,
 ) -> Result<Vec<Vec<u8>>, EncodeError>
     requires lie { LieCoded coded.now.channels coded.now.store.items }
-    requires spelled { IfSome transform (λ t. IsSpelled (transform_listed t)) }
+    requires transforms { length coded.now.transforms.items ≤ 273 }
+    requires spelled { All IsSpelled (image_transforms coded.now.transforms.items) }
     requires group_dim { IsGroupDim cut.now.group_dim }
     requires single { (parts_of cut.now.layout.now).passes ≡ 1 }
     requires there { (part : APart) → part ≢ parts.Global
@@ -352,7 +349,7 @@ fn sections_of_coded<S: Sample>(
     requires nodes { tree.now.limits.node_limit < 2 ^ 26 }
     requires depth { tree.now.limits.depth_limit ≤ 2048 }
     ensures ok { IfOk result (λ v. IsFrameOfCoded S.width cut.now.group_dim tree.now.limits tree.now.nodes.now
-        tree.now.clusters.now (image_transforms transform) (record {
+        tree.now.clusters.now (image_transforms coded.now.transforms.items) (record {
           list = list_of coded.now.channels;
           samples = samples_in S.to_int coded.now.channels coded.now.store.items;
         })
@@ -371,11 +368,19 @@ fn sections_of_coded<S: Sample>(
     };
     let tokens = frame_tokens(alloc, &image)?;
     let search = search_in(given, tree.copies, cut.group_dim);
-    let sections = shorter_sections(alloc, &image, tree, many, transform, &tokens, search)?;
+    let sections = shorter_sections(
+        alloc,
+        &image,
+        tree,
+        many,
+        &coded.transforms,
+        &tokens,
+        search,
+    )?;
     Ok(sections)
 }
 
-/// The sections of a frame of one pass with these channels, all of one size, by a colour transform, if there is one.
+/// The sections of a frame of one pass with these channels, all of one size, by the transforms of a plan that suit them.
 /// They have the grids, whatever else is in the file. A group has a tree of its own, and tokens are copied, where sections are
 /// shorter by it.
 ///
@@ -387,52 +392,13 @@ pub fn encode_sections<S: Sample>(
     alloc: Global,
     given: &[ModularChannelParams],
     grids: Vec<AlignedGrid<S>>,
-    colour: Option<Rct>,
+    plan: &ImagePlan<'_>,
     tree: &FrameTree<'_>,
     cut: &FrameCut<'_>,
 ) -> Result<Vec<Vec<u8>>, EncodeError>
     requires valid { All IsValidChannel given.now }
     requires few { length given.now ≤ 65536 }
     requires sides { AreGridsOf (image_list given.now).channels grids.items }
-    requires spelled { IfSome colour (λ t. IsRct t) }
-    requires suits { IfSome colour (λ t. list_after (RctStep t) (image_list given.now) ≡ Ok (image_list given.now)) }
-    requires group_dim { IsGroupDim cut.now.group_dim }
-    requires layout { (size : Size) × All (IsOfSize size) given.now
-        × (parts_of cut.now.layout.now ≡ layout_of size cut.now.group_dim 1) }
-    requires cells { IsTrue (can_cut cut.now.group_dim (image_list given.now)) }
-    requires nodes { tree.now.limits.node_limit < 2 ^ 26 }
-    requires depth { tree.now.limits.depth_limit ≤ 2048 }
-    ensures ok { IfOk result (λ v. AreFrameSections S.width (image_list given.now) (parts_of cut.now.layout.now)
-        cut.now.group_dim tree.now.limits.node_limit tree.now.limits.depth_limit (map (λ s. s.items) v.items)
-        (store_meanings S.to_int grids.items)) }
-    ensures err { IfErr result (λ e. IsNoTree tree.now.nodes.now tree.now.clusters.now tree.now.limits e) }
-{
-    let coded = code_image(alloc, given, colour, grids)?;
-    let transform = colour_transform(colour);
-    let sections = sections_of_coded(alloc, given, &coded, transform, tree, cut)?;
-    Ok(sections)
-}
-
-/// The sections of a frame of one pass with these channels, all of one size, by a palette of channels of them, with its
-/// table and its indices. They have the grids, as those of `encode_sections`.
-///
-/// # Errors
-///
-/// As of `encode_sections`.
-pub fn encode_sections_by_palette<S: Sample>(
-    alloc: Global,
-    given: &[ModularChannelParams],
-    grids: Vec<AlignedGrid<S>>,
-    coding: PaletteGrids<S>,
-    tree: &FrameTree<'_>,
-    cut: &FrameCut<'_>,
-) -> Result<Vec<Vec<u8>>, EncodeError>
-    requires valid { All IsValidChannel given.now }
-    requires few { length given.now < 65536 }
-    requires sides { AreGridsOf (image_list given.now).channels grids.items }
-    requires begin { coding.palette.begin_c ≤ 9287 }
-    requires made { IsPaletteFor S.to_int S.width coding.palette.begin_c
-        (range coding.palette.begin_c coding.palette.num_c grids.items) coding.palette coding.table coding.index }
     requires group_dim { IsGroupDim cut.now.group_dim }
     requires layout { (size : Size) × All (IsOfSize size) given.now
         × (parts_of cut.now.layout.now ≡ layout_of size cut.now.group_dim 1) }
@@ -444,9 +410,7 @@ pub fn encode_sections_by_palette<S: Sample>(
         (store_meanings S.to_int grids.items)) }
     ensures err { IfErr result (λ e. IsNoTree tree.now.nodes.now tree.now.clusters.now tree.now.limits e) }
 {
-    let palette = coding.palette;
-    let coded = code_by_palette(alloc, given, coding, grids)?;
-    let transform = Some(ImageTransform::Palette(palette));
-    let sections = sections_of_coded(alloc, given, &coded, transform, tree, cut)?;
+    let coded = code_image(alloc, given, plan, grids)?;
+    let sections = sections_of_coded(alloc, given, &coded, tree, cut)?;
     Ok(sections)
 }

@@ -1,13 +1,12 @@
 //! The bytes of one section.
 
-ghost use Rattle.std.specs.Prelude.{◌≡◌, ◌≤◌, ◌^◌, ℕ, true, None, length, IfOk};
+ghost use Rattle.std.specs.Prelude.{◌≡◌, ◌≤◌, ◌^◌, ℕ, [], length, true, IfOk};
 ghost use Rattle.std.specs.List.{All};
-ghost use Rattle.std.specs.Option.{IfSome};
 ghost use Rattle.jxlm_bit_writer.specs.Writes.{Adds};
 ghost use Rattle.jxlm_encode_write.specs.Nodes.{has_token};
 ghost use Rattle.jxlm_encode_write.specs.Trees.{leaves_in};
 ghost use Rattle.jxl_coding_build.specs.AnyWriters.{HasHead, HaveSlots, codes_in};
-ghost use Rattle.jxl_encode_image.specs.Preparations.{IsSpelled, image_transforms, transform_listed};
+ghost use Rattle.jxl_encode_image.specs.Preparations.{IsSpelled, image_transforms};
 ghost use Rattle.jxl_encode_sections.specs.Sections.{AreBehindHeader, IsFirstSection, IsOwnSection};
 
 use jxl_codestream_write::start::write_section_start;
@@ -22,21 +21,22 @@ use jxlm_bit_writer::writer::BitWriter;
 use jxlm_encode_write::tree::EncodeNode;
 use std::alloc::{AllocError, Global};
 
-/// Adds the header of a part, with this transform, if there is one, and the samples of the part by their tokens.
+/// Adds the header of a part, with these transforms, and the samples of the part by their tokens.
 fn write_part(
     alloc: Global,
     bits: &mut BitWriter,
     codes: &AnyWriter,
-    transform: Option<ImageTransform>,
+    transforms: &[ImageTransform],
     tokens: &[Token],
     copies: &[TokenCopy],
 ) -> Result<(), AllocError>
-    requires spelled { IfSome transform (λ t. IsSpelled (transform_listed t)) }
+    requires transforms { length transforms.now ≤ 273 }
+    requires spelled { All IsSpelled (image_transforms transforms.now) }
     requires slots { HaveSlots codes.now tokens.now }
     ensures { IfOk result (λ _. Adds bits.old bits.new
-        (AreBehindHeader (codes_in codes.now) (image_transforms transform) tokens.now)) }
+        (AreBehindHeader (codes_in codes.now) (image_transforms transforms.now) tokens.now)) }
 {
-    write_shared_header(bits, transform)?;
+    write_shared_header(bits, transforms)?;
     write_samples(alloc, bits, codes, tokens, copies)?;
     Ok(())
 }
@@ -50,21 +50,21 @@ pub(crate) fn group_section(
 ) -> Result<Vec<u8>, AllocError>
     requires slots { HaveSlots codes.now tokens.now }
     ensures { IfOk result (λ v. (end : ℕ)
-        × AreBehindHeader (codes_in codes.now) (image_transforms None) tokens.now v.items 0 end) }
+        × AreBehindHeader (codes_in codes.now) (image_transforms []) tokens.now v.items 0 end) }
 {
     let mut bits = BitWriter::new(alloc);
-    write_part(alloc, &mut bits, codes, None, tokens, copies)?;
+    write_part(alloc, &mut bits, codes, &[], tokens, copies)?;
     let bytes = bits.into_bytes()?;
     Ok(bytes)
 }
 
 /// The first section of a frame: the default factors, the tree that all sections share, the header of the image with
-/// this transform, if there is one, and the samples of the global part by their tokens.
+/// these transforms, and the samples of the global part by their tokens.
 pub(crate) fn first_section(
     alloc: Global,
     nodes: &[EncodeNode],
     codes: &AnyWriter,
-    transform: Option<ImageTransform>,
+    transforms: &[ImageTransform],
     tokens: &[Token],
     copies: &[TokenCopy],
 ) -> Result<Vec<u8>, AllocError>
@@ -72,15 +72,16 @@ pub(crate) fn first_section(
     requires few { length nodes.now ≤ 2 ^ 26 }
     requires head { HasHead codes.now }
     requires contexts { length (codes_in codes.now).clusters ≡ leaves_in nodes.now }
-    requires spelled { IfSome transform (λ t. IsSpelled (transform_listed t)) }
+    requires transforms { length transforms.now ≤ 273 }
+    requires spelled { All IsSpelled (image_transforms transforms.now) }
     requires slots { HaveSlots codes.now tokens.now }
-    ensures { IfOk result (λ v. (end : ℕ) × IsFirstSection nodes.now (codes_in codes.now) (image_transforms transform)
+    ensures { IfOk result (λ v. (end : ℕ) × IsFirstSection nodes.now (codes_in codes.now) (image_transforms transforms.now)
         tokens.now v.items 0 end) }
 {
     let mut bits = BitWriter::new(alloc);
     write_section_start(&mut bits, true)?;
     write_tree(alloc, &mut bits, nodes, codes)?;
-    write_part(alloc, &mut bits, codes, transform, tokens, copies)?;
+    write_part(alloc, &mut bits, codes, transforms, tokens, copies)?;
     let bytes = bits.into_bytes()?;
     Ok(bytes)
 }

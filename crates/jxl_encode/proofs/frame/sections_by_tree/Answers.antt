@@ -9,7 +9,7 @@ use Rattle.jxl_image_header.specs.Images.{image_of}
 use Rattle.jxl_picture.specs.Pictures.{IsWhole}
 use Rattle.jxl_encode.specs.Inner.Frames.{AreSectionsOf}
 use Rattle.jxl_encode.proofs.Given.{few_extra, grids_of}
-use Rattle.jxl_encode.proofs.Cells.{cells_of}
+use Rattle.jxl_encode.proofs.Cells.{each_has_cells}
 use Rattle.jxl_encode.proofs.Codings.{if_ok, sections_of}
 use Rattle.jxl_encode.proofs.frame.sections_by_tree.Goals as goal
 
@@ -26,7 +26,7 @@ pub encode_sections-requires-clause-group_dim : goal.encode_sections-requires-cl
 encode_sections-requires-clause-group_dim c = λ l. powers_are_group_dims 8 (omega arith) (omega arith)
 
 pub encode_sections-requires-clause-cells : goal.encode_sections-requires-clause-cells
-encode_sections-requires-clause-cells c = λ l. cells_of (image_of c.args.input.now.picture.now.header) c.args.input.now.given.now c.requires.codable.supported c.requires.given
+encode_sections-requires-clause-cells c = λ l. each_has_cells (image_of c.args.input.now.picture.now.header) c.args.input.now.given.now c.requires.codable.supported c.requires.given
 
 pub returns-clause-ok : goal.returns-clause-ok
 returns-clause-ok c =

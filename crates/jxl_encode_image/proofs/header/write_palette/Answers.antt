@@ -1,4 +1,4 @@
-use Rattle.std.proofs.Common.{◌<◌, ◌^◌, refl, arith}
+use Rattle.std.proofs.Common.{refl, arith}
 use Rattle.std.proofs.lemmas.Option.{slice_get_within}
 use Rattle.jxlm_predictor.specs.Predictions.{predictors}
 use Rattle.jxlm_encode_write.proofs.Spelled.{begin_spelled}

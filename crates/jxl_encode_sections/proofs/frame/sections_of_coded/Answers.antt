@@ -1,8 +1,12 @@
-use Rattle.std.proofs.Common.{sym, arith}
+use Rattle.std.proofs.Common.{◌≤◌, List, length, subst, sym, arith}
+use Rattle.std.specs.List.{All}
 use Rattle.jxlm_encode.proofs.Listings.{clustered_counted}
 use Rattle.jxlm_transform.specs.Lists.{list_of}
 use Rattle.jxl_codestream.specs.LayoutParts.{parts_of}
 use Rattle.jxl_encode_image.specs.Images.{samples_in}
+use Rattle.jxl_encode_image.specs.Preparations.{IsSpelled, image_transforms}
+use Rattle.jxl_encode_image.specs.declared.transform.ImageTransform.{ImageTransform}
+use Rattle.jxl_encode_sections.specs.Inner.Frames.{IsFrameBy}
 use Rattle.jxl_encode_sections.specs.Inner.Parts.{CodedSamples}
 use Rattle.jxl_encode_sections.proofs.EncodedFrames.{global_below, groups_below, numbers, others}
 use Rattle.jxl_encode_sections.proofs.frame.sections_of_coded.Goals as goal
@@ -37,11 +41,19 @@ shorter_sections-requires-clause-others g c κs within =
     let coded : CodedSamples = record { list = list_of c.args.coded.now.channels; samples = samples_in g.S.Sealed.to_int c.args.coded.now.channels c.args.coded.now.store.items } in
     others g.S.Sealed.width c.args.cut.now.group_dim coded c.in_ok-config.config.tree (parts_of c.args.cut.now.layout.now) c.in_ok-tokens.tokens c.in_ok-tokens.ensures
 
+pub shorter_sections-requires-clause-transforms : goal.shorter_sections-requires-clause-transforms
+shorter_sections-requires-clause-transforms g c κs within = subst (λ (ts : List ImageTransform). length ts ≤ 273) (sym c.deref.ensures.value) c.requires.transforms
+
+pub shorter_sections-requires-clause-spelled : goal.shorter_sections-requires-clause-spelled
+shorter_sections-requires-clause-spelled g c κs within = subst (λ (ts : List ImageTransform). All IsSpelled (image_transforms ts)) (sym c.deref.ensures.value) c.requires.spelled
+
 pub returns-clause-ok : goal.returns-clause-ok
 returns-clause-ok g c = record {
   tree = c.in_ok-config.config.tree;
   is_tree = c.in_ok-config.ensures.ok;
   tokens = c.in_ok-tokens.tokens;
   are = c.in_ok-tokens.ensures;
-  by = c.in_ok-sections.ensures;
+  by = subst (λ (ts : List ImageTransform). IsFrameBy g.S.Sealed.width c.args.cut.now.group_dim c.args.tree.now.limits.depth_limit
+      (record { list = list_of c.args.coded.now.channels; samples = samples_in g.S.Sealed.to_int c.args.coded.now.channels c.args.coded.now.store.items })
+      (parts_of c.args.cut.now.layout.now) c.args.tree.now.nodes.now c.args.tree.now.clusters.now (image_transforms ts) c.in_ok-tokens.tokens c.in_ok-sections.sections.items) c.deref.ensures.value c.in_ok-sections.ensures;
 }

@@ -19,7 +19,7 @@ pub with_own-requires-3-clause-count : goal.with_own-requires-3-clause-count
 with_own-requires-3-clause-count g c κs within =
     let image = c.args.image.now in
     let tree = c.args.tree.now in
-    let by = subst (λ (o : Option (Vec (Vec ℕ))). IfSome o (λ v. AreByTokens tree.nodes.now tree.clusters.now (image_transforms c.args.transform) (parts_of image.layout.now) c.args.tokens.now v.items)) c.in-Some.is c.in_ok-ways.ensures.copied in
+    let by = subst (λ (o : Option (Vec (Vec ℕ))). IfSome o (λ v. AreByTokens tree.nodes.now tree.clusters.now (image_transforms c.args.transforms.now) (parts_of image.layout.now) c.args.tokens.now v.items)) c.in-Some.is c.in_ok-ways.ensures.copied in
     by.2.count
 
 pub returns-in_default : goal.returns-in_default
@@ -36,17 +36,17 @@ returns g c =
     let tree = c.args.tree.now in
     let coded : CodedSamples = record { list = list_of image.coded.now.channels; samples = samples_in g.S.Sealed.to_int image.coded.now.channels image.coded.now.store.items } in
     let l = parts_of image.layout.now in
-    let by = subst (λ (o : Option (Vec (Vec ℕ))). IfSome o (λ v. AreByTokens tree.nodes.now tree.clusters.now (image_transforms c.args.transform) l c.args.tokens.now v.items)) c.in-Some.is c.in_ok-ways.ensures.copied in
+    let by = subst (λ (o : Option (Vec (Vec ℕ))). IfSome o (λ v. AreByTokens tree.nodes.now tree.clusters.now (image_transforms c.args.transforms.now) l c.args.tokens.now v.items)) c.in-Some.is c.in_ok-ways.ensures.copied in
     elim (c.shorter_of.ensures) [
       | inl e ↦
-          subst (λ (v : Vec (Vec ℕ)). IsFrameBy g.S.Sealed.width image.group_dim tree.limits.depth_limit coded l tree.nodes.now tree.clusters.now (image_transforms c.args.transform) c.args.tokens.now v.items) (sym e) (record {
+          subst (λ (v : Vec (Vec ℕ)). IsFrameBy g.S.Sealed.width image.group_dim tree.limits.depth_limit coded l tree.nodes.now tree.clusters.now (image_transforms c.args.transforms.now) c.args.tokens.now v.items) (sym e) (record {
             before = c.in_ok-ways.ways.plain.items;
             by_tokens = c.in_ok-ways.ensures.plain;
             count = c.in_ok-own-2.ensures.count;
             own = c.in_ok-own-2.ensures.own;
           })
       | inr e ↦
-          subst (λ (v : Vec (Vec ℕ)). IsFrameBy g.S.Sealed.width image.group_dim tree.limits.depth_limit coded l tree.nodes.now tree.clusters.now (image_transforms c.args.transform) c.args.tokens.now v.items) (sym e) (record {
+          subst (λ (v : Vec (Vec ℕ)). IsFrameBy g.S.Sealed.width image.group_dim tree.limits.depth_limit coded l tree.nodes.now tree.clusters.now (image_transforms c.args.transforms.now) c.args.tokens.now v.items) (sym e) (record {
             before = c.in-Some.copied.items;
             by_tokens = by;
             count = c.in_ok-other.ensures.count;

@@ -29,6 +29,6 @@ returns c =
       first = c.in_ok-first.first.items;
       first_is = global_is_first l final c.in_ok-first.first.items _ found;
       end = c.in_ok-first.ensures.0;
-      is_first = subst (λ (ts : List Token). IsFirstSection c.args.nodes.now (codes_in c.args.codes.now) (image_transforms c.args.transform) ts c.in_ok-first.first.items 0 c.in_ok-first.ensures.0) c.deref.ensures.value c.in_ok-first.ensures.1;
+      is_first = subst (λ (ts : List Token). IsFirstSection c.args.nodes.now (codes_in c.args.codes.now) (image_transforms c.args.transforms.now) ts c.in_ok-first.first.items 0 c.in_ok-first.ensures.0) c.deref.ensures.value c.in_ok-first.ensures.1;
       groups = subst (λ (gs : List PartTokens). All (λ (p : PartTokens). HasSection (codes_in c.args.codes.now) l gs final p.part) gs) c.deref-2.ensures.value c.in_ok-put_groups.ensures.found;
     }
