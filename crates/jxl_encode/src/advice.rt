@@ -9,7 +9,9 @@ use jxl_encode_colours::shades::scheme_by_colours;
 use jxl_encode_learn::axis::Axis;
 use jxl_encode_image::transform::PalettePlan;
 use jxl_encode_learn::scheme::Scheme;
+use jxl_encode_properties::broad::scheme_by_all;
 use jxl_encode_properties::learn::scheme_by_errors;
+use jxl_encode_properties::neighbours::scheme_by_neighbours;
 use jxl_image_header::channel::BitDepth;
 use jxl_picture::picture::{Picture, is_grey};
 use jxlm_base::grid::{AlignedGrid, OutOfMemory};
@@ -285,18 +287,23 @@ fn learnt(
     by_slopes(alloc, picture, effort, colours, best)
 }
 
-/// The cheapest way to code a picture by the errors of the weighted predictor and one of these colour transforms; none, if
-/// there is none of them.
-fn by_errors(
+/// The cheapest way to code a picture by a tree that is learnt from its samples one by one, and one of these colour
+/// transforms; none, if there is none of them. At the greatest effort the tree is on the errors of the weighted predictor,
+/// at others on neighbours alone, so that decoding takes less time.
+fn by_samples(
     alloc: Global,
     picture: Samples<'_>,
-    care: Care,
+    effort: Effort,
     colours: &[Option<u32>],
 ) -> Result<Option<Way>, OutOfMemory> {
     let shift = picture.depth.bits_per_sample.saturating_sub(8);
+    let care = care_of(Effort::Usual).1;
     let mut best = None;
     for colour in colours {
-        let scheme = scheme_by_errors(alloc, picture.channels, *colour, shift, care)?;
+        let scheme = match effort {
+            Effort::Best => scheme_by_errors(alloc, picture.channels, *colour, shift, care)?,
+            _ => scheme_by_neighbours(alloc, picture.channels, *colour, shift, care)?,
+        };
         best = cheaper(
             best,
             Way {
@@ -309,8 +316,23 @@ fn by_errors(
     Ok(best)
 }
 
-/// The colour transforms that are tried with the errors of the weighted predictor, where these are with slopes.
-fn colours_by_errors(effort: Effort, colours: &[Option<u32>]) -> &[Option<u32>] {
+/// The way to code a picture by all properties and predictors, after this colour transform or without one.
+fn by_all(
+    alloc: Global,
+    picture: Samples<'_>,
+    care: Care,
+    colour: Option<u32>,
+) -> Result<Way, OutOfMemory> {
+    let scheme = scheme_by_all(alloc, picture.channels, colour, care)?;
+    Ok(Way {
+        scheme,
+        colour,
+        own: false,
+    })
+}
+
+/// The colour transforms that are tried with trees learnt from samples one by one, where these are with slopes.
+fn colours_by_samples(effort: Effort, colours: &[Option<u32>]) -> &[Option<u32>] {
     match effort {
         Effort::Fast => &[],
         Effort::Usual if colours.len() > 1 => &[Some(LUMA)],
@@ -361,7 +383,8 @@ fn or_by_values(
     }
 }
 
-/// Adds the ways of one effort: the cheapest by values, colours or slopes, and that by the errors of the weighted predictor.
+/// Adds the ways of one effort: the cheapest by values, colours or slopes, that by the errors of the weighted predictor,
+/// and at the greatest that by all properties and predictors.
 pub(crate) fn add_ways_of(
     alloc: Global,
     list: &mut Vec<Advice>,
@@ -374,8 +397,18 @@ pub(crate) fn add_ways_of(
     if picture.depth.exp_bits != 0 {
         return Ok(());
     }
-    let tried = colours_by_errors(effort, colours);
-    add_way(alloc, list, by_errors(alloc, picture, care_of(effort).1, tried)?)
+    let tried = colours_by_samples(effort, colours);
+    let way = by_samples(alloc, picture, effort, tried)?;
+    if matches!(effort, Effort::Best) {
+        let colour = match &way {
+            Some(way) => way.colour,
+            None => None,
+        };
+        let care = care_of(effort).1;
+        let broad = by_all(alloc, picture, care, colour)?;
+        add_way(alloc, list, Some(broad))?;
+    }
+    add_way(alloc, list, way)
 }
 
 /// The efforts of which the ways are tried: at the greatest those of all, and where samples repeat also those of a lower one,

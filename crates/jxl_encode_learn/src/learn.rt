@@ -3,14 +3,20 @@
 use crate::axis::Axis;
 use crate::costs::{BIT, Bits, Prices};
 use crate::counted::Counted;
-use crate::counts::{clear, zeros};
+use crate::counts::{MAX_COUNTS, clear, zeros};
 use crate::symbols::SYMBOLS;
 use jxlm_base::grid::OutOfMemory;
 use jxlm_predictor::predictor::Predictor;
 use std::alloc::Global;
 
-/// The most nodes of a tree, without the last two.
-const MAX_NODES: usize = 509;
+/// How much of a tree is searched.
+#[derive(Clone, Copy)]
+pub struct Bounds {
+    /// The most nodes of a tree, without the last two.
+    pub nodes: usize,
+    /// By how many predictors a cut is tried: the cheapest of them, of which each side may have another.
+    pub predictors: usize,
+}
 
 /// Classes that a node does not tell apart, one behind another, and their predictor.
 #[derive(Clone, Copy)]
@@ -44,6 +50,7 @@ pub(crate) enum Learnt {
 pub(crate) struct Learner<'a, C> {
     table: &'a C,
     prices: Prices,
+    bounds: Bounds,
     classes: Vec<usize>,
     bits: Bits,
     // The counts of a span, of the classes at each place of an axis, of those up to a cut, and of those behind it.
@@ -53,6 +60,13 @@ pub(crate) struct Learner<'a, C> {
     above: Vec<u32>,
     // The number of symbols up to the greatest of the span.
     symbols: usize,
+    // What the span costs by each predictor.
+    costs: Vec<u64>,
+    // What the samples on both sides of each cut cost, by the cheapest of the predictors that are tried.
+    lower: Vec<u64>,
+    upper: Vec<u64>,
+    // How far apart the cuts of two axes are.
+    stride: usize,
 }
 
 /// The most classes on an axis.
@@ -104,6 +118,13 @@ fn symbols_in(counts: &[u32]) -> usize {
     symbols
 }
 
+/// Sets all costs to the greatest.
+fn forget(costs: &mut [u64]) {
+    for cost in costs.iter_mut() {
+        *cost = u64::MAX;
+    }
+}
+
 /// The classes of a span.
 fn classes_of(classes: &[usize], span: Span) -> &[usize] {
     if span.start <= span.end && span.end <= classes.len() {
@@ -127,18 +148,26 @@ impl<C: Counted> Learner<'_, C> {
         alloc: Global,
         table: &'a C,
         prices: Prices,
+        bounds: Bounds,
     ) -> Result<Learner<'a, C>, OutOfMemory> {
         let classes = table.occurring(alloc)?;
+        let stride = widest(table.axes());
+        let cuts = table.axes().len().saturating_mul(stride).min(MAX_COUNTS);
         Ok(Learner {
             table,
             prices,
+            bounds,
             bits: Bits::new(alloc)?,
             classes,
             whole: zeros(alloc, 1)?,
-            places: zeros(alloc, widest(table.axes()))?,
+            places: zeros(alloc, stride)?,
             below: zeros(alloc, 1)?,
             above: zeros(alloc, 1)?,
             symbols: 0,
+            costs: vec![in alloc; 0; table.kinds().min(MAX_COUNTS)]?,
+            lower: vec![in alloc; 0; cuts]?,
+            upper: vec![in alloc; 0; cuts]?,
+            stride,
         })
     }
 
@@ -167,15 +196,6 @@ impl<C: Counted> Learner<'_, C> {
     fn cost(&self) -> u64 {
         self.bits
             .cost(self.prices, piece(&self.whole, 0, self.symbols))
-    }
-
-    /// What the samples cost on both sides of a cut.
-    fn cut_cost(&self) -> u64 {
-        let above = piece(&self.above, 0, self.symbols);
-        let below = piece(&self.below, 0, self.symbols);
-        self.bits
-            .cost(self.prices, below)
-            .saturating_add(self.bits.cost(self.prices, above))
     }
 
     /// The predictor of a leaf.
@@ -208,24 +228,99 @@ impl<C: Counted> Learner<'_, C> {
     }
 
     /// Counts the samples of a span at each place of an axis.
-    fn count_places(&mut self, span: Span, axis: usize) {
+    fn count_places(&mut self, span: Span, kind: usize, axis: usize) {
         clear(&mut self.places);
         clear(&mut self.below);
         copy_counts(&mut self.above, &self.whole);
         let classes = classes_of(&self.classes, span);
-        self.table
-            .add_places(&mut self.places, classes, span.kind, axis);
+        self.table.add_places(&mut self.places, classes, kind, axis);
     }
 
-    /// The cheaper of this cut and the best on an axis. The samples of the span are counted.
-    fn best_on(&mut self, span: Span, axis: usize, size: usize, best: Option<Cut>) -> Option<Cut> {
-        self.count_places(span, axis);
-        let mut best = best;
-        for place in 0..size.saturating_sub(1) {
+    /// What the samples on both sides of the cut of this number cost, if that is less than by the predictors before.
+    fn put_costs(&mut self, cut: usize) {
+        let below = piece(&self.below, 0, self.symbols);
+        let above = piece(&self.above, 0, self.symbols);
+        let lower = self.bits.cost(self.prices, below);
+        let upper = self.bits.cost(self.prices, above);
+        if let Some(cost) = self.lower.get_mut(cut) {
+            *cost = lower.min(*cost);
+        }
+        if let Some(cost) = self.upper.get_mut(cut) {
+            *cost = upper.min(*cost);
+        }
+    }
+
+    /// What the samples on both sides of each cut on an axis cost by a predictor, by which they are counted.
+    fn put_axis(&mut self, span: Span, kind: usize, axis: usize) {
+        self.count_places(span, kind, axis);
+        let first = axis.wrapping_mul(self.stride);
+        for place in 0..self.size(axis).saturating_sub(1) {
             let from = place.wrapping_mul(SYMBOLS);
             let counts = piece(&self.places, from, self.symbols);
             if move_counts(&mut self.above, &mut self.below, counts) {
-                let cost = self.cut_cost();
+                self.put_costs(first.wrapping_add(place));
+            }
+        }
+    }
+
+    /// What the samples on both sides of each cut cost by a predictor.
+    fn put_all(&mut self, span: Span, kind: usize) {
+        self.count(span, kind);
+        for axis in 0..self.table.axes().len() {
+            self.put_axis(span, kind, axis);
+        }
+    }
+
+    /// What the samples of a span cost by each predictor.
+    fn put_kinds(&mut self, span: Span) {
+        for kind in 0..self.table.kinds() {
+            self.count(span, kind);
+            let own = self.cost();
+            if let Some(cost) = self.costs.get_mut(kind) {
+                *cost = own;
+            }
+        }
+    }
+
+    /// The cheapest predictor of the span, which it is not again.
+    fn next_kind(&mut self) -> usize {
+        let mut best: usize = 0;
+        let mut least = u64::MAX;
+        for kind in 0..self.costs.len() {
+            if self.costs[kind] < least {
+                least = self.costs[kind];
+                best = kind;
+            }
+        }
+        if let Some(cost) = self.costs.get_mut(best) {
+            *cost = u64::MAX;
+        }
+        best
+    }
+
+    /// What the samples on both sides of each cut cost by the predictors that are tried.
+    fn put_tried(&mut self, span: Span) {
+        if self.bounds.predictors < 2 {
+            self.put_all(span, span.kind);
+            return;
+        }
+        self.put_kinds(span);
+        for _ in 0..self.bounds.predictors.min(self.table.kinds()) {
+            let kind = self.next_kind();
+            self.put_all(span, kind);
+        }
+    }
+
+    /// The cheaper of this cut and the best on an axis.
+    fn best_on(&self, axis: usize, best: Option<Cut>) -> Option<Cut> {
+        let first = axis.wrapping_mul(self.stride);
+        let mut best = best;
+        for place in 0..self.size(axis).saturating_sub(1) {
+            let at = first.wrapping_add(place);
+            let lower = self.lower.get(at).copied().unwrap_or(u64::MAX);
+            if lower < u64::MAX {
+                let upper = self.upper.get(at).copied().unwrap_or(u64::MAX);
+                let cost = lower.saturating_add(upper);
                 best = cheaper(best, Cut { axis, place, cost });
             }
         }
@@ -234,11 +329,12 @@ impl<C: Counted> Learner<'_, C> {
 
     /// The best cut of a span.
     fn best_cut(&mut self, span: Span) -> Option<Cut> {
-        self.count(span, span.kind);
+        forget(&mut self.lower);
+        forget(&mut self.upper);
+        self.put_tried(span);
         let mut best = None;
         for axis in 0..self.table.axes().len() {
-            let size = self.size(axis);
-            best = self.best_on(span, axis, size, best);
+            best = self.best_on(axis, best);
         }
         best
     }
@@ -294,7 +390,7 @@ impl<C: Counted> Learner<'_, C> {
 
     /// Learns one node more; its children are to be learnt later.
     fn grow(&mut self, spans: &mut Vec<Span>, span: Span) -> Result<Learnt, OutOfMemory> {
-        if spans.len() > MAX_NODES {
+        if spans.len() > self.bounds.nodes {
             return Ok(Learnt::Leaf(span));
         }
         let Some(cut) = self.worth(span) else {
@@ -315,7 +411,7 @@ impl<C: Counted> Learner<'_, C> {
         let end = self.classes.len();
         let all = self.span(0, end);
         spans.push(all)?;
-        for at in 0..MAX_NODES + 3 {
+        for at in 0..self.bounds.nodes.saturating_add(3) {
             let span = match spans.get(at) {
                 Some(span) => *span,
                 None => break,

@@ -4,6 +4,7 @@ use crate::clusters::Clusters;
 use crate::costs::{BIT, Prices};
 use crate::counted::Counted;
 use crate::counts::{clear, zeros};
+pub use crate::learn::Bounds;
 use crate::learn::{Learner, Learnt};
 use crate::symbols::symbol_of;
 use jxlm_base::grid::OutOfMemory;
@@ -115,7 +116,23 @@ pub fn scheme_of<C: Counted>(
     values: &[i32],
     most: usize,
 ) -> Result<Scheme, OutOfMemory> {
-    let mut learner = Learner::new(alloc, table, prices)?;
+    let bounds = Bounds {
+        nodes: 509,
+        predictors: 1,
+    };
+    scheme_within(alloc, table, prices, bounds, values, most)
+}
+
+/// The same within these bounds.
+pub fn scheme_within<C: Counted>(
+    alloc: Global,
+    table: &C,
+    prices: Prices,
+    bounds: Bounds,
+    values: &[i32],
+    most: usize,
+) -> Result<Scheme, OutOfMemory> {
+    let mut learner = Learner::new(alloc, table, prices, bounds)?;
     let learnt = learner.learn(alloc)?;
     let mut maker = Maker {
         values,

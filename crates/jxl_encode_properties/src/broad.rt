@@ -1,0 +1,211 @@
+//! Trees learnt from samples one by one, with all predictors and properties, and with cuts at the values that properties
+//! have.
+
+use crate::rows::{Rows, SIDE, Taker, sample_at, take_all};
+use crate::samples::Samples;
+use jxl_encode_advice::residuals::{Care, samples_in};
+use jxl_encode_advice::rows::Source;
+use jxl_encode_learn::axis::Axis;
+use jxl_encode_learn::costs::Prices;
+use jxl_encode_learn::scheme::{Bounds, Scheme, scheme_within};
+use jxl_encode_learn::symbols::symbol_of;
+use jxl_encode_walk::walk::{Surroundings, Walk};
+use jxlm_base::grid::{AlignedGrid, OutOfMemory};
+use jxlm_predictor::predictor::Predictor;
+use std::alloc::Global;
+
+/// The predictors that are tried.
+const PREDICTORS: [Predictor; 14] = [
+    Predictor::Zero,
+    Predictor::West,
+    Predictor::North,
+    Predictor::AvgWestAndNorth,
+    Predictor::Select,
+    Predictor::Gradient,
+    Predictor::SelfCorrecting,
+    Predictor::NorthEast,
+    Predictor::NorthWest,
+    Predictor::WestWest,
+    Predictor::AvgWestAndNorthWest,
+    Predictor::AvgNorthAndNorthWest,
+    Predictor::AvgNorthAndNorthEast,
+    Predictor::AvgAll,
+];
+
+/// The properties: the channel, those of the place and its neighbours, and those of the channel before.
+const PROPERTIES: [u32; 18] = [
+    0, 2, 3, 4, 5, 6, 7, 8, 9, 10, 11, 12, 13, 14, 15, 16, 17, 19,
+];
+
+/// The most cuts of a property.
+const MAX_CUTS: usize = 127;
+
+/// The most nodes of a tree, without the last two.
+const MAX_NODES: usize = 4093;
+
+/// By how many predictors a cut is tried.
+const TRIED: usize = 2;
+
+/// About how many values of a property its cuts are chosen by.
+const LOOKED: usize = 1 << 15;
+
+/// The values that a property of the samples has.
+#[derive(Drop)]
+struct Values {
+    property: u32,
+    list: Vec<i32>,
+}
+
+/// The samples that are taken, with the values of their properties.
+#[derive(Drop)]
+struct ByAll {
+    values: Vec<Values>,
+    samples: Samples,
+}
+
+/// A property of the sample in a column.
+fn property_of(rows: &Rows<'_>, x: usize, own: &[i32; 16], property: u32) -> i32 {
+    match property {
+        0 => rows.channel.min(255) as i32,
+        2 => (rows.y % SIDE) as i32,
+        16 => rows.sample_before(x).saturating_abs(),
+        17 => rows.sample_before(x),
+        19 => rows.residual_before(x),
+        _ => own.get(property as usize).copied().unwrap_or(0),
+    }
+}
+
+impl Taker for ByAll {
+    fn is_weighted(&self) -> bool {
+        true
+    }
+
+    fn step(
+        &mut self,
+        walk: &mut Walk,
+        rows: &Rows<'_>,
+        x: usize,
+        taken: bool,
+    ) -> Result<(), OutOfMemory> {
+        let sample = sample_at(&rows.here, x);
+        match walk.step_with_all(sample) {
+            Some(around) if taken => self.take(rows, x, around, sample),
+            _ => Ok(()),
+        }
+    }
+}
+
+impl ByAll {
+    /// Nothing taken.
+    fn new(alloc: Global) -> Result<ByAll, OutOfMemory> {
+        let mut values = Vec::new(alloc);
+        for property in &PROPERTIES {
+            values.push(Values {
+                property: *property,
+                list: Vec::new(alloc),
+            })?;
+        }
+        Ok(ByAll {
+            values,
+            samples: Samples::new(alloc, Vec::new(alloc), &PREDICTORS)?,
+        })
+    }
+
+    /// Takes a sample.
+    fn take(
+        &mut self,
+        rows: &Rows<'_>,
+        x: usize,
+        around: Surroundings,
+        sample: i32,
+    ) -> Result<(), OutOfMemory> {
+        for values in self.values.iter_mut() {
+            let value = property_of(rows, x, &around.own, values.property);
+            values.list.push(value)?;
+        }
+        self.samples.add_symbols(&around.predicted, sample)
+    }
+
+    /// Puts the samples on the axes of their properties, which have cuts by their values.
+    fn place(&mut self, alloc: Global) -> Result<(), OutOfMemory> {
+        for values in self.values.iter_mut() {
+            let axis = Axis {
+                property: values.property,
+                cuts: cuts_between(alloc, &values.list)?,
+            };
+            self.samples.add_axis(alloc, axis, &values.list)?;
+            values.list = Vec::new(alloc);
+        }
+        Ok(())
+    }
+}
+
+/// Some of these values, evenly spread, in rising order.
+fn sorted(alloc: Global, values: &[i32]) -> Result<Vec<i32>, OutOfMemory> {
+    let mut list = Vec::new(alloc);
+    let step = (values.len() / LOOKED).max(1);
+    for at in 0..values.len() {
+        if at % step == 0 {
+            list.push(values[at])?;
+        }
+    }
+    list.sort_unstable();
+    Ok(list)
+}
+
+/// The number of different values, which are in rising order.
+fn kinds_of(sorted: &[i32]) -> usize {
+    let mut kinds: usize = 0;
+    for at in 0..sorted.len() {
+        if at == 0 || sorted[at] != sorted[at - 1] {
+            kinds = kinds.saturating_add(1);
+        }
+    }
+    kinds
+}
+
+/// Cuts between values: at each, if there are few, or so that about as many are between any two.
+fn cuts_between(alloc: Global, values: &[i32]) -> Result<Vec<i32>, OutOfMemory> {
+    let list = sorted(alloc, values)?;
+    let least = if kinds_of(&list) <= MAX_CUTS {
+        0
+    } else {
+        list.len() / MAX_CUTS
+    };
+    let mut cuts = Vec::new(alloc);
+    let mut last: usize = 0;
+    for at in 1..list.len() {
+        let enough = at.saturating_sub(last) >= least && cuts.len() < MAX_CUTS;
+        if enough && list[at] != list[at - 1] {
+            cuts.push(list[at - 1])?;
+            last = at;
+        }
+    }
+    Ok(cuts)
+}
+
+/// The scheme that is learnt from a part of the samples of the channels, the first three of which are coded by a colour
+/// transform of this kind, if there is one.
+pub fn scheme_by_all(
+    alloc: Global,
+    channels: &[AlignedGrid<i32>],
+    colour: Option<u32>,
+    care: Care,
+) -> Result<Scheme, OutOfMemory> {
+    let step = samples_in(channels).div_ceil(care.samples.max(1)).max(1);
+    let mut taker = ByAll::new(alloc)?;
+    take_all(alloc, Source { channels, colour }, &mut taker, step)?;
+    taker.place(alloc)?;
+    let prices = Prices {
+        scale: step as u64,
+        decision: 22,
+        leaf: 7,
+        symbol: 3,
+        other: 0,
+    };
+    let bounds = Bounds {
+        nodes: MAX_NODES,
+        predictors: TRIED,
+    };
+    scheme_within(alloc, &taker.samples, prices, bounds, &[], care.clusters)
+}
