@@ -6,8 +6,8 @@ use crate::ranks::{Ranks, add_rank_ways};
 use jxl_encode_advice::residuals::{Care, scheme_by_residuals};
 use jxl_encode_advice::values::scheme_by_values;
 use jxl_encode_colours::shades::scheme_by_colours;
-use jxl_encode_learn::axis::Axis;
 use jxl_encode_image::transform::PalettePlan;
+use jxl_encode_learn::axis::Axis;
 use jxl_encode_learn::scheme::Scheme;
 use jxl_encode_properties::broad::scheme_by_all;
 use jxl_encode_properties::learn::scheme_by_errors;
@@ -459,7 +459,13 @@ pub(crate) fn advices_for(
         depth: picture.header.bit_depth,
     };
     for effort in efforts_of(effort, repeats) {
-        add_ways_of(alloc, &mut list, samples, *effort, colours_of(picture, *effort))?;
+        add_ways_of(
+            alloc,
+            &mut list,
+            samples,
+            *effort,
+            colours_of(picture, *effort),
+        )?;
         add_palette_ways(alloc, &mut list, picture, *effort)?;
         if let Some(ranks) = ranks {
             add_rank_ways(alloc, &mut list, picture, ranks, *effort)?;

@@ -37,7 +37,12 @@ impl Ranks {
     }
 
     /// Puts the ranks of a channel in its place. Returns false if its values are too many, or not far apart.
-    fn add(&mut self, alloc: Global, picture: &Picture, channel: usize) -> Result<bool, OutOfMemory> {
+    fn add(
+        &mut self,
+        alloc: Global,
+        picture: &Picture,
+        channel: usize,
+    ) -> Result<bool, OutOfMemory> {
         if channel >= picture.channels.len() {
             return Ok(false);
         }

@@ -71,8 +71,8 @@ fn predictions_of(properties: &Properties<'_, i32>) -> [i32; 14]
 }
 
 impl Walk {
-    /// At the first sample of a part of this width, with the weighted predictor if `weighted` says so: else it makes 0 of each
-    /// sample, and its errors are 0. None, if the width is not one of a group.
+    /// At the first sample of a part of this width, with the weighted predictor if `weighted` says so: else it predicts 0
+    /// for each sample, and its errors are 0. None, if the width is not one of a group.
     pub fn new(alloc: Global, width: u32, weighted: bool) -> Result<Option<Walk>, OutOfMemory> {
         if width == 0 || width > 1024 {
             return Ok(None);
