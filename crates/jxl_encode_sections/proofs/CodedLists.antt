@@ -45,6 +45,7 @@ ends begin n meta e lt = leb_of (rw_of (nat_lt begin meta) (lt-ltb begin meta lt
   rw_of : (b : Bool) → b ≡ true → (not b || nat_le (begin + n) meta) ≡ true → nat_le (begin + n) meta ≡ true
   rw_of true s f = f
   rw_of false s f = cc
+
   leb_of : nat_le (begin + n) meta ≡ true → begin + n ≤ meta
   leb_of f = leb-true (begin + n) meta f
 
@@ -178,8 +179,8 @@ module _ {S : Type 0} (to_int : S → ℤ) (w : Width) (ts : List ImageTransform
       let n : ℕ = global_count dim list in
       let each = each_rest (λ c. has_cells dim c ≡ true) cells in
       let all = passes_all (has_cells dim) (drop n list.channels) (λ i d lt.
-          let long = length-drop n list.channels in
-          subst (λ (c : Channel). has_cells dim c ≡ true) (sym (get_or-drop n list.channels i d)) (each.1 (n + i) d (omega arith) (omega (arith, long, lt)))) in
+      let long = length-drop n list.channels in
+      subst (λ (c : Channel). has_cells dim c ≡ true) (sym (get_or-drop n list.channels i d)) (each.1 (n + i) d (omega arith) (omega (arith, long, lt)))) in
       subst IsTrue (sym all) refl
 
   pub one_is_global : IsGroupDim dim → All IsValidChannel given → (size : Size) → All (IsOfSize size) given → (l : Layout) → l ≡ layout_of size dim 1 → section_count_of l ≡ 1 → length list.channels ≤ global_count dim list
@@ -188,6 +189,6 @@ module _ {S : Type 0} (to_int : S → ℤ) (w : Width) (ts : List ImageTransform
       let each = each_rest (λ c. fits_group dim c ≡ true) (each_fits dim group size given valid sized wide high) in
       let least = each.0 in
       let all = prefix_len_is (fits_group dim) rest (length rest) (table_channel 0 0) (omega arith) (λ k lt.
-          subst (λ (c : Channel). fits_group dim c ≡ true) (sym (get_or-drop list.nb_meta list.channels k (table_channel 0 0))) (each.1 (list.nb_meta + k) (table_channel 0 0) (omega arith) (omega (arith, rest_long, lt))))
+      subst (λ (c : Channel). fits_group dim c ≡ true) (sym (get_or-drop list.nb_meta list.channels k (table_channel 0 0))) (each.1 (list.nb_meta + k) (table_channel 0 0) (omega arith) (omega (arith, rest_long, lt))))
       (λ lt. absurd (omega (arith, lt))) in
       omega (arith, all, rest_long, least)
