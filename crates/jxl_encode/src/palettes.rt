@@ -68,6 +68,7 @@ fn way_of(
         colour: index.colour,
         own: index.own,
         palettes: plans,
+        cost: index.cost.saturating_add(table.cost),
     }))
 }
 
@@ -199,6 +200,19 @@ pub(crate) fn add_palette_ways(
     picture: &Picture,
     effort: Effort,
 ) -> Result<(), OutOfMemory> {
+    let orders = orders_of(effort, picture.channels.len());
+    add_palette_ways_by(alloc, list, picture, effort, orders)
+}
+
+/// Adds the ways by a palette of all channels in these orders of its colours, if the channels are one to four of one size, and
+/// the colours few.
+pub(crate) fn add_palette_ways_by(
+    alloc: Global,
+    list: &mut Vec<Advice>,
+    picture: &Picture,
+    effort: Effort,
+    orders: &[ColourOrder],
+) -> Result<(), OutOfMemory> {
     let channels = &picture.channels;
     let Some(first) = channels.get(0) else {
         return Ok(());
@@ -207,7 +221,7 @@ pub(crate) fn add_palette_ways(
         return Ok(());
     }
     let most = most_colours(first.buf().len(), effort);
-    for order in orders_of(effort, channels.len()) {
+    for order in orders {
         let plan = PalettePlan {
             first: 0,
             count: channels.len(),
