@@ -170,6 +170,12 @@ fn orders_of(effort: Effort, channels: usize) -> &'static [ColourOrder] {
     }
 }
 
+/// Whether this number of values, from the least to the greatest, are so far apart that their ranks may take fewer bits.
+pub(crate) fn are_far_apart(count: usize, least: i32, most: i32) -> bool {
+    let span = u64::from(most.abs_diff(least)).saturating_add(1);
+    (count as u64).saturating_mul(4) <= span.saturating_mul(3)
+}
+
 /// Whether the samples of a table in rising order are so far apart that its indices may take fewer bits than the
 /// samples that they stand for: a table of several channels always is.
 pub(crate) fn is_sparse(table: &AlignedGrid<i32>) -> bool {
@@ -178,8 +184,7 @@ pub(crate) fn is_sparse(table: &AlignedGrid<i32>) -> bool {
     }
     let least = table.get(0, 0);
     let most = table.get(table.width() - 1, 0);
-    let span = u64::from(most.abs_diff(least)).saturating_add(1);
-    (table.width() as u64).saturating_mul(4) <= span.saturating_mul(3)
+    are_far_apart(table.width(), least, most)
 }
 
 /// The most colours that a palette of this number of pixels has at an effort.
