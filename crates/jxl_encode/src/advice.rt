@@ -29,6 +29,8 @@ pub(crate) struct Advice {
     pub(crate) own: bool,
     /// The palettes, if there are some: then the tree is that of their tables and of all other channels.
     pub(crate) palettes: Vec<PalettePlan>,
+    /// What samples, codes and tree cost, nearly, without copies, in bits times 65,536.
+    pub(crate) cost: u64,
 }
 
 /// The samples of a picture, and how they are stored.
@@ -128,7 +130,11 @@ fn scaled_axis(
 }
 
 /// The channel, and this number of slopes.
-fn slope_axes(alloc: Global, depth: BitDepth, slopes: usize) -> Result<Vec<Axis>, OutOfMemory> {
+pub(crate) fn slope_axes(
+    alloc: Global,
+    depth: BitDepth,
+    slopes: usize,
+) -> Result<Vec<Axis>, OutOfMemory> {
     let mut axes = Vec::new(alloc);
     axes.push(Axis::new(alloc, CHANNEL, &CHANNEL_CUTS)?)?;
     let scale = scale_of(depth).min(MAX_SLOPE_SCALE);
@@ -360,6 +366,7 @@ fn add_way(alloc: Global, list: &mut Vec<Advice>, way: Option<Way>) -> Result<()
         colour: way.colour,
         own: way.own,
         palettes: Vec::new(alloc),
+        cost: way.scheme.cost,
     };
     add_advice(list, advice)
 }
@@ -445,6 +452,34 @@ pub(crate) fn colours_of(picture: &Picture, effort: Effort) -> &'static [Option<
     &[None, Some(LUMA)]
 }
 
+/// What the cheapest of these ways costs.
+fn least_cost(list: &[Advice]) -> u64 {
+    let mut least = u64::MAX;
+    for advice in list {
+        least = least.min(advice.cost);
+    }
+    least
+}
+
+/// Whether ways that cost more than others are left out: at the greatest effort all are tried, at the least there is one or
+/// few. Costs are without copies, so that they say little where samples repeat.
+fn are_compared(effort: Effort, repeats: bool) -> bool {
+    matches!(effort, Effort::Usual) && !repeats
+}
+
+/// The ways that cost little more than the cheapest: a twentieth.
+fn cheap_ways(alloc: Global, list: Vec<Advice>) -> Result<Vec<Advice>, OutOfMemory> {
+    let least = least_cost(&list);
+    let most = least.saturating_add(least / 20);
+    let mut kept = Vec::new(alloc);
+    for advice in list {
+        if advice.cost <= most {
+            kept.push(advice)?;
+        }
+    }
+    Ok(kept)
+}
+
 /// Ways to code a picture, of which samples repeat if `repeats` says so, and whose values have these ranks, if they are few.
 pub(crate) fn advices_for(
     alloc: Global,
@@ -466,10 +501,18 @@ pub(crate) fn advices_for(
             *effort,
             colours_of(picture, *effort),
         )?;
-        add_palette_ways(alloc, &mut list, picture, *effort)?;
+        let bound = if are_compared(*effort, repeats) {
+            Some(least_cost(&list))
+        } else {
+            None
+        };
+        add_palette_ways(alloc, &mut list, picture, *effort, bound)?;
         if let Some(ranks) = ranks {
-            add_rank_ways(alloc, &mut list, picture, ranks, *effort)?;
+            add_rank_ways(alloc, &mut list, picture, ranks, *effort, bound)?;
         }
+    }
+    if are_compared(effort, repeats) {
+        return cheap_ways(alloc, list);
     }
     Ok(list)
 }

@@ -157,18 +157,19 @@ pub(crate) fn ranks_of(alloc: Global, picture: &Picture) -> Result<Option<Ranks>
     Ok(Some(ranks))
 }
 
-/// Adds the ways by the ranks of the values of a picture.
+/// Adds the ways by the ranks of the values of a picture, if they do not cost more than the bound.
 pub(crate) fn add_rank_ways(
     alloc: Global,
     list: &mut Vec<Advice>,
     picture: &Picture,
     ranks: &Ranks,
     effort: Effort,
+    bound: Option<u64>,
 ) -> Result<(), OutOfMemory> {
     let coded = Coded {
         tables: &ranks.tables,
         samples: ranks.samples(),
     };
     let colours = colours_of(picture, effort);
-    add_ways_by(alloc, list, coded, &ranks.plans, colours, effort)
+    add_ways_by(alloc, list, coded, &ranks.plans, colours, effort, bound)
 }
