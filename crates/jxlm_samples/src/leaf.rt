@@ -87,7 +87,7 @@ fn leaf_by_sets<S: Sample>(
         → IsFound false t S.to_int properties.now steps.old steps.new (depth t.tree + 1) result }
 {
     let own = properties.own();
-    sets.leaf_by(&properties.listed(&own), steps)
+    sets.leaf_by(&own, steps)
 }
 
 /// The leaf to which these properties lead in the tree of a channel: with `SETS` by its sets of leaves, and else by the

@@ -1,6 +1,6 @@
 -- The first leaf that no decision of a tree rules out is the one that is reached.
 use Rattle.std.proofs.Common.{◌≡◌, ◌∙◌, ℕ, zero, suc, ℤ, pos, w32, ◌+◌, ◌-◌, ◌<◌, ◌≤◌, Bool, true, false, ◌||◌, List, [], ◌∷◌, ◌++◌, length, get_or, set, take, refl, sym, ap, ap₂, subst, arith, ◌⊎◌, inl, inr, None, Some, Option}
-use Rattle.std.specs.Prelude.{◌&&◌, not, nat_lt, int_lt, IfSome}
+use Rattle.std.specs.Prelude.{◌*◌, ◌&&◌, not, nat_lt, int_lt, neg_ℤ, IfSome}
 use Rattle.std.proofs.lemmas.Bool.{cases_lt, false≢true}
 use Rattle.std.proofs.lemmas.Bool.Decides.{nat_tests}
 use Rattle.std.proofs.lemmas.List.{length-append, get_or_append_left, get_or-append-add, get_or_push, get_or_read, take_more}
@@ -12,13 +12,14 @@ use Rattle.jxlm_tree.specs.Inner.Compiled.{known_at}
 use Rattle.jxlm_tree.specs.Inner.TreeShape.{shape_of}
 use Rattle.jxlm_tree.specs.declared.tree.MaTree.{MaTree}
 use Rattle.jxlm_tree.proofs.FlatMade.{known_by}
-use Rattle.jxlm_tree.specs.Inner.LeafSets.{AreOf, asks, is_within, leaves_of, rules_out}
+use Rattle.jxlm_tree.specs.Inner.LeafSets.{AreOf, has_table, is_in_range, is_within, leaves_of, rules_out}
 use Rattle.jxlm_tree.specs.LeafSets.{AreSetsOf, IsFirst, IsListed}
-use Rattle.jxlm_tree.specs.Questions.{has, set_for, stays}
+use Rattle.jxlm_tree.specs.SetTables.{has, set_for, stays, stays_from}
 use Rattle.jxlm_tree.specs.declared.flat.Leaf.{Leaf}
 use Rattle.jxlm_tree.specs.declared.leaf_sets.LeafSets.{LeafSets}
-use Rattle.jxlm_tree.specs.declared.question.Question.{Question}
 use Rattle.jxlm_tree.specs.declared.marks.Known.{Known}
+use Rattle.jxlm_tree.specs.ClusterTables.{slot}
+use Rattle.jxlm_tree.proofs.LeafBits.{AreTaken, table-kept, table-taken}
 use Rattle.jxlm_tree.proofs.FlatSteps.{walk-pruned}
 use Rattle.jxlm_tree.proofs.FlatTrees.{standing_leaf}
 use Rattle.jxlm_tree.proofs.FlatWalks.{pruned-stands}
@@ -150,7 +151,7 @@ found first (decision p v a b) f = either (int_lt v (f p)) refl (found first a f
   either true goes l r = found-left first p v a b f goes l
   either false goes l r = found-right first p v a b f goes r
 
-first-at : (t : Shape Leaf) (n : ℕ) (s : LeafSets) (f : ℕ → ℤ) (l : Leaf) → AreOf t n s → IsFirst s.questions.items s.leaves.items f l → Found 0 t f → l ≡ walk t f
+first-at : (t : Shape Leaf) (n : ℕ) (s : LeafSets) (f : ℕ → ℤ) (l : Leaf) → AreOf t n s → IsFirst s.sets.items s.leaves.items f l → Found 0 t f → l ≡ walk t f
 first-at t n s f l are first r = either (cases_lt first.place r.place) (cases_lt r.place first.place) where
   none : true ≡ false → l ≡ walk t f
   none h = cc
@@ -171,7 +172,7 @@ first-at t n s f l are first r = either (cases_lt first.place r.place) (cases_lt
       first.leaf ∙ ap (λ (xs : List Leaf). get_or xs first.place l) are.leaves ∙ ap (λ k. get_or (leaves_of t) k l) same ∙ r.leaf l
 
 -- the leaf that sets of a tree's leaves give is the one to which the tree leads
-pub first-reached : (t : Shape Leaf) (n : ℕ) (s : LeafSets) (f : ℕ → ℤ) (l : Leaf) → AreOf t n s → IsFirst s.questions.items s.leaves.items f l → l ≡ walk t f
+pub first-reached : (t : Shape Leaf) (n : ℕ) (s : LeafSets) (f : ℕ → ℤ) (l : Leaf) → AreOf t n s → IsFirst s.sets.items s.leaves.items f l → l ≡ walk t f
 first-reached t n s f l are first = first-at t n s f l are first (found 0 t f)
 
 -- what holds of each leaf
@@ -206,34 +207,50 @@ and-joins : (x y b : Bool) → (x && (y && b)) ≡ ((x && y) && b)
 and-joins true y b = refl
 and-joins false y b = refl
 
--- one question takes the place of another
-pub stays-set : (qs : List Question) (place : ℕ) (old new : Question) (f : ℕ → ℤ) (i : ℕ) (b : Bool) → place < length qs → old ≡ get_or qs place old →
-    has (set_for new.sets.items (f new.property)) i ≡ (has (set_for old.sets.items (f old.property)) i && b) → stays (set qs place new) f i ≡ (stays qs f i && b)
-stays-set [] place old new f i b less is at = absurd (omega arith)
-stays-set (q ∷ qs) zero old new f i b less is at =
-    ap (λ x. x && stays qs f i) (at ∙ ap (λ (o : Question). has (set_for o.sets.items (f o.property)) i && b) is)
-    ∙ and-moves (has (set_for q.sets.items (f q.property)) i) (stays qs f i) b
-stays-set (q ∷ qs) (suc place) old new f i b less is at =
-    ap (λ x. has (set_for q.sets.items (f q.property)) i && x) (stays-set qs place old new f i b (omega arith) is at)
-    ∙ and-joins (has (set_for q.sets.items (f q.property)) i) (stays qs f i) b
+-- tables that are as before leave over what they did
+stays-kept : (n table : ℕ) (old new : List ℕ) (f : ℕ → ℤ) (i : ℕ) → ((j : ℕ) → table ≤ j → j < table + n → has (set_for new j (f (9 + j))) i ≡ has (set_for old j (f (9 + j))) i) →
+    stays_from n table new f i ≡ stays_from n table old f i
+stays-kept zero table old new f i kept = refl
+stays-kept (suc n) table old new f i kept =
+    ap₂ (λ a b. a && b) (kept table (omega arith) (omega arith)) (stays-kept n (table + 1) old new f i (λ j from less. kept j (omega arith) (omega arith)))
 
--- more questions rule out more
-pub stays-append : (xs ys : List Question) (f : ℕ → ℤ) (i : ℕ) → stays (xs ++ ys) f i ≡ (stays xs f i && stays ys f i)
-stays-append [] ys f i = refl
-stays-append (q ∷ xs) ys f i =
-    ap (λ x. has (set_for q.sets.items (f q.property)) i && x) (stays-append xs ys f i)
-    ∙ and-joins (has (set_for q.sets.items (f q.property)) i) (stays xs f i) (stays ys f i)
+-- one table that rules out more does so for all of them
+stays-ruled : (n table own : ℕ) (old new : List ℕ) (f : ℕ → ℤ) (i : ℕ) (b : Bool) → table ≤ own → own < table + n →
+    ((j : ℕ) → (j < own) ⊎ (own < j) → j < table + n → has (set_for new j (f (9 + j))) i ≡ has (set_for old j (f (9 + j))) i) →
+    has (set_for new own (f (9 + own))) i ≡ (has (set_for old own (f (9 + own))) i && b) → stays_from n table new f i ≡ (stays_from n table old f i && b)
+stays-ruled zero table own old new f i b from less kept here = absurd (omega arith)
+stays-ruled (suc n) table own old new f i b from less kept here = either (cases_lt table own) where
+  either : (table < own) ⊎ (own ≤ table) → stays_from (suc n) table new f i ≡ (stays_from (suc n) table old f i && b)
+  either (inl below) =
+      ap₂ (λ x y. x && y) (kept table (inl below) (omega arith))
+          (stays-ruled n (table + 1) own old new f i b (omega arith) (omega arith) (λ j apart less. kept j apart (omega arith)) here)
+      ∙ and-joins (has (set_for old table (f (9 + table))) i) (stays_from n (table + 1) old f i) b
+  either (inr at) =
+      let is : own ≡ table = omega arith in
+      ap₂ (λ x y. x && y) (subst (λ k. has (set_for new k (f (9 + k))) i ≡ (has (set_for old k (f (9 + k))) i && b)) is here)
+          (stays-kept n (table + 1) old new f i (λ j from less. kept j (inr (omega arith)) (omega arith)))
+      ∙ and-moves (has (set_for old table (f (9 + table))) i) (stays_from n (table + 1) old f i) b
 
--- what stays is ruled out by no question
-pub stays-each : (qs : List Question) (k : ℕ) (q : Question) (f : ℕ → ℤ) (i : ℕ) → k < length qs → q ≡ get_or qs k q → stays qs f i ≡ true → has (set_for q.sets.items (f q.property)) i ≡ true
-stays-each [] k q f i less is h = absurd (omega arith)
-stays-each (r ∷ qs) zero q f i less is h =
-    ap (λ (o : Question). has (set_for o.sets.items (f o.property)) i) is ∙ first (has (set_for r.sets.items (f r.property)) i) (stays qs f i) h where
-  first : (x y : Bool) → (x && y) ≡ true → x ≡ true
-  first true y h = refl
-  first false y h = h
-stays-each (r ∷ qs) (suc k) q f i less is h =
-    stays-each qs k q f i (omega arith) is (second_of (has (set_for r.sets.items (f r.property)) i) (stays qs f i) h)
+table-from : (p : ℕ) → has_table p ≡ true → 9 ≤ p
+table-from p has = grind (arith, nat_tests)
+
+table-before : (p : ℕ) → has_table p ≡ true → p < 16
+table-before p has = grind (arith, nat_tests)
+
+-- leaves that are taken out of the entries of a property's table are ruled out where it is not greater than the cut
+pub ruled-tables : (old new : List ℕ) (leaves first end from last p : ℕ) (v : ℤ) (f : ℕ → ℤ) (i : ℕ) → is_in_range v ≡ true → has_table p ≡ true → length old ≡ 14336 →
+    from ≡ (p - 9) * 2048 → last ≡ slot (neg_ℤ (pos 1024)) 2047 v → i < 64 → AreTaken old new from (from + last + 1) leaves → has leaves i ≡ is_within first end i →
+    stays new f i ≡ (stays old f i && not (not (int_lt v (f p)) && is_within first end i))
+ruled-tables old new leaves first end from last p v f i near tabled sized start at few taken are =
+    let own = p - 9 in
+    let lower = table-from p tabled in
+    let upper = table-before p tabled in
+    let within : own < 0 + 7 = omega (arith, lower, upper) in
+    let is : 9 + own ≡ p = omega (arith, lower) in
+    stays-ruled 7 0 own old new f i (not (not (int_lt v (f p)) && is_within first end i)) (omega arith) within
+        (λ j apart less. table-kept old new leaves from last own j v (f (9 + j)) i sized (omega (arith, less)) start at few taken apart)
+        (subst (λ k. has (set_for new own (f (9 + own))) i ≡ (has (set_for old own (f (9 + own))) i && not (not (int_lt v (f k)) && is_within first end i))) is
+            (table-taken old new leaves first end from last own v (f (9 + own)) i near sized (omega (arith, within)) start at few taken are))
 
 -- what three parts of a tree rule out, one after another
 pub ruled-in-turn : (all less few least here left right : Bool) → less ≡ (all && not left) → few ≡ (less && not here) → least ≡ (few && not right) → least ≡ (all && not (here || (left || right)))
@@ -246,14 +263,6 @@ ruled-in-turn all less few least here left right a b c =
   bits true true false r = refl
   bits true false true r = refl
   bits true false false r = refl
-
--- a question that rules out nothing changes nothing
-pub stays-more : (qs : List Question) (q : Question) (f : ℕ → ℤ) (i : ℕ) → has (set_for q.sets.items (f q.property)) i ≡ true → stays (qs ++ q ∷ []) f i ≡ stays qs f i
-stays-more qs q f i all =
-    stays-append qs (q ∷ []) f i ∙ ap (λ x. stays qs f i && (x && true)) all ∙ and-true (stays qs f i) where
-  and-true : (x : Bool) → (x && true) ≡ x
-  and-true true = refl
-  and-true false = refl
 
 -- what is left of a tree at a decision that is not known
 pub pruned-open : (pins : Known) (p : ℕ) (v : ℤ) (a b : Shape Leaf) → known pins p ≡ None → pruned pins (decision p v a b) ≡ decision p v (pruned pins a) (pruned pins b)
@@ -269,31 +278,18 @@ sets-of-flat t channel stream earlier s multipliers are = record {
   leaf = λ f l first. first-reached (pruned (known_at channel stream earlier) t) (depth t) s f l are first ∙ walk-pruned t channel stream earlier f;
   stands = λ l listed. stands l listed;
   multiplier = λ l listed. standing_leaf HasMultiplier t l multipliers (stands l listed);
-  asked = are.asked;
+  deep = are.deep;
 } where
   stands : (l : Leaf) → IsListed s.leaves.items l → StandsAtLeaf t l
   stands l listed = pruned-stands (known_at channel stream earlier) t l (listed-stands (pruned (known_at channel stream earlier) t) (depth t) s l are listed)
 
 -- sets of all leaves leave the last one over
-pub last-stays : (qs : List Question) (t : Shape Leaf) (f : ℕ → ℤ) (leaves : List Leaf) → leaves ≡ leaves_of t → length leaves ≤ 64 →
-    ((i : ℕ) → i < 64 → stays qs f i ≡ not (rules_out 0 t f i)) → stays qs f (length leaves - 1) ≡ true
-last-stays qs t f leaves are few each =
+pub last-stays : (sets : List ℕ) (t : Shape Leaf) (f : ℕ → ℤ) (leaves : List Leaf) → leaves ≡ leaves_of t → length leaves ≤ 64 →
+    ((i : ℕ) → i < 64 → stays sets f i ≡ not (rules_out 0 t f i)) → stays sets f (length leaves - 1) ≡ true
+last-stays sets t f leaves are few each =
     let some = some-leaves t in
     let count = ap (λ (xs : List Leaf). length xs) are in
     each (length leaves - 1) (omega arith) ∙ ap not (ap (λ n. rules_out 0 t f (n - 1)) count ∙ last-left t f)
-
--- one question more
-pub stays-one-more : (qs : List Question) (k : ℕ) (q : Question) (f : ℕ → ℤ) (i : ℕ) → k < length qs → q ≡ get_or qs k q →
-    (stays (take k qs) f i && has (set_for q.sets.items (f q.property)) i) ≡ stays (take (k + 1) qs) f i
-stays-one-more qs k q f i less is =
-    sym (ap (λ (xs : List Question). stays xs f i) (take_more qs k q less)
-    ∙ stays-append (take k qs) (get_or qs k q ∷ []) f i
-    ∙ ap (λ b. stays (take k qs) f i && b) (and-true (has (set_for (get_or qs k q).sets.items (f (get_or qs k q).property)) i))
-    ∙ ap (λ (o : Question). stays (take k qs) f i && has (set_for o.sets.items (f o.property)) i) (sym is))
-  where
-  and-true : (x : Bool) → (x && true) ≡ x
-  and-true true = refl
-  and-true false = refl
 
 pub sets-made : (v r d : MaTree) (channel stream earlier : ℕ) (a b : ℤ) (o : Option LeafSets) → AllLeaves HasMultiplier (shape_of v.root) → r ≡ v → d ≡ v → a ≡ int_wrap w32 (pos channel) → b ≡ int_wrap w32 (pos stream) →
     IfSome o (AreOf (pruned (known_by a b earlier) (shape_of r.root)) d.depth) → IfSome o (AreSetsOf (flat_tree (shape_of v.root) channel stream earlier))
@@ -328,31 +324,14 @@ room-left pins p v a b t first end is none at few =
     let some = some-leaves (pruned pins b) in
     omega arith
 
--- a question that is found, or added, asks for its property
-pub asks-at : (qs : List Question) (place p : ℕ) (q : Question) → place < length qs → q ≡ get_or qs place q → q.property ≡ p → asks qs place p
-asks-at qs place p q less is on = λ other. ap (λ (o : Question). o.property) (sym (get_or_read qs place q less is other)) ∙ on
-
-pub asks-last : (qs : List Question) (place p : ℕ) (q : Question) → length qs ≡ place → q.property ≡ p → asks (qs ++ q ∷ []) place p
-asks-last qs place p q is on = λ other. ap (λ (o : Question). o.property) (get_or_push qs q other place is) ∙ on
-
--- a question that rules out more leaves rules them out of all
-pub ruled-at : (qs : List Question) (place : ℕ) (old new : Question) (p : ℕ) (v : ℤ) (first end : ℕ) (f : ℕ → ℤ) (i : ℕ) → place < length qs → old ≡ get_or qs place old → asks qs place p → new.property ≡ old.property →
-    ((x : ℤ) → has (set_for new.sets.items x) i ≡ (has (set_for old.sets.items x) i && not (not (int_lt v x) && is_within first end i))) →
-    stays (set qs place new) f i ≡ (stays qs f i && not (not (int_lt v (f p)) && is_within first end i))
-ruled-at qs place old new p v first end f i less is on same taken =
-    stays-set qs place old new f i (not (not (int_lt v (f p)) && is_within first end i)) less is
-    (taken (f new.property)
-    ∙ ap (λ k. has (set_for old.sets.items (f k)) i && not (not (int_lt v (f k)) && is_within first end i)) same
-    ∙ ap (λ k. has (set_for old.sets.items (f old.property)) i && not (not (int_lt v (f k)) && is_within first end i)) (ap (λ (o : Question). o.property) is ∙ on old))
-
--- the sets that are made from none
-pub are-made : (t : Shape Leaf) (depth : ℕ) (s : LeafSets) (qs : List Question) (leaves : List Leaf) → qs ≡ [] → leaves ≡ [] → s.leaves.items ≡ leaves ++ leaves_of t → length (leaves_of t) ≤ 64 →
-    ((f : ℕ → ℤ) (i : ℕ) → i < 64 → stays s.questions.items f i ≡ (stays qs f i && not (rules_out (length leaves) t f i))) → length s.questions.items ≤ depth → AreOf t depth s
-are-made t depth s qs leaves no_qs none are few each asked =
+-- the sets that are made from all leaves
+pub are-made : (t : Shape Leaf) (depth : ℕ) (s : LeafSets) (sets : List ℕ) (leaves : List Leaf) → ((f : ℕ → ℤ) (i : ℕ) → i < 64 → stays sets f i ≡ true) → leaves ≡ [] → s.leaves.items ≡ leaves ++ leaves_of t → length (leaves_of t) ≤ 64 →
+    ((f : ℕ → ℤ) (i : ℕ) → i < 64 → stays s.sets.items f i ≡ (stays sets f i && not (rules_out (length leaves) t f i))) → 7 ≤ depth → AreOf t depth s
+are-made t depth s sets leaves whole none are few each deep =
     let all : s.leaves.items ≡ leaves_of t = are ∙ ap (λ (xs : List Leaf). xs ++ leaves_of t) none in
     record {
       leaves = all;
       few = let n = ap (λ (xs : List Leaf). length xs) all in omega arith;
-      stays = λ f i less. each f i less ∙ ap₂ (λ (xs : List Question) (ys : List Leaf). stays xs f i && not (rules_out (length ys) t f i)) no_qs none;
-      asked = asked;
+      stays = λ f i less. each f i less ∙ ap₂ (λ (b : Bool) (ys : List Leaf). b && not (rules_out (length ys) t f i)) (whole f i less) none;
+      deep = deep;
     }

@@ -8,7 +8,7 @@ pub mod Inner
 pub mod ShortTrees
 pub mod ClusterTables
 pub mod LeafSets
-pub mod Questions
+pub mod SetTables
 pub mod Paths
 pub mod Steps
 pub mod SumTrees

@@ -1,41 +1,39 @@
-//! Small trees as sets of leaves: which leaves each value of a property leaves over.
+//! How small trees are made into sets of leaves.
 //!
 //! The leaves have numbers, from left to right. A decision that is answered to the right rules out the leaves of its
 //! left side, so the leaf that is reached is the first one that no decision rules out.
 
-ghost use Rattle.std.specs.Prelude.{◌≡◌, ℕ, ℤ, ◌+◌, ◌-◌, ◌<◌, ◌≤◌, ◌↔◌, ◌++◌, ◌&&◌, not, nat_lt, int_lt, pos, neg_ℤ, ◌<ℤ◌, ◌≤ℤ◌, true, false, length, slice_index, slice_get, Some, IfOk, IfErr, IfSome, IsTrue, OnOk, EachIndex};
+ghost use Rattle.std.specs.Prelude.{◌≡◌, ℕ, ℤ, ◌+◌, ◌<◌, ◌≤◌, ◌++◌, ◌&&◌, not, int_lt, true, length, slice_index, IfOk, IfErr, IfSome, OnOk};
 ghost use Rattle.jxlm_bits.specs.ErrorKind.{NoMemory, kind_of};
-ghost use Rattle.jxlm_tree.specs.FlatTree.{FlatTree, HasMultiplier, PropertiesAre, leaf_reached};
-ghost use Rattle.jxlm_tree.specs.LeafSets.{AreSetsOf, IsFirst, IsListed};
-ghost use Rattle.jxlm_tree.specs.Questions.{has, set_for, stays};
-ghost use Rattle.jxlm_tree.specs.Inner.LeafSets.{AreOf, asks, is_in_range, is_within, leaves_of, rules_out};
+ghost use Rattle.jxlm_tree.specs.LeafSets.{AreSetsOf};
+ghost use Rattle.jxlm_tree.specs.SetTables.{has, stays};
+ghost use Rattle.jxlm_tree.specs.Inner.LeafSets.{AreOf, has_table, is_in_range, is_served, is_within, leaves_of, rules_out};
 ghost use Rattle.jxlm_tree.specs.Inner.Pruned.{pruned};
 ghost use Rattle.jxlm_tree.specs.Inner.TreeShape.{shape_of};
-ghost use Rattle.jxlm_tree.specs.Steps.{each_cut};
-ghost use Rattle.jxlm_tree.specs.Tree.{StandsAtLeaf, depth};
 
 use crate::flat::{FlatMaTree, Leaf, entry_of};
 use crate::leaf_sets::LeafSets;
 use crate::marks::{Known, known_value};
-use crate::question::Question;
 use crate::steps::Steps;
 use crate::tree::MaTreeNode;
 use jxlm_bits::error::Result;
-use jxlm_predictor::place::{AskedProperty, PlaceProperties};
 use jxlm_weighted::reduced::read_as_signed;
 use std::alloc::{AllocError, Global};
 
-/// The maximum value of a property that the first set serves.
-const BASE: i32 = -1024;
+/// The maximum value that the first set of a table serves.
+pub(crate) const BASE: i32 = -1024;
 
-/// How many sets a property has.
-const ENTRIES: usize = 2048;
+/// How many sets a table has.
+pub(crate) const ENTRIES: usize = 2048;
+
+/// The property of the first table.
+const FIRST_PROPERTY: u32 = 9;
+
+/// How many properties have a table, from the first one on.
+const TABLES: usize = 7;
 
 /// The maximum number of leaves: a set has a bit for each.
 const MOST_LEAVES: usize = 64;
-
-/// The maximum number of properties. With more of them a walk is as fast.
-const MOST_QUESTIONS: usize = 8;
 
 // The set of the leaves from `first` to before `end`.
 fn leaves_between(first: usize, end: usize) -> u64
@@ -46,82 +44,32 @@ fn leaves_between(first: usize, end: usize) -> u64
     (1u64 << end) - (1u64 << first)
 }
 
-// Takes these leaves out of all sets up to the entry `last`.
-fn take_out(sets: &mut [u64], last: usize, leaves: u64)
-    requires { last < length sets.old }
+// Takes these leaves out of the sets from `from` to before `end`.
+fn take_out(sets: &mut [u64], from: usize, end: usize, leaves: u64)
+    requires order { from ≤ end }
+    requires inside { end ≤ length sets.old }
     ensures { (e i : ℕ) → e < length sets.old → i < 64 → has (slice_index sets.new e) i
-        ≡ (has (slice_index sets.old e) i && not (not (nat_lt last e) && has leaves i)) }
+        ≡ (has (slice_index sets.old e) i && not (is_within from end e && has leaves i)) }
 {
-    for entry in 0..last + 1 {
+    for entry in from..end {
         sets[entry] &= !leaves;
     }
 }
 
-impl Question {
-    // The question of a property that rules out no leaf.
-    fn new(alloc: Global, property: u32) -> std::result::Result<Question, AllocError>
-        ensures property { IfOk result (λ q. q.property ≡ property) }
-        ensures sets { IfOk result (λ q. (x : ℤ) (i : ℕ) → i < 64 → has (set_for q.sets.items x) i ≡ true) }
-    {
-        let sets = vec![in alloc; u64::MAX; ENTRIES]?;
-        Ok(Question {
-            property: AskedProperty::new(property),
-            sets,
-        })
-    }
-
-    // Rules out the leaves from `first` to before `end` where the property is not greater than `value`.
-    fn rule_out(&mut self, value: i32, first: usize, end: usize)
-        requires range { is_in_range value ≡ true }
-        requires order { first ≤ end }
-        requires few { end < 64 }
-        ensures property { self.new.property ≡ self.old.property }
-        ensures sets { (x : ℤ) (i : ℕ) → i < 64 → has (set_for self.new.sets.items x) i
-            ≡ (has (set_for self.old.sets.items x) i && not (not (int_lt value x) && is_within first end i)) }
-    {
-        let leaves = leaves_between(first, end);
-        take_out(&mut self.sets, entry_of(BASE, ENTRIES - 1, value), leaves);
-    }
-}
-
-// The place of the question of a property; where there is none, one is added.
-fn question_on(
-    alloc: Global,
-    questions: &mut Vec<Question>,
-    property: u32,
-) -> std::result::Result<usize, AllocError>
-    ensures asks { IfOk result (λ place. (place < length questions.new.items) × asks questions.new.items place property) }
-    ensures stays { IfOk result (λ place. (f : ℕ → ℤ) (i : ℕ) → i < 64
-        → stays questions.new.items f i ≡ stays questions.old.items f i) }
-{
-    for place in 0..questions.len() {
-        if questions[place].property.number() == property {
-            return Ok(place);
-        }
-    }
-    let question = Question::new(alloc, property)?;
-    questions.push(question)?;
-    Ok(questions.len() - 1)
-}
-
 // Rules out the leaves from `first` to before `end` where this property is not greater than `value`.
-fn rule_out(
-    alloc: Global,
-    questions: &mut Vec<Question>,
-    property: u32,
-    value: i32,
-    first: usize,
-    end: usize,
-) -> std::result::Result<(), AllocError>
+fn rule_out(sets: &mut [u64], property: u32, value: i32, first: usize, end: usize)
+    requires sized { length sets.old ≡ 14336 }
+    requires table { has_table property ≡ true }
     requires range { is_in_range value ≡ true }
     requires order { first ≤ end }
     requires few { end < 64 }
-    ensures { OnOk result ((f : ℕ → ℤ) (i : ℕ) → i < 64 → stays questions.new.items f i
-        ≡ (stays questions.old.items f i && not (not (int_lt value (f property)) && is_within first end i))) }
+    ensures { (f : ℕ → ℤ) (i : ℕ) → i < 64 → stays sets.new f i
+        ≡ (stays sets.old f i && not (not (int_lt value (f property)) && is_within first end i)) }
 {
-    let place = question_on(alloc, questions, property)?;
-    questions[place].rule_out(value, first, end);
-    Ok(())
+    let leaves = leaves_between(first, end);
+    let from = (property - FIRST_PROPERTY) as usize * ENTRIES;
+    let last = entry_of(BASE, ENTRIES - 1, value);
+    take_out(sets, from, from + last + 1, leaves);
 }
 
 // How many leaves are left of a tree once known decisions are taken.
@@ -148,16 +96,16 @@ fn count_leaves(tree: &MaTreeNode, known: &Known) -> usize
     }
 }
 
-// Whether a property is told from this value by an entry of its own.
-fn is_in_range(value: i32) -> bool
-    ensures { result ≡ is_in_range value }
+// Whether this property has a table, whose entries tell the values up to this one from all others.
+fn is_cut_served(property: u32, value: i32) -> bool
+    ensures { result ≡ (has_table property && is_in_range value) }
 {
-    BASE <= value && value < BASE + ENTRIES as i32 - 1
+    9 <= property && property < 16 && BASE <= value && value < BASE + ENTRIES as i32 - 1
 }
 
-// Whether all cuts of a tree are in the range of the tables, once known decisions are taken.
-fn are_in_range(tree: &MaTreeNode, known: &Known) -> bool
-    ensures { result ≡ each_cut is_in_range (pruned known.now (shape_of tree.now)) }
+// Whether all decisions of a tree are on properties that have tables and cut in their range, once known decisions are taken.
+fn is_served(tree: &MaTreeNode, known: &Known) -> bool
+    ensures { result ≡ is_served (pruned known.now (shape_of tree.now)) }
 {
     match tree {
         MaTreeNode::Leaf(_) => true,
@@ -167,12 +115,12 @@ fn are_in_range(tree: &MaTreeNode, known: &Known) -> bool
             left,
             right,
         } => match known_value(known, *property) {
-            None => is_in_range(*value) && are_in_range(left, known) && are_in_range(right, known),
+            None => is_cut_served(*property, *value) && is_served(left, known) && is_served(right, known),
             Some(x) => {
                 if x > *value {
-                    are_in_range(left, known)
+                    is_served(left, known)
                 } else {
-                    are_in_range(right, known)
+                    is_served(right, known)
                 }
             }
         },
@@ -181,18 +129,18 @@ fn are_in_range(tree: &MaTreeNode, known: &Known) -> bool
 
 // Adds the leaves of a tree, without those of known decisions, and what its decisions rule out.
 fn add(
-    alloc: Global,
     tree: &MaTreeNode,
     known: &Known,
-    questions: &mut Vec<Question>,
+    sets: &mut [u64],
     leaves: &mut Vec<Leaf>,
 ) -> std::result::Result<(), AllocError>
-    requires range { each_cut is_in_range (pruned known.now (shape_of tree.now)) ≡ true }
+    requires sized { length sets.old ≡ 14336 }
+    requires served { is_served (pruned known.now (shape_of tree.now)) ≡ true }
     requires few { length leaves.old.items + length (leaves_of (pruned known.now (shape_of tree.now))) ≤ 64 }
     ensures leaves { OnOk result (leaves.new.items ≡ leaves.old.items
         ++ leaves_of (pruned known.now (shape_of tree.now))) }
-    ensures stays { OnOk result ((f : ℕ → ℤ) (i : ℕ) → i < 64 → stays questions.new.items f i
-        ≡ (stays questions.old.items f i
+    ensures stays { OnOk result ((f : ℕ → ℤ) (i : ℕ) → i < 64 → stays sets.new f i
+        ≡ (stays sets.old f i
         && not (rules_out (length leaves.old.items) (pruned known.now (shape_of tree.now)) f i))) }
 {
     match tree {
@@ -205,15 +153,15 @@ fn add(
         } => match known_value(known, *property) {
             None => {
                 let first = leaves.len();
-                add(alloc, left, known, questions, leaves)?;
-                rule_out(alloc, questions, *property, *value, first, leaves.len())?;
-                add(alloc, right, known, questions, leaves)?;
+                add(left, known, sets, leaves)?;
+                rule_out(sets, *property, *value, first, leaves.len());
+                add(right, known, sets, leaves)?;
             }
             Some(x) => {
                 if x > *value {
-                    add(alloc, left, known, questions, leaves)?;
+                    add(left, known, sets, leaves)?;
                 } else {
-                    add(alloc, right, known, questions, leaves)?;
+                    add(right, known, sets, leaves)?;
                 }
             }
         },
@@ -222,41 +170,7 @@ fn add(
 }
 
 impl LeafSets {
-    // The first leaf that no question rules out by these properties.
-    #[inline(always)]
-    fn first_left<P: PlaceProperties>(&self, properties: &P, steps: &mut Steps) -> Leaf
-        requires { P.IsCurrent properties.now }
-        ensures first { (f : ℕ → ℤ) → PropertiesAre P.gives properties.now f
-            → IsFirst self.now.questions.items self.now.leaves.items f result }
-        ensures listed { IsListed self.now.leaves.items result }
-        ensures cost { steps.new ≡ steps.old + length self.now.questions.items + 1 }
-    {
-        let mut left = u64::MAX;
-        for question in &self.questions {
-            steps.tick();
-            let value = properties.property(&question.property);
-            left &= question.sets[entry_of(BASE, ENTRIES - 1, value)];
-        }
-        steps.tick();
-        self.leaves[left.trailing_zeros() as usize]
-    }
-
-    /// The leaf to which these properties lead in the trees that these are the sets of. Each property is looked up in one
-    /// step, and the leaf in one more.
-    #[inline(always)]
-    pub fn leaf_by<P: PlaceProperties>(&self, properties: &P, steps: &mut Steps) -> Leaf
-        requires { P.IsCurrent properties.now }
-        ensures leaf { (t : FlatTree) (f : ℕ → ℤ) → AreSetsOf t self.now → PropertiesAre P.gives properties.now f
-            → result ≡ leaf_reached t f }
-        ensures stands { (t : FlatTree) → AreSetsOf t self.now → StandsAtLeaf t.tree result }
-        ensures multiplier { (t : FlatTree) → AreSetsOf t self.now → HasMultiplier result }
-        ensures cost { (t : FlatTree) → AreSetsOf t self.now → steps.new ≤ steps.old + depth t.tree + 1 }
-        ensures more { steps.old ≤ steps.new }
-    {
-        self.first_left(properties, steps)
-    }
-
-    // The sets of what is left of a tree once known decisions are taken, where it is small.
+    // The sets of what is left of a tree once known decisions are taken, where it is small and of this depth.
     fn of(
         alloc: Global,
         tree: &MaTreeNode,
@@ -266,22 +180,19 @@ impl LeafSets {
         ensures { IfOk result (λ o. IfSome o (AreOf (pruned known.now (shape_of tree.now)) deep)) }
     {
         let count = count_leaves(tree, known);
-        if count > MOST_LEAVES || !are_in_range(tree, known) {
+        if deep < TABLES || count > MOST_LEAVES || !is_served(tree, known) {
             return Ok(None);
         }
-        let mut questions = Vec::new(alloc);
+        let mut sets = vec![in alloc; u64::MAX; TABLES * ENTRIES]?;
         let mut leaves = Vec::new(alloc);
-        add(alloc, tree, known, &mut questions, &mut leaves)?;
-        if questions.len() > MOST_QUESTIONS.min(deep) {
-            return Ok(None);
-        }
-        Ok(Some(LeafSets { questions, leaves }))
+        add(tree, known, &mut sets, &mut leaves)?;
+        Ok(Some(LeafSets { sets, leaves }))
     }
 }
 
 impl FlatMaTree {
-    /// The tree as sets of leaves, by which the leaf is found with fewer steps in a row, where the tree is small: at most
-    /// 64 leaves, and at most eight properties, and no more of these than the tree's depth.
+    /// The tree as sets of leaves, by which a leaf is found with no chain of look-ups, where the tree is small: at most 64
+    /// leaves, all decisions on properties 9 to 15 with values in -1024 to 1022, and a depth of at least seven.
     ///
     /// # Errors
     ///
@@ -290,9 +201,6 @@ impl FlatMaTree {
         ensures sets { IfOk result (λ o. IfSome o (AreSetsOf self.now)) }
         ensures err { IfErr result (λ e. kind_of e ≡ NoMemory) }
     {
-        if self.tree.depth > MOST_LEAVES {
-            return Ok(None);
-        }
         let known = Known {
             channel: read_as_signed(self.channel),
             stream: read_as_signed(self.stream_idx),
