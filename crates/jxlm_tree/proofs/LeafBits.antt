@@ -1,8 +1,8 @@
 -- Sets of leaves, bit by bit.
-use Rattle.std.proofs.Common.{◌≡◌, ◌∙◌, ℕ, ℤ, ◌+◌, ◌-◌, ◌*◌, ◌%◌, ◌^◌, ◌<◌, ◌≤◌, ◌<ℤ◌, ◌≤ℤ◌, ◌-ℤ◌, min, eqb, Bool, true, false, List, [], ◌++◌, drop, length, get_or, take, refl, sym, ap, ap₂, subst, arith, w64, ◌⊎◌, inl, inr}
+use Rattle.std.proofs.Common.{◌≡◌, ◌∙◌, ℕ, zero, suc, ◌∷◌, ℤ, ◌+◌, ◌-◌, ◌*◌, ◌%◌, ◌^◌, ◌<◌, ◌≤◌, ◌<ℤ◌, ◌≤ℤ◌, ◌-ℤ◌, min, eqb, Bool, true, false, List, [], ◌++◌, drop, length, get_or, take, refl, sym, ap, ap₂, subst, arith, w64, ◌⊎◌, inl, inr}
 use Rattle.std.specs.Int.{bit_at, bit_not, trailing_zeros}
 use Rattle.std.specs.Int.Bits.{bit_and}
-use Rattle.std.specs.Prelude.{◌==◌, ◌&&◌, not, nat_lt, int_lt, pos, neg_ℤ, replicate, slice_index}
+use Rattle.std.specs.Prelude.{◌==◌, ◌&&◌, not, nat_lt, int_lt, pos, neg_ℤ, replicate, slice_index, slice_index_or}
 use Rattle.std.proofs.lemmas.Bool.{cases_lt, eqb-true, eq-eqb, false≢true}
 use Rattle.std.proofs.lemmas.Bool.Decides.{nat_tests, eqb_tells}
 use Rattle.std.proofs.lemmas.Int.{ints}
@@ -10,7 +10,8 @@ use Rattle.std.proofs.lemmas.List.{append-nil, drop_all, get_or-replicate, take_
 use Rattle.std.proofs.lemmas.Nat.{one_shl}
 use Rattle.std.proofs.lemmas.Nat.Bits.{bit_at-lt, bit_at-zero, bit_at-trailing_zeros, bit_at_and, bit_at_not, bit_at_ones, bit_at_mask_above, bit_at_mask_below, bit_at_mask_inside}
 use Rattle.jxlm_tree.specs.ClusterTables.{slot}
-use Rattle.jxlm_tree.specs.Inner.LeafSets.{AreEntriesOf, is_in_range, is_near, is_within}
+use Rattle.jxlm_tree.specs.Inner.LeafSets.{AreEntriesOf, AreValuesOf, is_in_range, is_near, is_within}
+use Rattle.jxlm_tree.specs.LeafSets.{AreOwnOf}
 use Rattle.jxlm_tree.specs.SetTables.{has, set_for, stays}
 use Rattle.jxlm_tree.proofs.FlatWalks.{int_lt-tells}
 
@@ -218,6 +219,18 @@ left-over sets entries f a b c d e h g i are is0 is1 is2 is3 is4 is5 is6 =
       is5 ∙ set-at sets 5 (slice_index entries 5) (f 14) (are 5 (omega arith)),
       is6 ∙ set-at sets 6 (slice_index entries 6) (f 15) (are 6 (omega arith)),
     ) refl
+
+-- properties 9 to 15 of a list of properties
+pub values-of-own : (own : List ℤ) (f : ℕ → ℤ) → AreOwnOf own f →
+    AreValuesOf (slice_index_or own 9 (pos 0) ∷ slice_index_or own 10 (pos 0) ∷ slice_index_or own 11 (pos 0) ∷ slice_index_or own 12 (pos 0) ∷ slice_index_or own 13 (pos 0) ∷ slice_index_or own 14 (pos 0) ∷ slice_index_or own 15 (pos 0) ∷ []) f
+values-of-own own f are zero less = are 9 (omega arith)
+values-of-own own f are (suc zero) less = are 10 (omega arith)
+values-of-own own f are (suc (suc zero)) less = are 11 (omega arith)
+values-of-own own f are (suc (suc (suc zero))) less = are 12 (omega arith)
+values-of-own own f are (suc (suc (suc (suc zero)))) less = are 13 (omega arith)
+values-of-own own f are (suc (suc (suc (suc (suc zero))))) less = are 14 (omega arith)
+values-of-own own f are (suc (suc (suc (suc (suc (suc zero)))))) less = are 15 (omega arith)
+values-of-own own f are (suc (suc (suc (suc (suc (suc (suc k))))))) less = absurd (omega arith)
 
 -- a value that is near has this entry
 pub near-slot : (x : ℤ) (n : ℕ) → is_near x ≡ true → pos n ≡ x -ℤ neg_ℤ (pos 1024) → n ≡ slot (neg_ℤ (pos 1024)) 2047 x

@@ -32,5 +32,5 @@ returns-in_ok-add-in-None-2-clause-stays t c = λ f i few.
     let fits : SFits w32 v = search rules in
     let at : length c.add.new.leaves.items ≡ length l + length (leaves_of (pruned pins a)) = ap length c.in_ok-add-in-None.ensures.leaves ∙ length-append l (leaves_of (pruned pins a)) in
     let is : shape_of c.args.tree.now ≡ decision p v a b = ap shape_of c.in-Decision.is ∙ ap₂ (λ (u w : MaTreeNode). decision p v (shape_of u) (shape_of w)) (sym c.deref.ensures) (sym c.deref-in-None.ensures) in
-    let here = here-is v (to_z w32 (of_z w32 v)) (f p) c.len-first.result c.len.result (length l) (length c.add.new.leaves.items) i _ _ (to_z-of_z w32 v fits) (c.len-first.ensures ∙ c.args.leaves.now.ok.0) (c.len.ensures ∙ c.add.new.leaves.ok.0) (c.in_ok-rule_out-in-None.ensures f i few) in
+    let here = here-is v (to_z w32 (of_z w32 v)) (f p) c.len-first.result c.len.result (length l) (length c.add.new.leaves.items) i _ _ (to_z-of_z w32 v fits) (c.len-first.ensures ∙ c.args.leaves.now.ok.0) (c.len.ensures ∙ c.add.new.leaves.ok.0) (c.rule_out.ensures f i few) in
     add-both pins p v a b (shape_of c.args.tree.now) f i (length l) (length c.add.new.leaves.items) _ _ _ _ is (sym c.known_value.ensures ∙ c.in-None.is) at (c.in_ok-add-in-None.ensures.stays f i few) here (c.in_ok-add-in-None-2.ensures.stays f i few)
