@@ -1,6 +1,6 @@
 -- A cell of a part: what it holds, and what is read into it.
 use Rattle.std.proofs.Common.{Bool, ◌≡◌, ℕ, zero, suc, ◌+◌, ◌*◌, ◌/◌, ◌<◌, ◌≤◌, ◌^◌, List, [], ◌∷◌, ◌++◌, length, map, take, Some, refl, sym, ap, ◌∙◌, subst, arith, ℤ, slice_index_or, Bool, true, false, None, Option, if◌then◌else◌}
-use Rattle.std.specs.Prelude.{slice_get, slice_set}
+use Rattle.std.specs.Prelude.{slice_get, slice_set, IfSome}
 use Rattle.std.specs.List.{All}
 use Rattle.std.specs.Int.{Width}
 use Rattle.std.proofs.lemmas.List.{append-nil, append_assoc, length-append, length-map, length-take-le, map-set, take_more_set}
@@ -19,6 +19,7 @@ use Rattle.jxlm_base.proofs.Regions.{IsFull-grid_of}
 use Rattle.jxlm_weighted.specs.Correcting.{Corrects, header_of}
 use Rattle.jxlm_predictor.specs.EarlierRows.{AreRowsOf, HoldRows}
 use Rattle.jxlm_predictor.specs.Holding.{state_of, store_of}
+use Rattle.jxlm_tree.specs.LeafSets.{AreSetsOf}
 use Rattle.jxlm_tree.specs.FlatTree.{ClustersStandIn, FlatTree, GoesWithoutWeights, ReadsEarlierBelow}
 use Rattle.jxlm_weighted.specs.Neighbours.{row as line}
 use Rattle.jxlm_predictor.specs.Standing.{HasSameRoom, HoldsRow, IsInner, IsReady, Setting, StandsAt, row_of}
@@ -103,7 +104,7 @@ module _ {D : Type 0} (c : PartCoding D) (coding : IsCodingOf c) (i : ℕ) (li :
 
   -- a channel tree, any of them
   any_tree : ChannelTree
-  any_tree = record { flat = flat c.config.now.tree c.stream_index i; weighted = true; asked = 0; alone = None }
+  any_tree = record { flat = flat c.config.now.tree c.stream_index i; weighted = true; asked = 0; alone = None; sets = None }
 
   -- what it is read by alone
   pub alone_is : (other : ChannelTree) → alone_at c i ≡ (slice_index_or c.flats.now i other).alone
@@ -131,6 +132,10 @@ module _ {D : Type 0} (c : PartCoding D) (coding : IsCodingOf c) (i : ℕ) (li :
 
   pub clusters_at : (other : ChannelTree) (clusters : List ℕ) → FindsClusters c clusters → ClustersStandIn clusters (slice_index_or c.flats.now i other).flat.tree
   clusters_at other clusters h = subst (λ (t : FlatTree). ClustersStandIn clusters t.tree) (sym (flat_at other)) h
+
+  -- its sets of leaves, where there are any, are those of its tree
+  pub sets_at : (other : ChannelTree) → IfSome (slice_index_or c.flats.now i other).sets (AreSetsOf (slice_index_or c.flats.now i other).flat)
+  sets_at other = subst (λ (t : FlatTree). IfSome (slice_index_or c.flats.now i other).sets (AreSetsOf t)) (sym (flat_at other)) (tree_at other).sets
 
   -- where property 9 is clamped, its walks go by that alone
   pub sums_at : (other : ChannelTree) → clamps (part_of c) i ≡ true → GoesBySum (slice_index_or c.flats.now i other).flat
