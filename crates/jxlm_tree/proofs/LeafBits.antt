@@ -11,9 +11,9 @@ use Rattle.std.proofs.lemmas.Nat.{one_shl}
 use Rattle.std.proofs.lemmas.Nat.Bits.{bit_at-lt, bit_at-zero, bit_at-trailing_zeros, bit_at_and, bit_at_not, bit_at_ones, bit_at_mask_above, bit_at_mask_below, bit_at_mask_inside}
 use Rattle.jxlm_tree.specs.ClusterTables.{slot}
 use Rattle.jxlm_tree.specs.Inner.LeafSets.{AreEntriesOf, AreValuesOf, is_in_range, is_near, is_within}
-use Rattle.jxlm_tree.specs.LeafSets.{AreOwnOf}
 use Rattle.jxlm_tree.specs.SetTables.{has, set_for, stays}
 use Rattle.jxlm_tree.proofs.FlatWalks.{int_lt-tells}
+use Rattle.jxlm_tree.proofs.SumTrees.{second_of}
 
 -- a bit is 0 or 1
 either_bit : (x : ℕ) → x < 2 → (x ≡ 0) ⊎ (x ≡ 1)
@@ -80,12 +80,12 @@ lowest set i fits some =
       none_before = λ j less. ap (λ x. x == 1) (t.2 j less);
     }
   where
-  positive : (0 < set) ⊎ (set ≤ 0) → 0 < set
-  positive (inl more) = more
-  positive (inr none) =
-      let zero_is : set ≡ 0 = omega arith in
-      let no : false ≡ true = sym (ap (λ x. x == 1) (ap (λ s. bit_at s i) zero_is ∙ bit_at-zero i)) ∙ some in
-      absurd (false≢true no)
+    positive : (0 < set) ⊎ (set ≤ 0) → 0 < set
+    positive (inl more) = more
+    positive (inr none) =
+        let zero_is : set ≡ 0 = omega arith in
+        let no : false ≡ true = sym (ap (λ x. x == 1) (ap (λ s. bit_at s i) zero_is ∙ bit_at-zero i)) ∙ some in
+        absurd (false≢true no)
 
 -- which entries lie up to that of a cut in the range
 pub entries-below : (v x : ℤ) → is_in_range v ≡ true → nat_lt (slot (neg_ℤ (pos 1024)) 2047 v) (slot (neg_ℤ (pos 1024)) 2047 x) ≡ int_lt v x
@@ -110,8 +110,8 @@ set-of-all : (sets : List ℕ) (table : ℕ) (x : ℤ) (i : ℕ) → sets ≡ re
 unfolding set_for
 set-of-all sets table x i are less few =
     ap (λ s. has s i)
-        (ap (λ xs. get_or xs (table * 2048 + slot (neg_ℤ (pos 1024)) 2047 x) 0) are
-        ∙ get_or-replicate 14336 (table * 2048 + slot (neg_ℤ (pos 1024)) 2047 x) 18446744073709551615 0 (let w = slot-within x in omega (arith, w, less)))
+    (ap (λ xs. get_or xs (table * 2048 + slot (neg_ℤ (pos 1024)) 2047 x) 0) are
+    ∙ get_or-replicate 14336 (table * 2048 + slot (neg_ℤ (pos 1024)) 2047 x) 18446744073709551615 0 (let w = slot-within x in omega (arith, w, less)))
     ∙ has-all i few
 
 pub stays-of-all : (sets : List ℕ) (f : ℕ → ℤ) (i : ℕ) → sets ≡ replicate 14336 18446744073709551615 → i < 64 → stays sets f i ≡ true
@@ -153,7 +153,7 @@ table-taken old new leaves first end from last table v x i near sized less start
     let e = table * 2048 + s in
     taken e i (let w = slot-within x in omega (arith, w, less, sized)) few
     ∙ ap (λ b. has (slice_index old e) i && not (b && has leaves i))
-        (ap (λ n. is_within from (from + last + 1) (n + s)) (sym start) ∙ entry-within from last s ∙ ap not (ap (λ k. nat_lt k s) at ∙ entries-below v x near))
+    (ap (λ n. is_within from (from + last + 1) (n + s)) (sym start) ∙ entry-within from last s ∙ ap not (ap (λ k. nat_lt k s) at ∙ entries-below v x near))
     ∙ ap (λ b. has (slice_index old e) i && not (not (int_lt v x) && b)) are
 
 -- and the other tables are as before
@@ -167,13 +167,13 @@ table-kept old new leaves from last own table v x i sized less start at few take
     ∙ ap (λ b. has (slice_index old e) i && not (b && has leaves i)) (outside apart)
     ∙ and-all (has (slice_index old e) i)
   where
-  and-all : (x : Bool) → (x && true) ≡ x
-  and-all true = refl
-  and-all false = refl
+    and-all : (x : Bool) → (x && true) ≡ x
+    and-all true = refl
+    and-all false = refl
 
-  outside : (table < own) ⊎ (own < table) → is_within from (from + last + 1) (table * 2048 + slot (neg_ℤ (pos 1024)) 2047 x) ≡ false
-  outside (inl below) = entry-below from (from + last + 1) (table * 2048 + slot (neg_ℤ (pos 1024)) 2047 x) (let w = slot-within x in omega (arith, w, below, start))
-  outside (inr above) = entry-above from (from + last + 1) (table * 2048 + slot (neg_ℤ (pos 1024)) 2047 x) (let w = slot-within v in omega (arith, w, above, start, at))
+    outside : (table < own) ⊎ (own < table) → is_within from (from + last + 1) (table * 2048 + slot (neg_ℤ (pos 1024)) 2047 x) ≡ false
+    outside (inl below) = entry-below from (from + last + 1) (table * 2048 + slot (neg_ℤ (pos 1024)) 2047 x) (let w = slot-within x in omega (arith, w, below, start))
+    outside (inr above) = entry-above from (from + last + 1) (table * 2048 + slot (neg_ℤ (pos 1024)) 2047 x) (let w = slot-within v in omega (arith, w, above, start, at))
 
 -- the entry that serves a value has its set
 pub set-at : (sets : List ℕ) (table entry : ℕ) (x : ℤ) → entry ≡ slot (neg_ℤ (pos 1024)) 2047 x → get_or sets (table * 2048 + entry) 0 ≡ set_for sets table x
@@ -220,17 +220,42 @@ left-over sets entries f a b c d e h g i are is0 is1 is2 is3 is4 is5 is6 =
       is6 ∙ set-at sets 6 (slice_index entries 6) (f 15) (are 6 (omega arith)),
     ) refl
 
--- properties 9 to 15 of a list of properties
-pub values-of-own : (own : List ℤ) (f : ℕ → ℤ) → AreOwnOf own f →
-    AreValuesOf (slice_index_or own 9 (pos 0) ∷ slice_index_or own 10 (pos 0) ∷ slice_index_or own 11 (pos 0) ∷ slice_index_or own 12 (pos 0) ∷ slice_index_or own 13 (pos 0) ∷ slice_index_or own 14 (pos 0) ∷ slice_index_or own 15 (pos 0) ∷ []) f
-values-of-own own f are zero less = are 9 (omega arith)
-values-of-own own f are (suc zero) less = are 10 (omega arith)
-values-of-own own f are (suc (suc zero)) less = are 11 (omega arith)
-values-of-own own f are (suc (suc (suc zero))) less = are 12 (omega arith)
-values-of-own own f are (suc (suc (suc (suc zero)))) less = are 13 (omega arith)
-values-of-own own f are (suc (suc (suc (suc (suc zero))))) less = are 14 (omega arith)
-values-of-own own f are (suc (suc (suc (suc (suc (suc zero)))))) less = are 15 (omega arith)
-values-of-own own f are (suc (suc (suc (suc (suc (suc (suc k))))))) less = absurd (omega arith)
+-- what holds of seven numbers holds of all below 7
+pub each-of-seven : (P : ℕ → Type 0) → P 0 → P 1 → P 2 → P 3 → P 4 → P 5 → P 6 → (k : ℕ) → k < 7 → P k
+each-of-seven P a b c d e f g zero less = a
+each-of-seven P a b c d e f g (suc zero) less = b
+each-of-seven P a b c d e f g (suc (suc zero)) less = c
+each-of-seven P a b c d e f g (suc (suc (suc zero))) less = d
+each-of-seven P a b c d e f g (suc (suc (suc (suc zero)))) less = e
+each-of-seven P a b c d e f g (suc (suc (suc (suc (suc zero))))) less = f
+each-of-seven P a b c d e f g (suc (suc (suc (suc (suc (suc zero)))))) less = g
+each-of-seven P a b c d e f g (suc (suc (suc (suc (suc (suc (suc k))))))) less = absurd (omega arith)
+
+-- all of seven
+first-is : (x y : Bool) → (x && y) ≡ true → x ≡ true
+first-is true y h = refl
+first-is false y h = h
+
+pub all-of-seven : (x : ℕ → Bool) → ((((((x 0 && x 1) && x 2) && x 3) && x 4) && x 5) && x 6) ≡ true → (k : ℕ) → k < 7 → x k ≡ true
+all-of-seven x h =
+    let h5 = first-is (((((x 0 && x 1) && x 2) && x 3) && x 4) && x 5) (x 6) h in
+    let h4 = first-is ((((x 0 && x 1) && x 2) && x 3) && x 4) (x 5) h5 in
+    let h3 = first-is (((x 0 && x 1) && x 2) && x 3) (x 4) h4 in
+    let h2 = first-is ((x 0 && x 1) && x 2) (x 3) h3 in
+    let h1 = first-is (x 0 && x 1) (x 2) h2 in
+    each-of-seven (λ k. x k ≡ true) (first-is (x 0) (x 1) h1) (second_of (x 0) (x 1) h1) (second_of (x 0 && x 1) (x 2) h2) (second_of ((x 0 && x 1) && x 2) (x 3) h3)
+    (second_of (((x 0 && x 1) && x 2) && x 3) (x 4) h4) (second_of ((((x 0 && x 1) && x 2) && x 3) && x 4) (x 5) h5) (second_of (((((x 0 && x 1) && x 2) && x 3) && x 4) && x 5) (x 6) h)
+
+-- seven values that are near
+pub near-of-seven : (vs : List ℤ) (a b c d e f g : Bool) → a ≡ is_near (get_or vs 0 (pos 0)) → b ≡ is_near (get_or vs 1 (pos 0)) → c ≡ is_near (get_or vs 2 (pos 0)) → d ≡ is_near (get_or vs 3 (pos 0)) →
+    e ≡ is_near (get_or vs 4 (pos 0)) → f ≡ is_near (get_or vs 5 (pos 0)) → g ≡ is_near (get_or vs 6 (pos 0)) → ((((((a && b) && c) && d) && e) && f) && g) ≡ true → (k : ℕ) → k < 7 → is_near (get_or vs k (pos 0)) ≡ true
+near-of-seven vs a b c d e f g ia ib ic id ie if_ ig h =
+    let both : Bool → Bool → Bool = λ x y. x && y in
+    all-of-seven (λ k. is_near (get_or vs k (pos 0)))
+    (ap₂ both (ap₂ both (ap₂ both (ap₂ both (ap₂ both (ap₂ both (sym ia) (sym ib)) (sym ic)) (sym id)) (sym ie)) (sym if_)) (sym ig) ∙ h)
+
+pub slot-below : (n : ℕ) (x : ℤ) → n ≡ slot (neg_ℤ (pos 1024)) 2047 x → n < 2048
+slot-below n x is = let w = slot-within x in omega (arith, is, w)
 
 -- a value that is near has this entry
 pub near-slot : (x : ℤ) (n : ℕ) → is_near x ≡ true → pos n ≡ x -ℤ neg_ℤ (pos 1024) → n ≡ slot (neg_ℤ (pos 1024)) 2047 x

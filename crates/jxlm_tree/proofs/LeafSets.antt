@@ -81,9 +81,9 @@ rules-within first (decision p v a b) f i h =
           let less = within-end first (first + length (leaves_of a)) i is in
           record { from = from; before = omega arith }
       | inr below ↦ elim below [
-          | inl left ↦ let r = rules-within first a f i left in record { from = r.from; before = let e = r.before in omega arith }
-          | inr right ↦ let r = rules-within (first + length (leaves_of a)) b f i right in record { from = let e = r.from in omega arith; before = let e = r.before in omega arith }
-        ]
+        | inl left ↦ let r = rules-within first a f i left in record { from = r.from; before = let e = r.before in omega arith }
+        | inr right ↦ let r = rules-within (first + length (leaves_of a)) b f i right in record { from = let e = r.from in omega arith; before = let e = r.before in omega arith }
+      ]
     ]
 
 -- no other leaf is
@@ -136,12 +136,12 @@ found-right first p v a b f goes r =
       leaf = λ y. get_or-append-add (leaves_of a) (leaves_of b) r.place y ∙ r.leaf y ∙ rw goes refl;
     }
   where
-  ruled : (j : ℕ) → first ≤ j → j < first + (length (leaves_of a) + r.place) → (j < first + length (leaves_of a)) ⊎ (first + length (leaves_of a) ≤ j) → rules_out first (decision p v a b) f j ≡ true
-  ruled j from less (inl left) =
-      let here : (not (int_lt v (f p)) && is_within first (first + length (leaves_of a)) j) ≡ true = rw goes (within-is first (first + length (leaves_of a)) j from left) in
-      or-first (not (int_lt v (f p)) && is_within first (first + length (leaves_of a)) j) (rules_out first a f j) (rules_out (first + length (leaves_of a)) b f j) here
-  ruled j from less (inr right) =
-      or-third (not (int_lt v (f p)) && is_within first (first + length (leaves_of a)) j) (rules_out first a f j) (rules_out (first + length (leaves_of a)) b f j) (r.none_before j right (omega arith))
+    ruled : (j : ℕ) → first ≤ j → j < first + (length (leaves_of a) + r.place) → (j < first + length (leaves_of a)) ⊎ (first + length (leaves_of a) ≤ j) → rules_out first (decision p v a b) f j ≡ true
+    ruled j from less (inl left) =
+        let here : (not (int_lt v (f p)) && is_within first (first + length (leaves_of a)) j) ≡ true = rw goes (within-is first (first + length (leaves_of a)) j from left) in
+        or-first (not (int_lt v (f p)) && is_within first (first + length (leaves_of a)) j) (rules_out first a f j) (rules_out (first + length (leaves_of a)) b f j) here
+    ruled j from less (inr right) =
+        or-third (not (int_lt v (f p)) && is_within first (first + length (leaves_of a)) j) (rules_out first a f j) (rules_out (first + length (leaves_of a)) b f j) (r.none_before j right (omega arith))
 
 pub found : (first : ℕ) (t : Shape Leaf) (f : ℕ → ℤ) → Found first t f
 found first (leaf l) f =
@@ -219,17 +219,18 @@ stays-ruled : (n table own : ℕ) (old new : List ℕ) (f : ℕ → ℤ) (i : �
     ((j : ℕ) → (j < own) ⊎ (own < j) → j < table + n → has (set_for new j (f (9 + j))) i ≡ has (set_for old j (f (9 + j))) i) →
     has (set_for new own (f (9 + own))) i ≡ (has (set_for old own (f (9 + own))) i && b) → stays_from n table new f i ≡ (stays_from n table old f i && b)
 stays-ruled zero table own old new f i b from less kept here = absurd (omega arith)
-stays-ruled (suc n) table own old new f i b from less kept here = either (cases_lt table own) where
-  either : (table < own) ⊎ (own ≤ table) → stays_from (suc n) table new f i ≡ (stays_from (suc n) table old f i && b)
-  either (inl below) =
-      ap₂ (λ x y. x && y) (kept table (inl below) (omega arith))
-          (stays-ruled n (table + 1) own old new f i b (omega arith) (omega arith) (λ j apart less. kept j apart (omega arith)) here)
-      ∙ and-joins (has (set_for old table (f (9 + table))) i) (stays_from n (table + 1) old f i) b
-  either (inr at) =
-      let is : own ≡ table = omega arith in
-      ap₂ (λ x y. x && y) (subst (λ k. has (set_for new k (f (9 + k))) i ≡ (has (set_for old k (f (9 + k))) i && b)) is here)
-          (stays-kept n (table + 1) old new f i (λ j from less. kept j (inr (omega arith)) (omega arith)))
-      ∙ and-moves (has (set_for old table (f (9 + table))) i) (stays_from n (table + 1) old f i) b
+stays-ruled (suc n) table own old new f i b from less kept here =
+    either (cases_lt table own) (λ below. stays-ruled n (table + 1) own old new f i b (omega (arith, below)) (omega (arith, less)) (λ j apart upto. kept j apart (omega (arith, upto))) here)
+  where
+    either : (table < own) ⊎ (own ≤ table) → (table < own → stays_from n (table + 1) new f i ≡ (stays_from n (table + 1) old f i && b)) → stays_from (suc n) table new f i ≡ (stays_from (suc n) table old f i && b)
+    either (inl below) rest =
+        ap₂ (λ x y. x && y) (kept table (inl below) (omega arith)) (rest below)
+        ∙ and-joins (has (set_for old table (f (9 + table))) i) (stays_from n (table + 1) old f i) b
+    either (inr at) rest =
+        let is : own ≡ table = omega (arith, at, from) in
+        ap₂ (λ x y. x && y) (subst (λ k. has (set_for new k (f (9 + k))) i ≡ (has (set_for old k (f (9 + k))) i && b)) is here)
+        (stays-kept n (table + 1) old new f i (λ j more upto. kept j (inr (omega (arith, more, is))) (omega (arith, upto))))
+        ∙ and-moves (has (set_for old table (f (9 + table))) i) (stays_from n (table + 1) old f i) b
 
 table-from : (p : ℕ) → has_table p ≡ true → 9 ≤ p
 table-from p has = grind (arith, nat_tests)
@@ -248,21 +249,21 @@ ruled-tables old new leaves first end from last p v f i near tabled sized start 
     let within : own < 0 + 7 = omega (arith, lower, upper) in
     let is : 9 + own ≡ p = omega (arith, lower) in
     stays-ruled 7 0 own old new f i (not (not (int_lt v (f p)) && is_within first end i)) (omega arith) within
-        (λ j apart less. table-kept old new leaves from last own j v (f (9 + j)) i sized (omega (arith, less)) start at few taken apart)
-        (subst (λ k. has (set_for new own (f (9 + own))) i ≡ (has (set_for old own (f (9 + own))) i && not (not (int_lt v (f k)) && is_within first end i))) is
-            (table-taken old new leaves first end from last own v (f (9 + own)) i near sized (omega (arith, within)) start at few taken are))
+    (λ j apart less. table-kept old new leaves from last own j v (f (9 + j)) i sized (omega (arith, less)) start at few taken apart)
+    (subst (λ k. has (set_for new own (f (9 + own))) i ≡ (has (set_for old own (f (9 + own))) i && not (not (int_lt v (f k)) && is_within first end i))) is
+    (table-taken old new leaves first end from last own v (f (9 + own)) i near sized (omega (arith, within)) start at few taken are))
 
 -- what three parts of a tree rule out, one after another
 pub ruled-in-turn : (all less few least here left right : Bool) → less ≡ (all && not left) → few ≡ (less && not here) → least ≡ (few && not right) → least ≡ (all && not (here || (left || right)))
 ruled-in-turn all less few least here left right a b c =
     c ∙ ap (λ x. x && not right) (b ∙ ap (λ x. x && not here) a) ∙ bits all here left right
   where
-  bits : (s h l r : Bool) → (((s && not l) && not h) && not r) ≡ (s && not (h || (l || r)))
-  bits false h l r = refl
-  bits true true true r = refl
-  bits true true false r = refl
-  bits true false true r = refl
-  bits true false false r = refl
+    bits : (s h l r : Bool) → (((s && not l) && not h) && not r) ≡ (s && not (h || (l || r)))
+    bits false h l r = refl
+    bits true true true r = refl
+    bits true true false r = refl
+    bits true false true r = refl
+    bits true false false r = refl
 
 -- what is left of a tree at a decision that is not known
 pub pruned-open : (pins : Known) (p : ℕ) (v : ℤ) (a b : Shape Leaf) → known pins p ≡ None → pruned pins (decision p v a b) ≡ decision p v (pruned pins a) (pruned pins b)

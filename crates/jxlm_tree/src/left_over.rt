@@ -19,12 +19,12 @@ fn are_near(values: &[i32; 7]) -> bool
     ensures { result ≡ true → (k : ℕ) → k < 7 → is_near (slice_index_or values.now k (pos 0)) ≡ true }
 {
     is_near(values[0])
-        && is_near(values[1])
-        && is_near(values[2])
-        && is_near(values[3])
-        && is_near(values[4])
-        && is_near(values[5])
-        && is_near(values[6])
+        & is_near(values[1])
+        & is_near(values[2])
+        & is_near(values[3])
+        & is_near(values[4])
+        & is_near(values[5])
+        & is_near(values[6])
 }
 
 // Whether this value has an entry of its own.
@@ -49,6 +49,14 @@ fn far_entry(value: i32) -> usize
     ensures { result ≡ slot (neg_ℤ (pos 1024)) 2047 value }
 {
     entry_of(BASE, ENTRIES - 1, value)
+}
+
+// Properties 9 to 15, of properties 0 to 15.
+#[inline(always)]
+fn values_of(own: &[i32; 16]) -> [i32; 7]
+    ensures { (f : ℕ → ℤ) → AreOwnOf own.now f → AreValuesOf result f }
+{
+    [own[9], own[10], own[11], own[12], own[13], own[14], own[15]]
 }
 
 impl LeafSets {
@@ -151,7 +159,7 @@ impl LeafSets {
         ensures listed { IsListed self.now.leaves.items result }
         ensures cost { steps.new ≡ steps.old + 8 }
     {
-        let values = [own[9], own[10], own[11], own[12], own[13], own[14], own[15]];
+        let values = values_of(own);
         let left = self.left(&values, steps);
         steps.tick();
         self.leaves[left.trailing_zeros() as usize]

@@ -115,7 +115,9 @@ fn is_served(tree: &MaTreeNode, known: &Known) -> bool
             left,
             right,
         } => match known_value(known, *property) {
-            None => is_cut_served(*property, *value) && is_served(left, known) && is_served(right, known),
+            None => is_cut_served(*property, *value)
+                && is_served(left, known)
+                && is_served(right, known),
             Some(x) => {
                 if x > *value {
                     is_served(left, known)

@@ -32,28 +32,28 @@ loop-entry-preserved c =
       rest = λ e out. rest e out;
     }
   where
-  done : (e : ℕ) → c.args.from ≤ e → (e < c.loop-entry.entry) ⊎ (c.loop-entry.entry ≤ e) → e < c.loop-entry.entry + 1 → (i : ℕ) → i < 64 →
-      has (slice_index (set c.loop-entry.sets c.loop-entry.entry (bit_and (get_or c.loop-entry.sets c.loop-entry.entry 0) (18446744073709551615 - c.args.leaves))) e) i ≡ (has (slice_index c.args.sets.now e) i && not (has c.args.leaves i))
-  done e from (inl less) upto i few =
-      let ne : e ≢ c.loop-entry.entry = omega arith in
-      ap (λ s. has s i) (get_or-set_other c.loop-entry.sets c.loop-entry.entry e (bit_and (get_or c.loop-entry.sets c.loop-entry.entry 0) (18446744073709551615 - c.args.leaves)) 0 ne) ∙ c.loop-entry.invariant.done e from less i few
-  done e from (inr more) upto i few =
-      let is : c.loop-entry.entry ≡ e = omega arith in
-      let fits : c.args.leaves < 2 ^ 64 = c.ranges.leaves.fits in
-      let within : c.loop-entry.entry < length c.loop-entry.sets = let h = c.loop-entry.auto.sets in let r = c.requires.inside in let t = c.loop-entry-test.true in omega (arith, h, r, t) in
-      subst (λ k. has (slice_index (set c.loop-entry.sets c.loop-entry.entry (bit_and (get_or c.loop-entry.sets c.loop-entry.entry 0) (18446744073709551615 - c.args.leaves))) k) i ≡ (has (slice_index c.args.sets.now k) i && not (has c.args.leaves i))) is
-          (ap (λ s. has s i) (get_or-set_same c.loop-entry.sets c.loop-entry.entry (bit_and (get_or c.loop-entry.sets c.loop-entry.entry 0) (18446744073709551615 - c.args.leaves)) 0 within)
-          ∙ has-and (get_or c.loop-entry.sets c.loop-entry.entry 0) (18446744073709551615 - c.args.leaves) i
-          ∙ ap₂ (λ a b. a && b) (ap (λ s. has s i) (c.loop-entry.invariant.rest c.loop-entry.entry (inr (omega arith)))) (has-not c.args.leaves i fits few))
+    done : (e : ℕ) → c.args.from ≤ e → (e < c.loop-entry.entry) ⊎ (c.loop-entry.entry ≤ e) → e < c.loop-entry.entry + 1 → (i : ℕ) → i < 64 →
+        has (slice_index (set c.loop-entry.sets c.loop-entry.entry (bit_and (get_or c.loop-entry.sets c.loop-entry.entry 0) (18446744073709551615 - c.args.leaves))) e) i ≡ (has (slice_index c.args.sets.now e) i && not (has c.args.leaves i))
+    done e from (inl less) upto i few =
+        let ne : e ≢ c.loop-entry.entry = omega arith in
+        ap (λ s. has s i) (get_or-set_other c.loop-entry.sets c.loop-entry.entry e (bit_and (get_or c.loop-entry.sets c.loop-entry.entry 0) (18446744073709551615 - c.args.leaves)) 0 ne) ∙ c.loop-entry.invariant.done e from less i few
+    done e from (inr more) upto i few =
+        let is : c.loop-entry.entry ≡ e = omega arith in
+        let fits : c.args.leaves < 2 ^ 64 = c.ranges.leaves.fits in
+        let within : c.loop-entry.entry < length c.loop-entry.sets = let h = c.loop-entry.auto.sets in let r = c.requires.inside in let t = c.loop-entry-test.true in omega (arith, h, r, t) in
+        subst (λ k. has (slice_index (set c.loop-entry.sets c.loop-entry.entry (bit_and (get_or c.loop-entry.sets c.loop-entry.entry 0) (18446744073709551615 - c.args.leaves))) k) i ≡ (has (slice_index c.args.sets.now k) i && not (has c.args.leaves i))) is
+        (ap (λ s. has s i) (get_or-set_same c.loop-entry.sets c.loop-entry.entry (bit_and (get_or c.loop-entry.sets c.loop-entry.entry 0) (18446744073709551615 - c.args.leaves)) 0 within)
+        ∙ has-and (get_or c.loop-entry.sets c.loop-entry.entry 0) (18446744073709551615 - c.args.leaves) i
+        ∙ ap₂ (λ a b. a && b) (ap (λ s. has s i) (c.loop-entry.invariant.rest c.loop-entry.entry (inr (omega arith)))) (has-not c.args.leaves i fits few))
 
-  rest : (e : ℕ) → (e < c.args.from) ⊎ (c.loop-entry.entry + 1 ≤ e) → slice_index (set c.loop-entry.sets c.loop-entry.entry (bit_and (get_or c.loop-entry.sets c.loop-entry.entry 0) (18446744073709551615 - c.args.leaves))) e ≡ slice_index c.args.sets.now e
-  rest e (inl below) =
-      let begun = c.loop-entry.invariant.begun in
-      let ne : e ≢ c.loop-entry.entry = omega arith in
-      get_or-set_other c.loop-entry.sets c.loop-entry.entry e (bit_and (get_or c.loop-entry.sets c.loop-entry.entry 0) (18446744073709551615 - c.args.leaves)) 0 ne ∙ c.loop-entry.invariant.rest e (inl below)
-  rest e (inr above) =
-      let ne : e ≢ c.loop-entry.entry = omega arith in
-      get_or-set_other c.loop-entry.sets c.loop-entry.entry e (bit_and (get_or c.loop-entry.sets c.loop-entry.entry 0) (18446744073709551615 - c.args.leaves)) 0 ne ∙ c.loop-entry.invariant.rest e (inr (omega arith))
+    rest : (e : ℕ) → (e < c.args.from) ⊎ (c.loop-entry.entry + 1 ≤ e) → slice_index (set c.loop-entry.sets c.loop-entry.entry (bit_and (get_or c.loop-entry.sets c.loop-entry.entry 0) (18446744073709551615 - c.args.leaves))) e ≡ slice_index c.args.sets.now e
+    rest e (inl below) =
+        let begun = c.loop-entry.invariant.begun in
+        let ne : e ≢ c.loop-entry.entry = omega arith in
+        get_or-set_other c.loop-entry.sets c.loop-entry.entry e (bit_and (get_or c.loop-entry.sets c.loop-entry.entry 0) (18446744073709551615 - c.args.leaves)) 0 ne ∙ c.loop-entry.invariant.rest e (inl below)
+    rest e (inr above) =
+        let ne : e ≢ c.loop-entry.entry = omega arith in
+        get_or-set_other c.loop-entry.sets c.loop-entry.entry e (bit_and (get_or c.loop-entry.sets c.loop-entry.entry 0) (18446744073709551615 - c.args.leaves)) 0 ne ∙ c.loop-entry.invariant.rest e (inr (omega arith))
 
 pub returns : goal.returns
 returns c = λ e i less few. either e i few (cases_lt e c.args.from) (cases_lt e c.args.end) where

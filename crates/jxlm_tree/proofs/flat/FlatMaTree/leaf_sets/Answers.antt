@@ -12,5 +12,5 @@ returns-clause-sets c =
     let channel_fits : SFits w32 c.read_as_signed.result = search rules in
     let stream_fits : SFits w32 c.read_as_signed-2.result = search rules in
     subst (λ (u : FlatTree). IfSome c.in_ok-of.field-0 (AreSetsOf u)) c.self.view_is
-    (sets-made t.tree.value c.deref-2.result.now c.deref-3.result.now t.channel t.stream_idx t.prev_channels (to_z w32 (of_z w32 c.read_as_signed.result)) (to_z w32 (of_z w32 c.read_as_signed-2.result)) c.in_ok-of.field-0
-    c.self.invariant.tree.multipliers c.deref-2.ensures c.deref-3.ensures (to_z-of_z w32 c.read_as_signed.result channel_fits ∙ c.read_as_signed.ensures) (to_z-of_z w32 c.read_as_signed-2.result stream_fits ∙ c.read_as_signed-2.ensures) c.in_ok-of.ensures)
+    (sets-made t.tree.value c.deref.result.now c.deref-2.result.now t.channel t.stream_idx t.prev_channels (to_z w32 (of_z w32 c.read_as_signed.result)) (to_z w32 (of_z w32 c.read_as_signed-2.result)) c.in_ok-of.field-0
+    c.self.invariant.tree.multipliers c.deref.ensures c.deref-2.ensures (to_z-of_z w32 c.read_as_signed.result channel_fits ∙ c.read_as_signed.ensures) (to_z-of_z w32 c.read_as_signed-2.result stream_fits ∙ c.read_as_signed-2.ensures) c.in_ok-of.ensures)
