@@ -1,18 +1,17 @@
 -- Sets of leaves, bit by bit.
-use Rattle.std.proofs.Common.{◌≡◌, ◌∙◌, ℕ, zero, suc, ◌∷◌, ℤ, ◌+◌, ◌-◌, ◌*◌, ◌%◌, ◌^◌, ◌<◌, ◌≤◌, ◌<ℤ◌, ◌≤ℤ◌, ◌-ℤ◌, min, eqb, Bool, true, false, List, [], ◌++◌, drop, length, get_or, take, refl, sym, ap, ap₂, subst, arith, w64, ◌⊎◌, inl, inr}
+use Rattle.std.proofs.Common.{◌≡◌, ◌∙◌, ℕ, zero, suc, ℤ, ◌+◌, ◌-◌, ◌*◌, ◌%◌, ◌^◌, ◌<◌, ◌≤◌, ◌-ℤ◌, min, Bool, true, false, List, ◌++◌, drop, length, get_or, take, refl, sym, ap, ap₂, arith, w64, ◌⊎◌, inl, inr}
 use Rattle.std.specs.Int.{bit_at, bit_not, trailing_zeros}
 use Rattle.std.specs.Int.Bits.{bit_and}
-use Rattle.std.specs.Prelude.{◌==◌, ◌&&◌, not, nat_lt, int_lt, pos, neg_ℤ, replicate, slice_index, slice_index_or}
-use Rattle.std.proofs.lemmas.Bool.{cases_lt, eqb-true, eq-eqb, false≢true}
-use Rattle.std.proofs.lemmas.Bool.Decides.{nat_tests, eqb_tells}
+use Rattle.std.specs.Prelude.{◌==◌, ◌&&◌, not, nat_lt, int_lt, pos, neg_ℤ, replicate, slice_index}
+use Rattle.std.proofs.lemmas.Bool.{cases_lt, false≢true}
+use Rattle.std.proofs.lemmas.Bool.Decides.{nat_tests}
 use Rattle.std.proofs.lemmas.Int.{ints}
 use Rattle.std.proofs.lemmas.List.{append-nil, drop_all, get_or-replicate, take_all}
 use Rattle.std.proofs.lemmas.Nat.{one_shl}
 use Rattle.std.proofs.lemmas.Nat.Bits.{bit_at-lt, bit_at-zero, bit_at-trailing_zeros, bit_at_and, bit_at_not, bit_at_ones, bit_at_mask_above, bit_at_mask_below, bit_at_mask_inside}
 use Rattle.jxlm_tree.specs.ClusterTables.{slot}
-use Rattle.jxlm_tree.specs.Inner.LeafSets.{AreEntriesOf, AreValuesOf, is_in_range, is_near, is_within}
+use Rattle.jxlm_tree.specs.Inner.LeafSets.{AreEntriesOf, is_in_range, is_near, is_within}
 use Rattle.jxlm_tree.specs.SetTables.{has, set_for, stays}
-use Rattle.jxlm_tree.proofs.FlatWalks.{int_lt-tells}
 use Rattle.jxlm_tree.proofs.SumTrees.{second_of}
 
 -- a bit is 0 or 1

@@ -1,9 +1,9 @@
 -- The first leaf that no decision of a tree rules out is the one that is reached.
-use Rattle.std.proofs.Common.{◌≡◌, ◌∙◌, ℕ, zero, suc, ℤ, pos, w32, ◌+◌, ◌-◌, ◌<◌, ◌≤◌, Bool, true, false, ◌||◌, List, [], ◌∷◌, ◌++◌, length, get_or, set, take, refl, sym, ap, ap₂, subst, arith, ◌⊎◌, inl, inr, None, Some, Option}
-use Rattle.std.specs.Prelude.{◌*◌, ◌&&◌, not, nat_lt, int_lt, neg_ℤ, IfSome}
+use Rattle.std.proofs.Common.{◌≡◌, ◌∙◌, ℕ, zero, suc, ℤ, pos, w32, ◌+◌, ◌-◌, ◌<◌, ◌≤◌, Bool, true, false, ◌||◌, List, [], ◌++◌, length, get_or, refl, sym, ap, ap₂, subst, arith, ◌⊎◌, inl, inr, None, Some, Option}
+use Rattle.std.specs.Prelude.{◌*◌, ◌&&◌, not, int_lt, neg_ℤ, IfSome}
 use Rattle.std.proofs.lemmas.Bool.{cases_lt, false≢true}
 use Rattle.std.proofs.lemmas.Bool.Decides.{nat_tests}
-use Rattle.std.proofs.lemmas.List.{length-append, get_or_append_left, get_or-append-add, get_or_push, get_or_read, take_more}
+use Rattle.std.proofs.lemmas.List.{length-append, get_or_append_left, get_or-append-add}
 use Rattle.jxlm_tree.specs.Tree.{AllLeaves, Shape, StandsAtLeaf, leaf, decision, depth, walk}
 use Rattle.jxlm_tree.specs.Inner.Pruned.{known, pruned, taken}
 use Rattle.jxlm_tree.specs.FlatTree.{HasMultiplier, flat_tree}

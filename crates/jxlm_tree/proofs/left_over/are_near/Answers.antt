@@ -1,4 +1,4 @@
-use Rattle.std.proofs.Common.{◌≡◌, ◌∙◌, ℕ, ℤ, ap, get_or, rules, SFits, w32}
+use Rattle.std.proofs.Common.{◌∙◌, ap, get_or, rules, SFits, w32}
 use Rattle.std.specs.Prelude.{pos}
 use Rattle.std.proofs.lemmas.Int.{to_z-of_z}
 use Rattle.jxlm_tree.specs.Inner.LeafSets.{is_near}

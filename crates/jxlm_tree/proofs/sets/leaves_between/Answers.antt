@@ -1,4 +1,4 @@
-use Rattle.std.proofs.Common.{◌^◌, ◌-◌, ℕ, ap, ap₂, ◌∙◌, arith, pow_mono}
+use Rattle.std.proofs.Common.{◌-◌, ℕ, ap, ap₂, ◌∙◌, arith, pow_mono}
 use Rattle.jxlm_tree.specs.SetTables.{has}
 use Rattle.jxlm_tree.proofs.LeafBits.{has-between, one-at}
 use Rattle.jxlm_tree.proofs.sets.leaves_between.Goals as goal

@@ -1,5 +1,4 @@
-use Rattle.std.proofs.Common.{◌≡◌, ◌∙◌, ℕ, ◌+◌, ◌-◌, ◌<◌, ◌≤◌, ◌≢◌, ◌^◌, Bool, true, false, length, get_or, set, get_or-set_other, get_or-set_same, sym, ap, ap₂, subst, arith, w64, refl, ◌⊎◌, inl, inr}
-use Rattle.std.specs.Int.{bit_not}
+use Rattle.std.proofs.Common.{◌≡◌, ◌∙◌, ℕ, ◌+◌, ◌-◌, ◌<◌, ◌≤◌, ◌≢◌, ◌^◌, Bool, true, false, length, get_or, set, get_or-set_other, get_or-set_same, sym, ap, ap₂, subst, arith, refl, ◌⊎◌, inl, inr}
 use Rattle.std.specs.Int.Bits.{bit_and}
 use Rattle.std.specs.Prelude.{◌&&◌, not, slice_index}
 use Rattle.std.proofs.lemmas.Bool.{cases_lt}

@@ -1,4 +1,4 @@
-use Rattle.std.proofs.Common.{arith, rules, ◌≡◌, ◌∙◌, ◌-◌, ◌<◌, ℕ, ℤ, true, sym, refl, length, get_or, w64}
+use Rattle.std.proofs.Common.{arith, ◌≡◌, ◌∙◌, ◌-◌, ℕ, ℤ, true, sym, refl, length, w64}
 use Rattle.std.specs.Prelude.{pos, slice_index_or}
 use Rattle.std.specs.Int.{trailing_zeros}
 use Rattle.jxlm_tree.specs.SetTables.{has, stays}

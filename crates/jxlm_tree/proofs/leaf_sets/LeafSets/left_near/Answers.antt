@@ -1,8 +1,7 @@
-use Rattle.std.proofs.Common.{◌≡◌, ◌∙◌, ◌<◌, ◌+◌, ℕ, ℤ, List, ap, sym, subst, ◌∷◌, [], arith, get_or, rules, SFits, w32, to_z, of_z}
+use Rattle.std.proofs.Common.{◌≡◌, ◌∙◌, ◌<◌, ◌+◌, ℕ, ℤ, List, ap, ◌∷◌, [], arith, get_or, rules, SFits, w32, to_z, of_z}
 use Rattle.std.specs.Prelude.{neg_ℤ, pos, slice_index}
 use Rattle.std.proofs.lemmas.Int.{to_z-of_z}
 use Rattle.jxlm_tree.specs.ClusterTables.{slot}
-use Rattle.jxlm_tree.specs.Inner.LeafSets.{AreEntriesOf, is_near}
 use Rattle.jxlm_tree.proofs.LeafBits.{each-of-seven, slot-below}
 use Rattle.jxlm_tree.proofs.leaf_sets.LeafSets.left_near.Goals as goal
 

@@ -1,4 +1,4 @@
-use Rattle.std.proofs.Common.{◌≡◌, ◌∙◌, ◌++◌, ℕ, ◌-◌, ◌≤◌, List, length, take, drop, arith, rules, ap, ap₂, sym, true}
+use Rattle.std.proofs.Common.{◌≡◌, ◌∙◌, ◌++◌, ℕ, ◌-◌, List, length, take, drop, arith, ap, ap₂}
 use Rattle.std.specs.Prelude.{◌&&◌, Bool, not}
 use Rattle.std.proofs.lemmas.List.{length-replicate}
 use Rattle.jxlm_tree.specs.Inner.LeafSets.{leaves_of, rules_out}
