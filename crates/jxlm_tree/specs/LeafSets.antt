@@ -24,8 +24,8 @@ pub record IsFirst (sets : List ℕ) (leaves : List Leaf) (f : ℕ → ℤ) (l :
   pub none_before : (i : ℕ) → i < place → stays sets f i ≡ false
   pub leaf : l ≡ get_or leaves place l
 
--- The first leaf that no table rules out is the one to which the tree leads, and each leaf is one of the tree. There are
--- no more tables than the tree is deep.
+-- The first leaf that no table rules out is the one to which the tree leads, and each leaf is one of the tree. There
+-- are no more tables than the tree is deep.
 pub record AreSetsOf (t : FlatTree) (s : LeafSets) : Type 0 where
   pub leaf : (f : ℕ → ℤ) (l : Leaf) → IsFirst s.sets.items s.leaves.items f l → l ≡ leaf_reached t f
   pub stands : (l : Leaf) → IsListed s.leaves.items l → StandsAtLeaf t.tree l

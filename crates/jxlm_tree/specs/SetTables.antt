@@ -7,7 +7,8 @@ use Rattle.jxlm_tree.specs.ClusterTables.{slot}
 unfoldable pub has : ℕ → ℕ → Bool
 has set i = bit_at set i == 1
 
--- the set of a table for x: its first one serves all up to -1024, each other one the next value, and the last all from 1023 on
+-- the set of a table for x: its first one serves all up to -1024, each other one the next value, and the last all from
+-- 1023 on
 unfoldable pub set_for : List ℕ → ℕ → ℤ → ℕ
 set_for sets table x = slice_index sets (table * 2048 + slot (neg_ℤ (pos 1024)) 2047 x)
 

@@ -103,8 +103,8 @@ impl LeafSets {
         p15: i32,
         steps: &mut Steps,
     ) -> u64
-        ensures left { (f : ℕ → ℤ) → AreValuesOf (p9 ∷ p10 ∷ p11 ∷ p12 ∷ p13 ∷ p14 ∷ p15 ∷ []) f → (i : ℕ) → has result i
-            ≡ stays self.now.sets.items f i }
+        ensures left { (f : ℕ → ℤ) → AreValuesOf (p9 ∷ p10 ∷ p11 ∷ p12 ∷ p13 ∷ p14 ∷ p15 ∷ []) f → (i : ℕ) →
+            has result i ≡ stays self.now.sets.items f i }
         ensures cost { steps.new ≡ steps.old + 7 }
     {
         let entries = [
@@ -165,11 +165,12 @@ impl LeafSets {
         self.leaves[left.trailing_zeros() as usize]
     }
 
-    /// The leaf to which these properties, 0 to 15, lead in the trees that these are the sets of. Each table is looked up in
-    /// one step, and the leaf in one more.
+    /// The leaf to which these properties, 0 to 15, lead in the trees that these are the sets of. Each table is looked
+    /// up in one step, and the leaf in one more.
     #[inline(always)]
     pub fn leaf_by(&self, own: &[i32; 16], steps: &mut Steps) -> Leaf
-        ensures leaf { (t : FlatTree) (f : ℕ → ℤ) → AreSetsOf t self.now → AreOwnOf own.now f → result ≡ leaf_reached t f }
+        ensures leaf { (t : FlatTree) (f : ℕ → ℤ) → AreSetsOf t self.now → AreOwnOf own.now f →
+            result ≡ leaf_reached t f }
         ensures stands { (t : FlatTree) → AreSetsOf t self.now → StandsAtLeaf t.tree result }
         ensures multiplier { (t : FlatTree) → AreSetsOf t self.now → HasMultiplier result }
         ensures cost { (t : FlatTree) → AreSetsOf t self.now → steps.new ≤ steps.old + depth t.tree + 1 }

@@ -103,7 +103,8 @@ fn is_cut_served(property: u32, value: i32) -> bool
     9 <= property && property < 16 && BASE <= value && value < BASE + ENTRIES as i32 - 1
 }
 
-// Whether all decisions of a tree are on properties that have tables and cut in their range, once known decisions are taken.
+// Whether all decisions of a tree are on properties that have tables and cut in their range, once known decisions are
+// taken.
 fn is_served(tree: &MaTreeNode, known: &Known) -> bool
     ensures { result ≡ is_served (pruned known.now (shape_of tree.now)) }
 {
@@ -193,8 +194,9 @@ impl LeafSets {
 }
 
 impl FlatMaTree {
-    /// The tree as sets of leaves, by which a leaf is found with no chain of look-ups, where the tree is small: at most 64
-    /// leaves, all decisions on properties 9 to 15 with values in -1024 to 1022, and a depth of at least seven.
+    /// The tree as sets of leaves, by which a leaf is found with no chain of look-ups, where the tree is small. It is
+    /// small if it has at most 64 leaves and a depth of at least seven, and all its decisions are on properties 9 to 15
+    /// with values in -1024 to 1022.
     ///
     /// # Errors
     ///

@@ -40,12 +40,13 @@ abbrev pub leaves_of : Shape Leaf → List Leaf
 leaves_of (leaf l) = l ∷ []
 leaves_of (decision p v left right) = leaves_of left ++ leaves_of right
 
--- a decision of the tree, before whose leaves there are `first` others, rules out leaf i: it is answered to the right, and
--- the leaf is on its left side
+-- a decision of the tree, before whose leaves there are `first` others, rules out leaf i: it is answered to the right,
+-- and the leaf is on its left side
 abbrev pub rules_out : ℕ → Shape Leaf → (ℕ → ℤ) → ℕ → Bool
 rules_out first (leaf l) f i = false
 rules_out first (decision p v left right) f i =
-    (not (int_lt v (f p)) && is_within first (first + length (leaves_of left)) i) || (rules_out first left f i || rules_out (first + length (leaves_of left)) right f i)
+    (not (int_lt v (f p)) && is_within first (first + length (leaves_of left)) i)
+    || (rules_out first left f i || rules_out (first + length (leaves_of left)) right f i)
 
 -- the sets are those of the tree's leaves, and there are no more tables than the depth
 pub record AreOf (t : Shape Leaf) (depth : ℕ) (s : LeafSets) : Type 0 where
