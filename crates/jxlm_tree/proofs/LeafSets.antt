@@ -14,12 +14,14 @@ use Rattle.jxlm_tree.specs.declared.tree.MaTree.{MaTree}
 use Rattle.jxlm_tree.proofs.FlatMade.{known_by}
 use Rattle.jxlm_tree.specs.Inner.LeafSets.{AreOf, has_table, is_in_range, is_within, leaves_of, rules_out}
 use Rattle.jxlm_tree.specs.LeafSets.{AreSetsOf, IsFirst, IsListed}
+use Rattle.jxlm_tree.specs.SmallTrees.{FitsSets, TakesSets}
 use Rattle.jxlm_tree.specs.SetTables.{has, set_for, stays, stays_from}
 use Rattle.jxlm_tree.specs.declared.flat.Leaf.{Leaf}
 use Rattle.jxlm_tree.specs.declared.leaf_sets.LeafSets.{LeafSets}
 use Rattle.jxlm_tree.specs.declared.marks.Known.{Known}
 use Rattle.jxlm_tree.specs.ClusterTables.{slot}
 use Rattle.jxlm_tree.proofs.LeafBits.{AreTaken, table-kept, table-taken}
+use Rattle.jxlm_tree.proofs.FlatCounts.{undecided-is}
 use Rattle.jxlm_tree.proofs.FlatSteps.{walk-pruned}
 use Rattle.jxlm_tree.proofs.FlatTrees.{standing_leaf}
 use Rattle.jxlm_tree.proofs.FlatWalks.{pruned-stands}
@@ -302,6 +304,19 @@ sets-made v r d channel stream earlier a b (Some s) multipliers root_is deep_is 
     (subst (λ (u : MaTree). AreOf (pruned (known_at channel stream earlier) (shape_of u.root)) d.depth s) root_is
     (subst (λ (z : ℤ). AreOf (pruned (known_by (int_wrap w32 (pos channel)) z earlier) (shape_of r.root)) d.depth s) b_is
     (subst (λ (z : ℤ). AreOf (pruned (known_by z b earlier) (shape_of r.root)) d.depth s) a_is h)))))
+
+-- a tree that is made into no sets
+pub none-made : (v r d : MaTree) (channel stream earlier : ℕ) (a b : ℤ) (o : Option LeafSets) → r ≡ v → d ≡ v → a ≡ int_wrap w32 (pos channel) → b ≡ int_wrap w32 (pos stream) →
+    (o ≡ None → FitsSets (pruned (known_by a b earlier) (shape_of r.root)) d.depth → ⊥) → o ≡ None → TakesSets (flat_tree (shape_of v.root) channel stream earlier) → ⊥
+none-made v r d channel stream earlier a b o root_is deep_is a_is b_is h none takes =
+    let left : FitsSets (pruned (known_at channel stream earlier) (shape_of v.root)) (depth (shape_of v.root)) =
+    subst (λ (u : Shape Leaf). FitsSets u (depth (shape_of v.root))) (undecided-is (flat_tree (shape_of v.root) channel stream earlier) (shape_of v.root)) takes in
+    h none
+    (subst (λ (z : ℤ). FitsSets (pruned (known_by z b earlier) (shape_of r.root)) d.depth) (sym a_is)
+    (subst (λ (z : ℤ). FitsSets (pruned (known_by (int_wrap w32 (pos channel)) z earlier) (shape_of r.root)) d.depth) (sym b_is)
+    (subst (λ (u : MaTree). FitsSets (pruned (known_at channel stream earlier) (shape_of u.root)) d.depth) (sym root_is)
+    (subst (λ (u : MaTree). FitsSets (pruned (known_at channel stream earlier) (shape_of v.root)) u.depth) (sym deep_is)
+    (subst (λ (n : ℕ). FitsSets (pruned (known_at channel stream earlier) (shape_of v.root)) n) (sym v.depth_is) left)))))
 
 -- the same with numbers that are read elsewhere
 pub here-is : (v w x : ℤ) (a b c d i : ℕ) (few less : Bool) → w ≡ v → a ≡ c → b ≡ d → few ≡ (less && not (not (int_lt w x) && is_within a b i)) → few ≡ (less && not (not (int_lt v x) && is_within c d i))

@@ -9,6 +9,7 @@ pub mod ShortTrees
 pub mod ClusterTables
 pub mod LeafSets
 pub mod SetTables
+pub mod SmallTrees
 pub mod Paths
 pub mod Steps
 pub mod SumTrees

@@ -3,11 +3,12 @@
 //! The leaves have numbers, from left to right. A decision that is answered to the right rules out the leaves of its
 //! left side, so the leaf that is reached is the first one that no decision rules out.
 
-ghost use Rattle.std.specs.Prelude.{◌≡◌, ℕ, ℤ, ◌+◌, ◌<◌, ◌≤◌, ◌++◌, ◌&&◌, not, int_lt, true, length, slice_index, IfOk, IfErr, IfSome, OnOk};
+ghost use Rattle.std.specs.Prelude.{◌≡◌, ℕ, ℤ, ◌+◌, ◌<◌, ◌≤◌, ◌++◌, ◌&&◌, not, int_lt, true, length, min, None, slice_index, IfOk, IfErr, IfSome, OnOk};
 ghost use Rattle.jxlm_bits.specs.ErrorKind.{NoMemory, kind_of};
 ghost use Rattle.jxlm_tree.specs.LeafSets.{AreSetsOf};
+ghost use Rattle.jxlm_tree.specs.SmallTrees.{FitsSets, TakesSets, has_table, is_in_range, is_served, leaves_of};
 ghost use Rattle.jxlm_tree.specs.SetTables.{has, stays};
-ghost use Rattle.jxlm_tree.specs.Inner.LeafSets.{AreOf, has_table, is_in_range, is_served, is_within, leaves_of, rules_out};
+ghost use Rattle.jxlm_tree.specs.Inner.LeafSets.{AreOf, is_within, rules_out};
 ghost use Rattle.jxlm_tree.specs.Inner.Pruned.{pruned};
 ghost use Rattle.jxlm_tree.specs.Inner.TreeShape.{shape_of};
 
@@ -74,7 +75,7 @@ fn rule_out(sets: &mut [u64], property: u32, value: i32, first: usize, end: usiz
 
 // How many leaves are left of a tree once known decisions are taken.
 fn count_leaves(tree: &MaTreeNode, known: &Known) -> usize
-    ensures { result ≤ 64 → result ≡ length (leaves_of (pruned known.now (shape_of tree.now))) }
+    ensures { result ≡ min (length (leaves_of (pruned known.now (shape_of tree.now)))) 18446744073709551615 }
 {
     match tree {
         MaTreeNode::Leaf(_) => 1,
@@ -180,7 +181,8 @@ impl LeafSets {
         known: &Known,
         deep: usize,
     ) -> std::result::Result<Option<LeafSets>, AllocError>
-        ensures { IfOk result (λ o. IfSome o (AreOf (pruned known.now (shape_of tree.now)) deep)) }
+        ensures sets { IfOk result (λ o. IfSome o (AreOf (pruned known.now (shape_of tree.now)) deep)) }
+        ensures none { IfOk result (λ o. o ≡ None → FitsSets (pruned known.now (shape_of tree.now)) deep → ⊥) }
     {
         let count = count_leaves(tree, known);
         if deep < TABLES || count > MOST_LEAVES || !is_served(tree, known) {
@@ -203,6 +205,7 @@ impl FlatMaTree {
     /// `Buffer` if it is out of memory, and no other.
     pub fn leaf_sets(&self, alloc: Global) -> Result<Option<LeafSets>>
         ensures sets { IfOk result (λ o. IfSome o (AreSetsOf self.now)) }
+        ensures none { IfOk result (λ o. o ≡ None → TakesSets self.now → ⊥) }
         ensures err { IfErr result (λ e. kind_of e ≡ NoMemory) }
     {
         let known = Known {

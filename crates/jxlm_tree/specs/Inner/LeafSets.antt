@@ -1,6 +1,7 @@
 -- Which leaves the decisions of a tree rule out, and the sets that are made of them.
-use Rattle.std.specs.Prelude.{◌≡◌, ℕ, ◌+◌, ◌<◌, ◌≤◌, ◌&&◌, ◌||◌, not, nat_lt, Bool, true, false, ℤ, pos, neg_ℤ, int_lt, List, [], ◌∷◌, ◌++◌, length, slice_index, slice_index_or}
+use Rattle.std.specs.Prelude.{◌≡◌, ℕ, ◌+◌, ◌<◌, ◌≤◌, ◌&&◌, ◌||◌, not, nat_lt, Bool, false, ℤ, pos, neg_ℤ, int_lt, List, length, slice_index, slice_index_or}
 use Rattle.jxlm_tree.specs.ClusterTables.{slot}
+pub use Rattle.jxlm_tree.specs.SmallTrees.{has_table, is_in_range, is_served, leaves_of}
 use Rattle.jxlm_tree.specs.SetTables.{stays}
 use Rattle.jxlm_tree.specs.Tree.{Shape, leaf, decision}
 use Rattle.jxlm_tree.specs.declared.flat.Leaf.{Leaf}
@@ -10,22 +11,9 @@ use Rattle.jxlm_tree.specs.declared.leaf_sets.LeafSets.{LeafSets}
 abbrev pub is_within : ℕ → ℕ → ℕ → Bool
 is_within first end i = not (nat_lt i first) && nat_lt i end
 
--- a property that has a table
-abbrev pub has_table : ℕ → Bool
-has_table p = not (nat_lt p 9) && nat_lt p 16
-
--- a cut that the entries of a table tell from all other values
-abbrev pub is_in_range : ℤ → Bool
-is_in_range v = not (int_lt v (neg_ℤ (pos 1024))) && int_lt v (pos 1023)
-
 -- a value that has an entry of its own
 abbrev pub is_near : ℤ → Bool
 is_near v = not (int_lt v (neg_ℤ (pos 1024))) && int_lt v (pos 1024)
-
--- all decisions of a tree are on properties that have tables, and cut in their range
-abbrev pub is_served : Shape Leaf → Bool
-is_served (leaf l) = true
-is_served (decision p v left right) = (has_table p && is_in_range v) && (is_served left && is_served right)
 
 -- these are the entries of the properties of f, one for each table
 abbrev pub AreEntriesOf : List ℕ → (ℕ → ℤ) → Type 0
@@ -34,11 +22,6 @@ AreEntriesOf entries f = (k : ℕ) → k < 7 → slice_index entries k ≡ slot 
 -- these are properties 9 to 15 of f
 abbrev pub AreValuesOf : List ℤ → (ℕ → ℤ) → Type 0
 AreValuesOf values f = (k : ℕ) → k < 7 → slice_index_or values k (pos 0) ≡ f (9 + k)
-
--- the leaves of a tree, from left to right
-abbrev pub leaves_of : Shape Leaf → List Leaf
-leaves_of (leaf l) = l ∷ []
-leaves_of (decision p v left right) = leaves_of left ++ leaves_of right
 
 -- a decision of the tree, before whose leaves there are `first` others, rules out leaf i: it is answered to the right,
 -- and the leaf is on its left side

@@ -16,7 +16,7 @@ invariant_of-result c =
     let vec = c.in_ok-sets.sets in
     let whole = c.in_ok-sets.ensures.items_if_clones_equal (λ y is. is) in
     let none = c.new-leaves.ensures.items in
-    let count = c.count_leaves-count.ensures c.if-count-gt-MOST_LEAVES.false in
+    let count = c.count_leaves-count.ensures in
     let upto = c.if-count-gt-MOST_LEAVES.false in
     let same = c.deref_mut.ensures.value in
     let long : length c.add.new.sets ≡ length vec.items = c.add.auto.sets ∙ ap length same in
@@ -33,12 +33,12 @@ invariant_of-result c =
           ∙ ap₂ (λ (b : Bool) (ys : List Leaf). b && not (rules_out (length ys) t f i)) (ap (λ (xs : List ℕ). stays xs f i) same ∙ stays-of-all vec.items f i whole less) none);
     }
 
-pub returns : goal.returns
-returns c =
+pub returns-clause-sets : goal.returns-clause-sets
+returns-clause-sets c =
     let t = pruned c.args.known.now (shape_of c.args.tree.now) in
     let vec = c.in_ok-sets.sets in
     let whole = c.in_ok-sets.ensures.items_if_clones_equal (λ y is. is) in
-    let count = c.count_leaves-count.ensures c.if-count-gt-MOST_LEAVES.false in
+    let count = c.count_leaves-count.ensures in
     let upto = c.if-count-gt-MOST_LEAVES.false in
     let same = c.deref_mut.ensures.value in
     let long : length c.add.new.sets ≡ length vec.items = c.add.auto.sets ∙ ap length same in
