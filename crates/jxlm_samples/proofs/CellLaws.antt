@@ -43,8 +43,9 @@ use Rattle.jxlm_samples.specs.Reading.{FindsClusters, HasRoomFor, IsCodingOf, Is
 use Rattle.jxlm_samples.specs.Inner.Cells.{FailsSample, ReadsSample, predicted_at}
 use Rattle.jxlm_samples.specs.ChannelSettings.{StandsAfter, asked_at, earlier_for, region_at, setting_of, weighted_at, weights_at}
 use Rattle.jxlm_samples.specs.Progress.{grids_in}
+use Rattle.jxlm_samples.specs.Inner.Paths.{HasSets}
 use Rattle.jxlm_samples.specs.Inner.Progress.{preceding_cells}
-use Rattle.jxlm_samples.specs.Inner.Rows.{FailsCell, IsLine, ReadsCell, StandsInRow, rule_on}
+use Rattle.jxlm_samples.specs.Inner.Rows.{FailsCell, HasSetsOn, IsLine, ReadsCell, StandsInRow, rule_on}
 use Rattle.jxlm_samples.specs.declared.source.Source.{Source}
 use Rattle.jxlm_samples.specs.Rule.{Rule}
 use Rattle.jxlm_samples.specs.declared.coding.ChannelTree.{ChannelTree}
@@ -76,6 +77,10 @@ has_none (Some c) (Some w) width x y samples none h = absurd (cc)
 all_handed : {X : Type 0} (n : ℕ) (P : X → Type 0) (xs : List X) → All P xs → All P (earlier_for n xs)
 all_handed zero P xs h = All-nil P
 all_handed (suc n) P xs h = h
+
+-- cells that are read by sets of leaves are read so at the value that their clamp has
+pub made_on : {D X : Type 0} (l : Line X D) (clamped : Bool) (other : ChannelTree) → l.clamped ≡ clamped → HasSetsOn l → HasSets (slice_index_or l.coding.now.flats.now l.i other) clamped l.path
+made_on l clamped other is h = subst (λ (b : Bool). HasSets (slice_index_or l.coding.now.flats.now l.i other) b l.path) is (h other)
 
 -- where none of them asks for the weights, one does not
 not_weighted : (flats : List ChannelTree) → are_weighted flats ≡ false → (i : ℕ) (other : ChannelTree) → i < length flats → (slice_index_or flats i other).weighted ≡ false

@@ -40,6 +40,7 @@ pub(crate) fn sample_from<S: Sample>(token: u32, leaf: Leaf, predicted: i32) -> 
 }
 
 /// Reads the sample of the cell of these properties: at the leaf to which the tree leads, over that leaf's prediction.
+/// With `SETS` the leaf is found by sets of leaves.
 #[inline(always)]
 fn next_sample<S: Sample, D: Decoder, const SETS: bool>(
     source: &mut Source<'_, D>,
@@ -71,7 +72,7 @@ fn next_sample<S: Sample, D: Decoder, const SETS: bool>(
 /// Reads the cell in column `x` into `row`; `rows` are those of the nearest earlier channels. The walk of these parts
 /// must be at this cell, and is at the next one afterwards. Without `EDGE` the cell is two or more columns and rows away
 /// from every edge but the last row; without `WEIGHTED` no weights are used in the channel. With `CLAMPED` property 9 is
-/// clamped.
+/// clamped. With `SETS` the leaf is found by sets of leaves.
 #[inline(always)]
 fn decode_cell_by<
     's,
@@ -120,7 +121,7 @@ fn decode_cell_by<
 /// Reads the cell in column `x` into `row`; `rows` are those of the nearest earlier channels. The walk of these parts
 /// must be at this cell, and is at the next one afterwards. Without `EDGE` the cell is two or more columns and rows away
 /// from every edge but the last row; without `WEIGHTED` no weights are used in the channel. With `CLAMPED` property 9 is
-/// clamped.
+/// clamped. With `SETS` the leaf is found by sets of leaves.
 #[inline(always)]
 fn decode_cell<
     's,
@@ -159,8 +160,8 @@ fn decode_cell<
 
 /// Reads the cells from column `from` to before column `to` into `row`; the walk must be at the first of them, and is
 /// after the last one then. Without `EDGE` they are two or more columns and rows away from every edge but the last row;
-/// without `WEIGHTED` no weights are used in the channel. With `CLAMPED` property 9 is clamped. The loop keeps the state
-/// and the reader in local variables.
+/// without `WEIGHTED` no weights are used in the channel. With `CLAMPED` property 9 is clamped. With `SETS` leaves are
+/// found by sets of leaves. The loop keeps the state and the reader in local variables.
 ///
 /// # Errors
 ///
@@ -218,8 +219,9 @@ fn read_cells<
     Ok(())
 }
 
-/// Reads the row cell by cell, with property 9 not clamped; `rows` are those of the nearest earlier channels. The walk must
-/// be at the row's first cell, and is after its last one then. Without `WEIGHTED` no weights are used in the channel.
+/// Reads the row cell by cell, with property 9 not clamped; `rows` are those of the nearest earlier channels. The walk
+/// must be at the row's first cell, and is after its last one then. Without `WEIGHTED` no weights are used in the
+/// channel. With `SETS` leaves of inner cells are found by sets of leaves.
 ///
 /// # Errors
 ///
@@ -246,8 +248,8 @@ fn read_stretches<'s, S: Sample, D: Decoder, const WEIGHTED: bool, const SETS: b
     read_cells::<S, D, true, WEIGHTED, false, false>(walk, line, rows, row, to, width)
 }
 
-/// Reads the row cell by cell, with property 9 not clamped; `rows` are those of the nearest earlier channels. The walk must
-/// be at the row's first cell, and is after its last one then. With `SETS` leaves are found by sets of leaves.
+/// Reads the row cell by cell, with property 9 not clamped; `rows` are those of the nearest earlier channels. The walk
+/// must be at the row's first cell, and is after its last one then. With `SETS` leaves are found by sets of leaves.
 ///
 /// # Errors
 ///

@@ -201,12 +201,15 @@ fn read_alone(flat: &FlatMaTree) -> Result<Option<Alone>>
 /// How many samples a channel has at least, of whose tree sets of leaves are made.
 const MANY_SAMPLES: u64 = 8192;
 
-/// Whether channel `i` is one of these, and has so many samples that sets of leaves are worth making.
+/// Whether a channel has so many samples that sets of leaves are worth making.
+fn has_many_samples(info: &ModularChannelInfo) -> bool {
+    u64::from(info.width) * u64::from(info.height) >= MANY_SAMPLES
+}
+
+/// Whether channel `i` is one of these, and has so many samples.
 fn is_large(channels: &[PlacedChannel], i: u32) -> bool {
     match channels.get(i as usize) {
-        Some(channel) => {
-            u64::from(channel.info.width) * u64::from(channel.info.height) >= MANY_SAMPLES
-        }
+        Some(channel) => has_many_samples(&channel.info),
         None => false,
     }
 }

@@ -34,15 +34,13 @@ pub struct Line<'a, 's, S, D: Decoder> {
 }
 
 impl<S, D: Decoder> Line<'_, '_, S, D> {
-    /// Whether the leaves of its cells are found by sets of leaves: the channel's tree has them, no table is shorter, and
+    /// Whether leaves are found by sets of leaves: the channel's tree has them, its path is the walk of the tree, and
     /// property 9 is not clamped.
     pub(crate) fn has_sets(&self) -> bool
         requires { IsLine self.now }
         ensures { result ≡ true → HasSetsOn self.now }
     {
-        !self.clamped
-            && matches!(self.path, Path::Tree)
-            && self.coding.flats[self.i].sets.is_some()
+        !self.clamped && matches!(self.path, Path::Tree) && self.coding.flats[self.i].sets.is_some()
     }
 }
 

@@ -1,5 +1,5 @@
 -- The properties that are looked up are those of the cell.
-use Rattle.std.proofs.Common.{ℕ, ℤ}
+use Rattle.std.proofs.Common.{ℕ, ℤ, arith}
 use Rattle.jxlm_base.specs.Regions.{store_meanings}
 use Rattle.jxlm_predictor.specs.Holding.{store_of, surroundings}
 use Rattle.jxlm_predictor.specs.Properties.{place_property}
@@ -12,6 +12,6 @@ returns g c = λ t are. record {
       c.leaf_by.ensures.leaf t f are (λ k few. c.own-own.ensures s samples k stands few);
   stands = c.leaf_by.ensures.stands t are;
   multiplier = c.leaf_by.ensures.multiplier t are;
-  cost = c.leaf_by.ensures.cost t are;
+  cost = let h = c.leaf_by.ensures.cost t are in omega (arith, h);
   more = c.leaf_by.ensures.more;
 }
