@@ -131,7 +131,11 @@ fn scaled_axis(
 }
 
 /// The channel, and this number of slopes.
-pub(crate) fn slope_axes(alloc: Global, depth: BitDepth, slopes: usize) -> Result<Vec<Axis>, OutOfMemory> {
+pub(crate) fn slope_axes(
+    alloc: Global,
+    depth: BitDepth,
+    slopes: usize,
+) -> Result<Vec<Axis>, OutOfMemory> {
     let mut axes = Vec::new(alloc);
     axes.push(Axis::new(alloc, CHANNEL, &CHANNEL_CUTS)?)?;
     let scale = scale_of(depth).min(MAX_SLOPE_SCALE);
@@ -441,6 +445,34 @@ pub(crate) fn colours_of(picture: &Picture, effort: Effort) -> &'static [Option<
     &[None, Some(LUMA)]
 }
 
+/// What the cheapest of these ways costs.
+fn least_cost(list: &[Advice]) -> u64 {
+    let mut least = u64::MAX;
+    for advice in list {
+        least = least.min(advice.cost);
+    }
+    least
+}
+
+/// Whether ways that cost more than others are left out: at the least effort there is one or few, and at the greatest those
+/// of other efforts are an estimate. Costs are without copies, so that they say little where samples repeat.
+fn are_compared(effort: Effort, repeats: bool) -> bool {
+    matches!(effort, Effort::Usual) && !repeats
+}
+
+/// The ways that cost little more than the cheapest: a twentieth.
+fn cheap_ways(alloc: Global, list: Vec<Advice>) -> Result<Vec<Advice>, OutOfMemory> {
+    let least = least_cost(&list);
+    let most = least.saturating_add(least / 20);
+    let mut kept = Vec::new(alloc);
+    for advice in list {
+        if advice.cost <= most {
+            kept.push(advice)?;
+        }
+    }
+    Ok(kept)
+}
+
 /// Ways to code a picture, of which samples repeat if `repeats` says so, and whose values have these ranks, if they are few.
 pub(crate) fn advices_for(
     alloc: Global,
@@ -454,18 +486,22 @@ pub(crate) fn advices_for(
         channels: &picture.channels,
         depth: picture.header.bit_depth,
     };
-    for effort in efforts_of(effort, repeats) {
-        add_ways_of(
-            alloc,
-            &mut list,
-            samples,
-            *effort,
-            colours_of(picture, *effort),
-        )?;
-        add_palette_ways(alloc, &mut list, picture, *effort)?;
+    let compared = are_compared(effort, repeats);
+    for tried in efforts_of(effort, repeats) {
+        let colours = colours_of(picture, *tried);
+        add_ways_of(alloc, &mut list, samples, *tried, colours)?;
+        let bound = if compared {
+            Some(least_cost(&list))
+        } else {
+            None
+        };
+        add_palette_ways(alloc, &mut list, picture, *tried, bound)?;
         if let Some(ranks) = ranks {
-            add_rank_ways(alloc, &mut list, picture, ranks, *effort)?;
+            add_rank_ways(alloc, &mut list, picture, ranks, *tried, bound)?;
         }
+    }
+    if compared {
+        return cheap_ways(alloc, list);
     }
     if matches!(effort, Effort::Best) {
         return best_ways(alloc, list, picture, repeats, ranks);

@@ -165,9 +165,9 @@ fn add_ways_with(
     };
     match ranks {
         Some(ranks) if plan.count < picture.channels.len() => {
-            add_rank_ways(alloc, list, picture, ranks, effort)
+            add_rank_ways(alloc, list, picture, ranks, effort, None)
         }
-        _ => add_palette_ways_by(alloc, list, picture, effort, &[plan.order]),
+        _ => add_palette_ways_by(alloc, list, picture, effort, &[plan.order], None),
     }
 }
 
@@ -201,7 +201,7 @@ pub(crate) fn best_ways(
     let mut ways = ways;
     if picture.channels.len() > 1 {
         let orders = &[ColourOrder::Sample];
-        add_palette_ways_by(alloc, &mut ways, picture, Effort::Usual, orders)?;
+        add_palette_ways_by(alloc, &mut ways, picture, Effort::Usual, orders, None)?;
     }
     for palettes in &likely_palettes(alloc, &ways)? {
         add_ways_with(alloc, &mut ways, picture, palettes, ranks)?;

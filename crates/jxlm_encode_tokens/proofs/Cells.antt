@@ -58,7 +58,7 @@ module _ {D : Type 0} (c : PartCoding D) (coding : IsCodingOf c) (i : ℕ) (li :
 
   -- a channel tree, any of them
   any_tree : ChannelTree
-  any_tree = record { flat = tree_of c i; weighted = true; asked = 0; alone = None }
+  any_tree = record { flat = tree_of c i; weighted = true; asked = 0; alone = None; sets = None }
 
   reads_below : ReadsEarlierBelow (tree_of c i) (asked_at c i)
   reads_below = subst (ReadsEarlierBelow (tree_of c i)) (sym (asked_is c coding i li any_tree)) (tree_at c coding i li any_tree).below

@@ -295,6 +295,7 @@ fn make_ready<S: Sample, D: Decoder>(alloc: Global, part: &PlacedPart<'_, D>) ->
         part.config,
         part.stream_index,
         part.channels.len() as u32,
+        &[],
     )?;
     let widest = sampled_width(part.channels);
     let state = roomy_state(alloc, &flats, widest, widest, &part.weights)?;

@@ -1,6 +1,6 @@
 -- A cell of a part: what it holds, and what is read into it.
 use Rattle.std.proofs.Common.{Bool, ◌≡◌, ℕ, zero, suc, ◌+◌, ◌*◌, ◌/◌, ◌<◌, ◌≤◌, ◌^◌, List, [], ◌∷◌, ◌++◌, length, map, take, Some, refl, sym, ap, ◌∙◌, subst, arith, ℤ, slice_index_or, Bool, true, false, None, Option, if◌then◌else◌}
-use Rattle.std.specs.Prelude.{slice_get, slice_set}
+use Rattle.std.specs.Prelude.{slice_get, slice_set, IfSome}
 use Rattle.std.specs.List.{All}
 use Rattle.std.specs.Int.{Width}
 use Rattle.std.proofs.lemmas.List.{append-nil, append_assoc, length-append, length-map, length-take-le, map-set, take_more_set}
@@ -19,6 +19,7 @@ use Rattle.jxlm_base.proofs.Regions.{IsFull-grid_of}
 use Rattle.jxlm_weighted.specs.Correcting.{Corrects, header_of}
 use Rattle.jxlm_predictor.specs.EarlierRows.{AreRowsOf, HoldRows}
 use Rattle.jxlm_predictor.specs.Holding.{state_of, store_of}
+use Rattle.jxlm_tree.specs.LeafSets.{AreSetsOf}
 use Rattle.jxlm_tree.specs.FlatTree.{ClustersStandIn, FlatTree, GoesWithoutWeights, ReadsEarlierBelow}
 use Rattle.jxlm_weighted.specs.Neighbours.{row as line}
 use Rattle.jxlm_predictor.specs.Standing.{HasSameRoom, HoldsRow, IsInner, IsReady, Setting, StandsAt, row_of}
@@ -42,8 +43,9 @@ use Rattle.jxlm_samples.specs.Reading.{FindsClusters, HasRoomFor, IsCodingOf, Is
 use Rattle.jxlm_samples.specs.Inner.Cells.{FailsSample, ReadsSample, predicted_at}
 use Rattle.jxlm_samples.specs.ChannelSettings.{StandsAfter, asked_at, earlier_for, region_at, setting_of, weighted_at, weights_at}
 use Rattle.jxlm_samples.specs.Progress.{grids_in}
+use Rattle.jxlm_samples.specs.Inner.Paths.{HasSets}
 use Rattle.jxlm_samples.specs.Inner.Progress.{preceding_cells}
-use Rattle.jxlm_samples.specs.Inner.Rows.{FailsCell, IsLine, ReadsCell, StandsInRow, rule_on}
+use Rattle.jxlm_samples.specs.Inner.Rows.{FailsCell, HasSetsOn, IsLine, ReadsCell, StandsInRow, rule_on}
 use Rattle.jxlm_samples.specs.declared.source.Source.{Source}
 use Rattle.jxlm_samples.specs.Rule.{Rule}
 use Rattle.jxlm_samples.specs.declared.coding.ChannelTree.{ChannelTree}
@@ -76,6 +78,10 @@ all_handed : {X : Type 0} (n : ℕ) (P : X → Type 0) (xs : List X) → All P x
 all_handed zero P xs h = All-nil P
 all_handed (suc n) P xs h = h
 
+-- cells that are read by sets of leaves are read so at the value that their clamp has
+pub made_on : {D X : Type 0} (l : Line X D) (clamped : Bool) (other : ChannelTree) → l.clamped ≡ clamped → HasSetsOn l → HasSets (slice_index_or l.coding.now.flats.now l.i other) clamped l.path
+made_on l clamped other is h = subst (λ (b : Bool). HasSets (slice_index_or l.coding.now.flats.now l.i other) b l.path) is (h other)
+
 -- where none of them asks for the weights, one does not
 not_weighted : (flats : List ChannelTree) → are_weighted flats ≡ false → (i : ℕ) (other : ChannelTree) → i < length flats → (slice_index_or flats i other).weighted ≡ false
 not_weighted flats none i other less = by (slice_index_or flats i other).weighted (λ is. sym none ∙ list_any_at (λ (t : ChannelTree). t.weighted) flats i other less is) where
@@ -103,7 +109,7 @@ module _ {D : Type 0} (c : PartCoding D) (coding : IsCodingOf c) (i : ℕ) (li :
 
   -- a channel tree, any of them
   any_tree : ChannelTree
-  any_tree = record { flat = flat c.config.now.tree c.stream_index i; weighted = true; asked = 0; alone = None }
+  any_tree = record { flat = flat c.config.now.tree c.stream_index i; weighted = true; asked = 0; alone = None; sets = None }
 
   -- what it is read by alone
   pub alone_is : (other : ChannelTree) → alone_at c i ≡ (slice_index_or c.flats.now i other).alone
@@ -131,6 +137,10 @@ module _ {D : Type 0} (c : PartCoding D) (coding : IsCodingOf c) (i : ℕ) (li :
 
   pub clusters_at : (other : ChannelTree) (clusters : List ℕ) → FindsClusters c clusters → ClustersStandIn clusters (slice_index_or c.flats.now i other).flat.tree
   clusters_at other clusters h = subst (λ (t : FlatTree). ClustersStandIn clusters t.tree) (sym (flat_at other)) h
+
+  -- its sets of leaves, where there are any, are those of its tree
+  pub sets_at : (other : ChannelTree) → IfSome (slice_index_or c.flats.now i other).sets (AreSetsOf (slice_index_or c.flats.now i other).flat)
+  sets_at other = subst (λ (t : FlatTree). IfSome (slice_index_or c.flats.now i other).sets (AreSetsOf t)) (sym (flat_at other)) (tree_at other).sets
 
   -- where property 9 is clamped, its walks go by that alone
   pub sums_at : (other : ChannelTree) → clamps (part_of c) i ≡ true → GoesBySum (slice_index_or c.flats.now i other).flat

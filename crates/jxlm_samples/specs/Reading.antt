@@ -4,6 +4,7 @@ use Rattle.std.specs.List.{All, list_any}
 use Rattle.std.specs.Option.{option_map_or}
 use Rattle.jxlm_base.specs.declared.subgrid.Region.{Region}
 use Rattle.jxlm_tree.specs.FlatTree.{FlatTree, ClustersStandIn, GoesWithoutWeights, ReadsEarlierBelow}
+use Rattle.jxlm_tree.specs.LeafSets.{AreSetsOf}
 use Rattle.jxlm_tree.specs.Paths.{IsGradientTable, IsLeafOf, IsPlainGradient, TakesGradientTable}
 use Rattle.jxlm_weighted.specs.SelfCorrecting.{IsHeader}
 use Rattle.jxlm_predictor.specs.Standing.{room_of, earlier_room_of, weights_of}
@@ -40,7 +41,8 @@ IsLone (leaf l) = ReadsAlone l
 IsLone (decision k value left right) = TakesGradientTable (decision k value left right)
 
 -- It is this flat tree, and asks for no more than it says. What its rows are read by alone, where there is that, gives
--- its leaves; there is that where the tree is one such leaf, or one that such a table serves.
+-- its leaves; there is that where the tree is one such leaf, or one that such a table serves. Its sets of leaves, where
+-- there are any, give its leaves too.
 pub record IsTreeOf (t : FlatTree) (c : ChannelTree) : Type 0 where
   pub flat_is : c.flat ≡ t
   pub without : c.weighted ≡ false → GoesWithoutWeights t
@@ -48,6 +50,7 @@ pub record IsTreeOf (t : FlatTree) (c : ChannelTree) : Type 0 where
   pub few : c.asked ≤ t.prev_channels
   pub alone : IfSome c.alone (LeadsAlone t)
   pub walked : c.alone ≡ None → IsLone t.tree → ⊥
+  pub sets : IfSome c.sets (AreSetsOf t)
 
 -- There are `count` flat trees, each of this tree for its channel.
 pub record HasFlats (t : Shape Leaf) (stream count : ℕ) (flats : List ChannelTree) : Type 0 where

@@ -9,6 +9,7 @@ ghost use Rattle.jxlm_samples.specs.Part.{clamps, is_alike as alike};
 ghost use Rattle.jxlm_predictor.specs.Standing.{Setting, StandsAt, earlier_count, setting};
 ghost use Rattle.jxlm_samples.specs.Reading.{HasFlats, HasRoom, IsCodingOf, IsLone, IsRoomyFor, IsTreeOf, LeadsAlone, ReadsAlone, alone_at, flat, part_of, regions_of};
 ghost use Rattle.jxlm_samples.specs.ChannelSettings.{IsNext, StandsAfter, all_alike};
+ghost use Rattle.jxlm_tree.specs.LeafSets.{AreSetsOf};
 
 use jxlm_base::grid::Region;
 use jxlm_base::sample::{Sample, Sealed};
@@ -17,6 +18,7 @@ use jxlm_bits::error::Result;
 use jxlm_predictor::predictor::{Predictor, PredictorState};
 use jxlm_transform::channels::{ModularChannelInfo, PlacedChannel};
 use jxlm_tree::flat::{FlatMaTree, Leaf};
+use jxlm_tree::leaf_sets::LeafSets;
 use jxlm_tree::ma::MaConfig;
 use jxlm_tree::paths::ClusterTable;
 use jxlm_weighted::weights::WpHeader;
@@ -34,6 +36,8 @@ pub struct ChannelTree {
     pub asked: usize,
     /// What rows are read by without the state of the predictors, where that can be.
     pub alone: Option<Alone>,
+    /// The tree as sets of leaves, where they were made.
+    pub sets: Option<LeafSets>,
 }
 
 /// What rows of a channel are read by without the state of the predictors.
@@ -194,23 +198,62 @@ fn read_alone(flat: &FlatMaTree) -> Result<Option<Alone>>
     }
 }
 
-/// The tree as a channel walks it, with what it may ask for.
+/// How many samples a channel has at least, of whose tree sets of leaves are made.
+const MANY_SAMPLES: u64 = 8192;
+
+/// Whether a channel has so many samples that sets of leaves are worth making.
+fn has_many_samples(info: &ModularChannelInfo) -> bool {
+    u64::from(info.width) * u64::from(info.height) >= MANY_SAMPLES
+}
+
+/// Whether channel `i` is one of these, and has so many samples.
+fn is_large(channels: &[PlacedChannel], i: u32) -> bool {
+    match channels.get(i as usize) {
+        Some(channel) => has_many_samples(&channel.info),
+        None => false,
+    }
+}
+
+/// The sets of leaves of a tree, of a large channel whose rows are read cell by cell.
 ///
 /// # Errors
 ///
 /// `Buffer` if it is out of memory, and no other.
-fn channel_tree(flat: FlatMaTree) -> Result<ChannelTree>
+fn sets_of(
+    alloc: Global,
+    flat: &FlatMaTree,
+    alone: &Option<Alone>,
+    large: bool,
+) -> Result<Option<LeafSets>>
+    ensures ok { IfOk result (λ o. IfSome o (AreSetsOf flat.now)) }
+    ensures err { IfErr result (λ e. kind_of e ≡ NoMemory) }
+{
+    if large && alone.is_none() {
+        flat.leaf_sets(alloc)
+    } else {
+        Ok(None)
+    }
+}
+
+/// The tree as a channel walks it, with what it may ask for, and its sets of leaves where the channel is large.
+///
+/// # Errors
+///
+/// `Buffer` if it is out of memory, and no other.
+fn channel_tree(alloc: Global, flat: FlatMaTree, large: bool) -> Result<ChannelTree>
     ensures ok { IfOk result (IsTreeOf flat) }
     ensures err { IfErr result (λ e. kind_of e ≡ NoMemory) }
 {
     let weighted = flat.need_self_correcting();
     let asked = flat.max_prev_channel_depth();
     let alone = read_alone(&flat)?;
+    let sets = sets_of(alloc, &flat, &alone, large)?;
     Ok(ChannelTree {
         flat,
         weighted,
         asked,
         alone,
+        sets,
     })
 }
 
@@ -241,7 +284,7 @@ fn next_flat<D: Decoder>(
 }
 
 /// The tree as each of n channels walks it. Channels for which it is left the same one share its nodes, where they
-/// come one after another.
+/// come one after another. Those of `sized` that have many samples get sets of leaves.
 ///
 /// # Errors
 ///
@@ -251,6 +294,7 @@ pub fn flat_trees<D: Decoder>(
     config: &MaConfig<D>,
     stream_index: u32,
     channels: u32,
+    sized: &[PlacedChannel],
 ) -> Result<Vec<ChannelTree>>
     ensures ok { IfOk result (λ v. HasFlats config.now.tree stream_index channels v.items) }
     ensures err { IfErr result (λ e. kind_of e ≡ NoMemory) }
@@ -258,7 +302,7 @@ pub fn flat_trees<D: Decoder>(
     let mut flats = Vec::new(alloc);
     for channel in 0..channels {
         let flat = next_flat(alloc, config, stream_index, channel, &flats)?;
-        let tree = channel_tree(flat)?;
+        let tree = channel_tree(alloc, flat, is_large(sized, channel))?;
         flats.push(tree)?;
     }
     Ok(flats)

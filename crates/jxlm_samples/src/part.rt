@@ -68,6 +68,7 @@ impl<'a, D: Decoder> PlacedPart<'a, D> {
             self.config,
             self.stream_index,
             self.channels.len() as u32,
+            self.channels,
         )?;
         let widest = walked_width(self.channels, &flats);
         let samples = sampled_width(self.channels);

@@ -1,9 +1,9 @@
 //! Rows of a channel: what one only looks at, what its read returns, and how it is written.
 
-ghost use Rattle.std.specs.Prelude.{◌≡◌, ◌-◌, ◌<◌, ◌≤◌, ◌++◌, drop, length, replicate, take, IfErr};
+ghost use Rattle.std.specs.Prelude.{◌≡◌, ◌-◌, ◌<◌, ◌≤◌, ◌++◌, drop, length, replicate, take, true, IfErr};
 ghost use Rattle.jxlm_base.specs.Outside.{SetsRow};
 ghost use Rattle.jxlm_base.specs.Regions.{Lies};
-ghost use Rattle.jxlm_samples.specs.Inner.Rows.{SetsRead};
+ghost use Rattle.jxlm_samples.specs.Inner.Rows.{HasSetsOn, IsLine, SetsRead};
 ghost use Rattle.jxlm_samples.specs.Lines.{AreAway};
 
 use crate::coding::PartCoding;
@@ -31,6 +31,17 @@ pub struct Line<'a, 's, S, D: Decoder> {
     pub y: usize,
     /// Whether property 9 is clamped.
     pub clamped: bool,
+}
+
+impl<S, D: Decoder> Line<'_, '_, S, D> {
+    /// Whether leaves are found by sets of leaves: the channel's tree has them, its path is the walk of the tree, and
+    /// property 9 is not clamped.
+    pub(crate) fn has_sets(&self) -> bool
+        requires { IsLine self.now }
+        ensures { result ≡ true → HasSetsOn self.now }
+    {
+        !self.clamped && matches!(self.path, Path::Tree) && self.coding.flats[self.i].sets.is_some()
+    }
 }
 
 /// How the rows of a channel are read.

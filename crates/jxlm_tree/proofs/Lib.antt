@@ -32,3 +32,5 @@ pub mod StepErrors
 pub mod NextChannels
 pub mod OneNode
 pub mod SumTrees
+pub mod LeafBits
+pub mod LeafSets

@@ -1,9 +1,9 @@
 -- A walk of a tree that asks for property 9 alone goes by it.
 use Rattle.std.proofs.Common.{◌≡◌, ℕ, ℤ, pos, Bool, true, false, ◌==◌, ◌&&◌, ◌+◌, ◌*◌, nat_lt, int_lt, if◌then◌else◌, refl, sym, ap, ◌∙◌, arith}
 use Rattle.std.specs.Int.{w32, int_wrap}
-use Rattle.std.proofs.lemmas.Bool.{eqb-true, ltb-true}
+use Rattle.std.proofs.lemmas.Bool.{eqb-true}
 use Rattle.std.proofs.lemmas.Bool.Decides.{nat_tests}
-use Rattle.jxlm_tree.specs.FlatTree.{FlatTree, property_of, leaf_reached}
+use Rattle.jxlm_tree.specs.FlatTree.{FlatTree, property_of}
 use Rattle.jxlm_tree.specs.SumTrees.{GoesBySum, is_near, takes_sums, takes_sums_at}
 use Rattle.jxlm_tree.specs.Tree.{Shape, leaf, decision, walk}
 use Rattle.jxlm_tree.specs.declared.flat.Leaf.{Leaf}

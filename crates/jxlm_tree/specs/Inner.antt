@@ -1,6 +1,7 @@
 pub mod Building
 pub mod DraftReading
 pub mod Kept
+pub mod LeafSets
 pub mod Queue
 pub mod TreeShape
 pub mod Walking

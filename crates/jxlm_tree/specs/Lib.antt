@@ -7,6 +7,9 @@ pub mod TreeStands
 pub mod Inner
 pub mod ShortTrees
 pub mod ClusterTables
+pub mod LeafSets
+pub mod SetTables
+pub mod SmallTrees
 pub mod Paths
 pub mod Steps
 pub mod SumTrees

@@ -1,5 +1,5 @@
 -- How the rows of a channel are read, and the cells of a row.
-use Rattle.std.specs.Prelude.{◌≡◌, ℕ, zero, suc, ◌+◌, ◌≤◌, ℤ, pos, FitsSigned, List, [], length, map, Bool, true, false, Contains}
+use Rattle.std.specs.Prelude.{◌≡◌, ℕ, zero, suc, ◌+◌, ◌≤◌, ℤ, pos, FitsSigned, List, [], length, map, Bool, true, false, Contains, IsSome}
 use Rattle.std.specs.Int.{Width, w32}
 use Rattle.jxlm_bits.specs.Decoding.{Meaning}
 use Rattle.jxlm_base.specs.Grid.{Grid, row as grid_row}
@@ -15,6 +15,7 @@ use Rattle.jxlm_predictor.specs.declared.predictor.Predictor.TheVariants as pred
 use Rattle.jxlm_samples.specs.Coded.{sample_of}
 use Rattle.jxlm_samples.specs.RowNeighbours.{gradient_in, north_west_in, property_9_in, west_in}
 use Rattle.jxlm_samples.specs.Rule.{Rule}
+use Rattle.jxlm_samples.specs.declared.coding.ChannelTree.{ChannelTree}
 use Rattle.jxlm_samples.specs.declared.gradient.Leaves.{Leaves}
 use Rattle.jxlm_samples.specs.declared.gradient.Leaves.TheVariants.{One, Table}
 
@@ -37,6 +38,13 @@ is_walked (path.Runs l) = false
 is_walked (path.Clusters c) = true
 is_walked (path.GradientClusters c) = false
 is_walked path.Tree = true
+
+-- the cells of a channel with this tree are read by its sets of leaves: it has them, the path is the walk of the tree, and
+-- property 9 is not clamped
+pub record HasSets (c : ChannelTree) (clamped : Bool) (p : Path) : Type 0 where
+  pub some : IsSome c.sets
+  pub unclamped : clamped ≡ false
+  pub walks : p ≡ path.Tree
 
 -- a leaf with a multiplier, whose cluster is one of these
 pub record IsReadable (clusters : List ℕ) (l : Leaf) : Type 0 where

@@ -1,5 +1,5 @@
 -- Rows of cells that are read one after another.
-use Rattle.std.specs.Prelude.{◌≡◌, ◌≢◌, ℕ, ◌+◌, ◌*◌, ◌<◌, ◌≤◌, ◌⊎◌, ℤ, pos, Bool, List, ◌++◌, length, map, take, slice_get, slice_index, slice_set, Some, Result, Ok, Err}
+use Rattle.std.specs.Prelude.{◌≡◌, ◌≢◌, ℕ, ◌+◌, ◌*◌, ◌<◌, ◌≤◌, ◌⊎◌, ℤ, pos, Bool, List, ◌++◌, get_or, length, map, take, slice_get, slice_index, slice_set, Some, Result, Ok, Err}
 use Rattle.std.specs.Int.{Width}
 use Rattle.jxlm_bits.specs.Bits.{bytes_of, position_of}
 use Rattle.jxlm_bits.specs.Decoding.{Meaning}
@@ -26,9 +26,10 @@ use Rattle.jxlm_samples.specs.Lines.{region_on}
 use Rattle.jxlm_samples.specs.Part.{Part, clamps}
 use Rattle.jxlm_samples.specs.Reading.{FindsClusters, HasRoom, IsCodingOf, cost_of, part_of, regions_of, tree_of}
 use Rattle.jxlm_samples.specs.Rule.{Rule, CodedPrefix}
-use Rattle.jxlm_samples.specs.Inner.Paths.{Allows, gradient_rule, steps_by}
+use Rattle.jxlm_samples.specs.Inner.Paths.{Allows, HasSets, gradient_rule, steps_by}
 use Rattle.jxlm_samples.specs.Inner.Progress.{preceding_cells}
 use Rattle.jxlm_samples.specs.declared.source.Source.{Source}
+use Rattle.jxlm_samples.specs.declared.coding.ChannelTree.{ChannelTree}
 use Rattle.jxlm_samples.specs.declared.coding.PartCoding.{PartCoding}
 use Rattle.jxlm_samples.specs.declared.gradient.Leaves.{Leaves}
 use Rattle.jxlm_samples.specs.declared.rows.Line.{Line}
@@ -181,6 +182,10 @@ module _ {D X : Type 0} (l : Line X D) where
     pub line : IsLine
     pub steps : steps_walked l.path l.coding.now.config.now.tree ≤ cost_of l.coding.now
     pub are_rows : AreRowsOf (setting_of l.coding.now l.i).earlier l.store.now l.y rows
+
+  -- its cells are read by the sets of leaves of the channel's tree
+  abbrev pub HasSetsOn : Type 0
+  HasSetsOn = (other : ChannelTree) → HasSets (get_or l.coding.now.flats.now l.i other) l.clamped l.path
 
   module _ (d : Meaning D) (to_int : X → ℤ) (w : Width) where
     -- how its cells are read

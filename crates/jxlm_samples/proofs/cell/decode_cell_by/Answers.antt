@@ -9,7 +9,7 @@ use Rattle.jxlm_samples.specs.ChannelSettings.{setting_of}
 use Rattle.jxlm_samples.specs.Inner.Cells.{source_of}
 use Rattle.jxlm_samples.specs.Inner.Rows.{IsAtCell, walk_of}
 use Rattle.jxlm_samples.specs.Reading.{FindsClusters}
-use Rattle.jxlm_samples.proofs.CellLaws.{clusters_at, fails_cell, flat_at, is_inner, is_ready, flat_there, own, reads_cell, roomy_still, rows_held, stands_further, stands_so, sums_at}
+use Rattle.jxlm_samples.proofs.CellLaws.{clusters_at, fails_cell, flat_at, is_inner, is_ready, flat_there, made_on, own, reads_cell, roomy_still, rows_held, stands_further, sets_at, stands_so, sums_at}
 use Rattle.jxlm_samples.proofs.cell.decode_cell_by.Goals as goal
 
 pub properties_in_row-properties-requires-clause-ready : goal.properties_in_row-properties-requires-clause-ready
@@ -38,6 +38,12 @@ pub next_sample-requires-clause-sums : goal.next_sample-requires-clause-sums
 next_sample-requires-clause-sums g c κs within = λ yes.
     let line = c.requires.line.line in
     sums_at c.args.line.now.coding.now line.here.part.coding c.args.line.now.i line.here.channel _ (sym line.clamped ∙ c.requires.clamped ∙ yes)
+
+pub next_sample-requires-clause-are : goal.next_sample-requires-clause-are
+next_sample-requires-clause-are g c κs within = sets_at c.args.line.now.coding.now c.requires.line.line.here.part.coding c.args.line.now.i c.requires.line.line.here.channel _
+
+pub next_sample-requires-clause-made : goal.next_sample-requires-clause-made
+next_sample-requires-clause-made g c κs within = λ yes. made_on c.args.line.now _ _ c.requires.clamped (c.requires.made yes)
 
 pub record_in_row-requires-clause-inner : goal.record_in_row-requires-clause-inner
 record_in_row-requires-clause-inner g c inside =

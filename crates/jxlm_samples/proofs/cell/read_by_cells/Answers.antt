@@ -15,7 +15,7 @@ use Rattle.jxlm_samples.specs.Inner.Rows.{IsAtCell, IsLine, IsWalked}
 use Rattle.jxlm_samples.specs.Reading.{cost_of}
 use Rattle.jxlm_samples.specs.declared.rows.Line.{Line}
 use Rattle.jxlm_samples.specs.declared.source.Walk.{Walk}
-use Rattle.jxlm_samples.proofs.CellLaws.{has_none, is_ready, rows_are}
+use Rattle.jxlm_samples.proofs.CellLaws.{is_ready, rows_are}
 use Rattle.jxlm_samples.proofs.RowEnds.{before_first, row_ends}
 use Rattle.jxlm_samples.proofs.cell.read_by_cells.Goals as goal
 
@@ -52,11 +52,8 @@ returns-then-line g c =
     let ends = row_ends _ _ _ _ _ _ _ _ c.args.walk.now _ _ c.read_cells.result c.read_cells.ensures (before_first c.requires.at) (sym c.read_cells.auto.row) in
     record { gives = ends.0; at = ends.1 }
 
-pub read_stretches-requires-clause-line : goal.read_stretches-requires-clause-line
-read_stretches-requires-clause-line g c κs within = with_rows c.requires.at c.requires.line c.requires.walked _ (rw c.rows-rows.ensures c.of-earlier.ensures.held)
+pub read_unclamped-requires-clause-line : goal.read_unclamped-requires-clause-line
+read_unclamped-requires-clause-line g c κs within = with_rows c.requires.at c.requires.line c.requires.walked _ (rw c.rows-rows.ensures c.of-earlier.ensures.held)
 
-pub read_stretches-requires-else-is_weighted-clause-line : goal.read_stretches-requires-else-is_weighted-clause-line
-read_stretches-requires-else-is_weighted-clause-line g c κs within = with_rows c.requires.at c.requires.line c.requires.walked _ (rw c.rows-rows.ensures c.of-earlier.ensures.held)
-
-pub read_stretches-requires-else-is_weighted-clause-without : goal.read_stretches-requires-else-is_weighted-clause-without
-read_stretches-requires-else-is_weighted-clause-without g c κs within = λ none. has_none _ _ _ _ _ _ (c.is_weighted.ensures c.if-is_weighted.false) c.requires.at.stands.corrects
+pub read_unclamped-requires-else-has_sets-clause-line : goal.read_unclamped-requires-else-has_sets-clause-line
+read_unclamped-requires-else-has_sets-clause-line g c κs within = with_rows c.requires.at c.requires.line c.requires.walked _ (rw c.rows-rows.ensures c.of-earlier.ensures.held)

@@ -23,6 +23,9 @@ decode_cell-requires-clause-without g c κs within none = uses_none _ _ _ _ _ _ 
 pub decode_cell-requires-clause-clamped : goal.decode_cell-requires-clause-clamped
 decode_cell-requires-clause-clamped g c κs within = c.requires.clamped
 
+pub decode_cell-requires-clause-made : goal.decode_cell-requires-clause-made
+decode_cell-requires-clause-made g c κs within = c.requires.made
+
 pub decode_cell-requires-clause-at : goal.decode_cell-requires-clause-at
 decode_cell-requires-clause-at g c κs within = c.loop-x.invariant.reads.1
 

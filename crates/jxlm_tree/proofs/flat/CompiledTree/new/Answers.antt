@@ -1,4 +1,4 @@
-use Rattle.std.proofs.Common.{rules, to_z, of_z, tests, ◌≡◌, w32, ap, sym, ◌∙◌, arith, SFits, true, Ok, List, subst}
+use Rattle.std.proofs.Common.{rules, to_z, of_z, tests, ◌≡◌, w32, ap, sym, ◌∙◌, arith, SFits, Ok, List, subst}
 use Rattle.std.specs.List.{list_any}
 use Rattle.std.proofs.lemmas.Int.{to_z-of_z}
 use Rattle.std.proofs.lemmas.Grind.{common_steps}

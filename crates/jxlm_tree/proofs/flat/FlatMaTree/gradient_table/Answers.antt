@@ -1,4 +1,4 @@
-use Rattle.std.proofs.Common.{◌≡◌, ◌∙◌, Some, true, false, sym, ap, subst, rules}
+use Rattle.std.proofs.Common.{◌≡◌, ◌∙◌, Some, sym, ap, subst, rules}
 use Rattle.std.specs.Option.{option_map}
 use Rattle.std.specs.Rc.{rc_value}
 use Rattle.jxlm_tree.specs.Paths.{IsGradientTable, IsOnGradient}
