@@ -357,7 +357,11 @@ pub(crate) fn add_advice(list: &mut Vec<Advice>, advice: Advice) -> Result<(), O
 }
 
 /// Adds a way, if there is one that is not among them.
-pub(crate) fn add_way(alloc: Global, list: &mut Vec<Advice>, way: Option<Way>) -> Result<(), OutOfMemory> {
+pub(crate) fn add_way(
+    alloc: Global,
+    list: &mut Vec<Advice>,
+    way: Option<Way>,
+) -> Result<(), OutOfMemory> {
     let Some(way) = way else {
         return Ok(());
     };

@@ -172,11 +172,7 @@ fn add_ways_with(
 }
 
 /// The cheapest of these ways, at most this many.
-fn cheapest_of(
-    alloc: Global,
-    ways: Vec<Advice>,
-    most: usize,
-) -> Result<Vec<Advice>, OutOfMemory> {
+fn cheapest_of(alloc: Global, ways: Vec<Advice>, most: usize) -> Result<Vec<Advice>, OutOfMemory> {
     let costs = costs_of(alloc, &ways)?;
     let places = least_of(alloc, &costs, most)?;
     let mut kept = Vec::new(alloc);
