@@ -1,5 +1,6 @@
 //! How a picture is coded: a choice that no sample depends on.
 
+use crate::best::{add_best_ways_of, best_ways};
 use crate::effort::Effort;
 use crate::palettes::add_palette_ways;
 use crate::ranks::{Ranks, add_rank_ways};
@@ -29,6 +30,8 @@ pub(crate) struct Advice {
     pub(crate) own: bool,
     /// The palettes, if there are some: then the tree is that of their tables and of all other channels.
     pub(crate) palettes: Vec<PalettePlan>,
+    /// What samples, codes and tree cost, nearly, without copies, in bits times 65,536.
+    pub(crate) cost: u64,
 }
 
 /// The samples of a picture, and how they are stored.
@@ -41,9 +44,9 @@ pub(crate) struct Samples<'a> {
 /// The cheapest way to code a picture, as far as is known: its scheme, its colour transform, and whether groups may have
 /// trees of their own.
 #[derive(Drop)]
-struct Way {
+pub(crate) struct Way {
     scheme: Scheme,
-    colour: Option<u32>,
+    pub(crate) colour: Option<u32>,
     own: bool,
 }
 
@@ -128,7 +131,11 @@ fn scaled_axis(
 }
 
 /// The channel, and this number of slopes.
-fn slope_axes(alloc: Global, depth: BitDepth, slopes: usize) -> Result<Vec<Axis>, OutOfMemory> {
+pub(crate) fn slope_axes(
+    alloc: Global,
+    depth: BitDepth,
+    slopes: usize,
+) -> Result<Vec<Axis>, OutOfMemory> {
     let mut axes = Vec::new(alloc);
     axes.push(Axis::new(alloc, CHANNEL, &CHANNEL_CUTS)?)?;
     let scale = scale_of(depth).min(MAX_SLOPE_SCALE);
@@ -233,7 +240,7 @@ fn or_by_colours(
 
 /// The cheapest way to code a picture by its colours, after a colour transform if `transforms` says so; none, if they are
 /// too many.
-fn by_colours(
+pub(crate) fn by_colours(
     alloc: Global,
     picture: Samples<'_>,
     effort: Effort,
@@ -252,7 +259,7 @@ fn by_colours(
 }
 
 /// The cheapest way to code a picture by slopes and one of these colour transforms, if it is cheaper than this.
-fn by_slopes(
+pub(crate) fn by_slopes(
     alloc: Global,
     picture: Samples<'_>,
     effort: Effort,
@@ -290,7 +297,7 @@ fn learnt(
 /// The cheapest way to code a picture by a tree that is learnt from its samples one by one, and one of these colour
 /// transforms; none, if there is none of them. At the greatest effort the tree is on the errors of the weighted predictor,
 /// at others on neighbours alone, so that decoding takes less time.
-fn by_samples(
+pub(crate) fn by_samples(
     alloc: Global,
     picture: Samples<'_>,
     effort: Effort,
@@ -317,7 +324,7 @@ fn by_samples(
 }
 
 /// The way to code a picture by all properties and predictors, after this colour transform or without one.
-fn by_all(
+pub(crate) fn by_all(
     alloc: Global,
     picture: Samples<'_>,
     care: Care,
@@ -350,7 +357,11 @@ pub(crate) fn add_advice(list: &mut Vec<Advice>, advice: Advice) -> Result<(), O
 }
 
 /// Adds a way, if there is one that is not among them.
-fn add_way(alloc: Global, list: &mut Vec<Advice>, way: Option<Way>) -> Result<(), OutOfMemory> {
+pub(crate) fn add_way(
+    alloc: Global,
+    list: &mut Vec<Advice>,
+    way: Option<Way>,
+) -> Result<(), OutOfMemory> {
     let Some(way) = way else {
         return Ok(());
     };
@@ -360,6 +371,7 @@ fn add_way(alloc: Global, list: &mut Vec<Advice>, way: Option<Way>) -> Result<()
         colour: way.colour,
         own: way.own,
         palettes: Vec::new(alloc),
+        cost: way.scheme.cost,
     };
     add_advice(list, advice)
 }
@@ -383,8 +395,7 @@ fn or_by_values(
     }
 }
 
-/// Adds the ways of one effort: the cheapest by values, colours or slopes, that by the errors of the weighted predictor,
-/// and at the greatest that by all properties and predictors.
+/// Adds the ways of one effort: the cheapest by values, colours or slopes, and that by samples one by one.
 pub(crate) fn add_ways_of(
     alloc: Global,
     list: &mut Vec<Advice>,
@@ -392,6 +403,9 @@ pub(crate) fn add_ways_of(
     effort: Effort,
     colours: &[Option<u32>],
 ) -> Result<(), OutOfMemory> {
+    if matches!(effort, Effort::Best) {
+        return add_best_ways_of(alloc, list, picture, colours);
+    }
     let best = learnt(alloc, picture, effort, colours)?;
     add_way(alloc, list, or_by_values(alloc, picture, best)?)?;
     if picture.depth.exp_bits != 0 {
@@ -399,26 +413,16 @@ pub(crate) fn add_ways_of(
     }
     let tried = colours_by_samples(effort, colours);
     let way = by_samples(alloc, picture, effort, tried)?;
-    if matches!(effort, Effort::Best) {
-        let colour = match &way {
-            Some(way) => way.colour,
-            None => None,
-        };
-        let care = care_of(effort).1;
-        let broad = by_all(alloc, picture, care, colour)?;
-        add_way(alloc, list, Some(broad))?;
-    }
     add_way(alloc, list, way)
 }
 
-/// The efforts of which the ways are tried: at the greatest those of all, and where samples repeat also those of a lower one,
-/// by which copies are often shorter.
+/// The efforts of which the ways are tried with all palettes: at the greatest those of the usual one, and where samples
+/// repeat also those of the lowest one, by which copies are often shorter.
 fn efforts_of(effort: Effort, repeats: bool) -> &'static [Effort] {
     match effort {
         Effort::Fast => &[Effort::Fast],
-        Effort::Usual if repeats => &[Effort::Fast, Effort::Usual],
-        Effort::Usual => &[Effort::Usual],
-        Effort::Best => &[Effort::Fast, Effort::Usual, Effort::Best],
+        _ if repeats => &[Effort::Fast, Effort::Usual],
+        _ => &[Effort::Usual],
     }
 }
 
@@ -445,6 +449,34 @@ pub(crate) fn colours_of(picture: &Picture, effort: Effort) -> &'static [Option<
     &[None, Some(LUMA)]
 }
 
+/// What the cheapest of these ways costs.
+fn least_cost(list: &[Advice]) -> u64 {
+    let mut least = u64::MAX;
+    for advice in list {
+        least = least.min(advice.cost);
+    }
+    least
+}
+
+/// Whether ways that cost more than others are left out: at the least effort there is one or few, and at the greatest those
+/// of other efforts are an estimate. Costs are without copies, so that they say little where samples repeat.
+fn are_compared(effort: Effort, repeats: bool) -> bool {
+    matches!(effort, Effort::Usual) && !repeats
+}
+
+/// The ways that cost little more than the cheapest: a twentieth.
+fn cheap_ways(alloc: Global, list: Vec<Advice>) -> Result<Vec<Advice>, OutOfMemory> {
+    let least = least_cost(&list);
+    let most = least.saturating_add(least / 20);
+    let mut kept = Vec::new(alloc);
+    for advice in list {
+        if advice.cost <= most {
+            kept.push(advice)?;
+        }
+    }
+    Ok(kept)
+}
+
 /// Ways to code a picture, of which samples repeat if `repeats` says so, and whose values have these ranks, if they are few.
 pub(crate) fn advices_for(
     alloc: Global,
@@ -458,18 +490,25 @@ pub(crate) fn advices_for(
         channels: &picture.channels,
         depth: picture.header.bit_depth,
     };
-    for effort in efforts_of(effort, repeats) {
-        add_ways_of(
-            alloc,
-            &mut list,
-            samples,
-            *effort,
-            colours_of(picture, *effort),
-        )?;
-        add_palette_ways(alloc, &mut list, picture, *effort)?;
+    let compared = are_compared(effort, repeats);
+    for tried in efforts_of(effort, repeats) {
+        let colours = colours_of(picture, *tried);
+        add_ways_of(alloc, &mut list, samples, *tried, colours)?;
+        let bound = if compared {
+            Some(least_cost(&list))
+        } else {
+            None
+        };
+        add_palette_ways(alloc, &mut list, picture, *tried, bound)?;
         if let Some(ranks) = ranks {
-            add_rank_ways(alloc, &mut list, picture, ranks, *effort)?;
+            add_rank_ways(alloc, &mut list, picture, ranks, *tried, bound)?;
         }
+    }
+    if compared {
+        return cheap_ways(alloc, list);
+    }
+    if matches!(effort, Effort::Best) {
+        return best_ways(alloc, list, picture, repeats, ranks);
     }
     Ok(list)
 }

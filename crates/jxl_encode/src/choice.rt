@@ -89,6 +89,7 @@ pub(crate) fn encode_codestream<P: Progress>(
         colour: None,
         own: false,
         palettes: Vec::new(alloc),
+        cost: 0,
     };
     codestream_by(alloc, picture, &plain, &[], copies)
 }

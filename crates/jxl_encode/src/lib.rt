@@ -2,6 +2,7 @@
 #![tactic(auto)]
 
 mod advice;
+mod best;
 mod channels;
 mod choice;
 pub mod codable;

@@ -1,9 +1,9 @@
 //! Ways to code a picture of few colours by a palette. They are heuristics: no sample depends on them.
 
-use crate::advice::{Advice, Samples, add_advice, add_ways_of, care_of, shade_axes};
+use crate::advice::{Advice, Samples, add_advice, add_ways_of, care_of, shade_axes, slope_axes};
 use crate::effort::Effort;
 use crate::joined::{CHANNEL, Levels, joined};
-use jxl_encode_advice::residuals::scheme_by_residuals;
+use jxl_encode_advice::residuals::{Care, scheme_by_residuals};
 use jxl_encode_image::transform::PalettePlan;
 use jxl_encode_learn::scheme::Scheme;
 use jxl_encode_palette::colours::ColourOrder;
@@ -21,6 +21,9 @@ pub(crate) const MOST_CHANNELS: usize = 4;
 
 /// How many pixels a picture has at least for each colour of a palette.
 const PIXELS: usize = 8;
+
+/// About how many samples are looked at before ways by a palette are learnt.
+const LOOKED: usize = 1 << 15;
 
 /// The side of a group: the indices of a larger picture are in other sections than the table.
 const GROUP_DIM: usize = 256;
@@ -68,6 +71,7 @@ fn way_of(
         colour: index.colour,
         own: index.own,
         palettes: plans,
+        cost: index.cost.saturating_add(table.cost),
     }))
 }
 
@@ -100,7 +104,27 @@ pub(crate) struct Coded<'a> {
     pub(crate) samples: Samples<'a>,
 }
 
-/// Adds the ways by these palettes, and one of these colour transforms.
+/// Whether tables of this cost and samples cost more than the bound, if there is one, by a look at some of the samples.
+fn is_above(
+    alloc: Global,
+    samples: Samples<'_>,
+    tables: u64,
+    bound: Option<u64>,
+) -> Result<bool, OutOfMemory> {
+    let Some(most) = bound else {
+        return Ok(false);
+    };
+    let (slopes, care) = care_of(Effort::Fast);
+    let care = Care {
+        samples: LOOKED,
+        ..care
+    };
+    let axes = slope_axes(alloc, samples.depth, slopes)?;
+    let scheme = scheme_by_residuals(alloc, samples.channels, None, axes, care)?;
+    Ok(scheme.cost.saturating_add(tables) > most)
+}
+
+/// Adds the ways by these palettes, and one of these colour transforms, if they do not cost more than the bound.
 pub(crate) fn add_ways_by(
     alloc: Global,
     list: &mut Vec<Advice>,
@@ -108,6 +132,7 @@ pub(crate) fn add_ways_by(
     palettes: &[PalettePlan],
     colours: &[Option<u32>],
     effort: Effort,
+    bound: Option<u64>,
 ) -> Result<(), OutOfMemory> {
     let large = match coded.samples.channels.get(0) {
         Some(first) => first.width() > GROUP_DIM || first.height() > GROUP_DIM,
@@ -115,6 +140,9 @@ pub(crate) fn add_ways_by(
     };
     let care = care_of(effort).1;
     let scheme = scheme_by_residuals(alloc, coded.tables, None, shade_axes(alloc)?, care)?;
+    if is_above(alloc, coded.samples, scheme.cost, bound)? {
+        return Ok(());
+    }
     let mut ways = Vec::new(alloc);
     add_ways_of(alloc, &mut ways, coded.samples, effort, colours)?;
     for way in ways {
@@ -125,13 +153,14 @@ pub(crate) fn add_ways_by(
     Ok(())
 }
 
-/// Adds the ways by this palette of all channels.
+/// Adds the ways by this palette of all channels, if they do not cost more than the bound.
 fn add_ways_of_all(
     alloc: Global,
     list: &mut Vec<Advice>,
     coding: PaletteGrids<i32>,
     plan: PalettePlan,
     effort: Effort,
+    bound: Option<u64>,
 ) -> Result<(), OutOfMemory> {
     let PaletteGrids { table, index, .. } = coding;
     let depth = depth_of(table.width());
@@ -145,7 +174,7 @@ fn add_ways_of_all(
         },
     };
     let mut ways = Vec::new(alloc);
-    add_ways_by(alloc, &mut ways, coded, &[plan], &[None], effort)?;
+    add_ways_by(alloc, &mut ways, coded, &[plan], &[None], effort, bound)?;
     for way in ways {
         let mut way = way;
         way.own = false;
@@ -154,20 +183,21 @@ fn add_ways_of_all(
     Ok(())
 }
 
-/// The orders of colours that are tried.
+/// The orders of colours that are tried at an effort: at the greatest others are beside them.
 fn orders_of(effort: Effort, channels: usize) -> &'static [ColourOrder] {
     if channels == 1 {
         return &[ColourOrder::Sample];
     }
     match effort {
         Effort::Fast => &[ColourOrder::Frequency],
-        Effort::Usual => &[ColourOrder::Frequency, ColourOrder::Nearest],
-        Effort::Best => &[
-            ColourOrder::Sample,
-            ColourOrder::Frequency,
-            ColourOrder::Nearest,
-        ],
+        _ => &[ColourOrder::Frequency, ColourOrder::Nearest],
     }
+}
+
+/// Whether this number of values, from the least to the greatest, are so far apart that their ranks may take fewer bits.
+pub(crate) fn are_far_apart(count: usize, least: i32, most: i32) -> bool {
+    let span = u64::from(most.abs_diff(least)).saturating_add(1);
+    (count as u64).saturating_mul(4) <= span.saturating_mul(3)
 }
 
 /// Whether the samples of a table in rising order are so far apart that its indices may take fewer bits than the
@@ -178,8 +208,7 @@ pub(crate) fn is_sparse(table: &AlignedGrid<i32>) -> bool {
     }
     let least = table.get(0, 0);
     let most = table.get(table.width() - 1, 0);
-    let span = u64::from(most.abs_diff(least)).saturating_add(1);
-    (table.width() as u64).saturating_mul(4) <= span.saturating_mul(3)
+    are_far_apart(table.width(), least, most)
 }
 
 /// The most colours that a palette of this number of pixels has at an effort.
@@ -192,12 +221,27 @@ fn most_colours(pixels: usize, effort: Effort) -> usize {
     most.min(pixels / PIXELS)
 }
 
-/// Adds the ways by a palette of all channels, if they are one to four of one size, and their colours few.
+/// Adds the ways by a palette of all channels, if they are one to four of one size, their colours few, and the ways do not
+/// cost more than the bound.
 pub(crate) fn add_palette_ways(
     alloc: Global,
     list: &mut Vec<Advice>,
     picture: &Picture,
     effort: Effort,
+    bound: Option<u64>,
+) -> Result<(), OutOfMemory> {
+    let orders = orders_of(effort, picture.channels.len());
+    add_palette_ways_by(alloc, list, picture, effort, orders, bound)
+}
+
+/// The same in these orders of colours.
+pub(crate) fn add_palette_ways_by(
+    alloc: Global,
+    list: &mut Vec<Advice>,
+    picture: &Picture,
+    effort: Effort,
+    orders: &[ColourOrder],
+    bound: Option<u64>,
 ) -> Result<(), OutOfMemory> {
     let channels = &picture.channels;
     let Some(first) = channels.get(0) else {
@@ -207,7 +251,7 @@ pub(crate) fn add_palette_ways(
         return Ok(());
     }
     let most = most_colours(first.buf().len(), effort);
-    for order in orders_of(effort, channels.len()) {
+    for order in orders {
         let plan = PalettePlan {
             first: 0,
             count: channels.len(),
@@ -218,7 +262,7 @@ pub(crate) fn add_palette_ways(
             return Ok(());
         };
         if is_sparse(&coding.table) {
-            add_ways_of_all(alloc, list, coding, plan, effort)?;
+            add_ways_of_all(alloc, list, coding, plan, effort, bound)?;
         }
     }
     Ok(())

@@ -4,7 +4,8 @@
 use crate::advice::{Advice, Samples, colours_of};
 use crate::channels::copies_of;
 use crate::effort::Effort;
-use crate::palettes::{Coded, add_ways_by, depth_of, is_sparse};
+use crate::palettes::{Coded, add_ways_by, are_far_apart, depth_of, is_sparse};
+use jxl_encode_advice::residuals::is_taken;
 use jxl_encode_image::transform::PalettePlan;
 use jxl_encode_palette::colours::ColourOrder;
 use jxl_encode_palette::palette::{PaletteGrids, palette_of};
@@ -17,6 +18,73 @@ const MOST_VALUES: usize = 16384;
 
 /// How many pixels a picture has at least for each value of a channel.
 const PIXELS: usize = 8;
+
+/// About how many samples of a channel are looked at before all of its values are counted.
+const LOOKED: usize = 1 << 15;
+
+/// The values that the samples of a channel have which were looked at.
+#[derive(Drop)]
+struct Seen {
+    // Whether a sample has this value.
+    flags: Vec<bool>,
+    // How many values there are, and the least and the greatest.
+    count: usize,
+    least: i32,
+    most: i32,
+}
+
+impl Seen {
+    /// None, of samples of this many bits.
+    fn new(alloc: Global, bits_per_sample: u32) -> Result<Seen, OutOfMemory> {
+        let values = 1usize.wrapping_shl(bits_per_sample.min(16));
+        Ok(Seen {
+            flags: vec![in alloc; false; values]?,
+            count: 0,
+            least: i32::MAX,
+            most: i32::MIN,
+        })
+    }
+
+    /// Adds the values of a row.
+    fn add_row(&mut self, row: &[i32]) {
+        for sample in row {
+            let sample = *sample;
+            self.least = self.least.min(sample);
+            self.most = self.most.max(sample);
+            if let Some(flag) = self.flags.get_mut(sample.cast_unsigned() as usize) {
+                if !*flag {
+                    *flag = true;
+                    self.count = self.count.saturating_add(1);
+                }
+            }
+        }
+    }
+}
+
+/// Whether the values of some rows of a channel already are not far apart.
+fn is_dense(alloc: Global, picture: &Picture, channel: usize) -> Result<bool, OutOfMemory> {
+    let Some(grid) = picture.channels.get(channel) else {
+        return Ok(false);
+    };
+    let mut seen = Seen::new(alloc, picture.header.bit_depth.bits_per_sample)?;
+    let step = (grid.buf().len() / LOOKED).max(1);
+    for y in 0..grid.height() {
+        if is_taken(y, step) {
+            seen.add_row(grid.get_row(y));
+        }
+    }
+    Ok(!are_far_apart(seen.count, seen.least, seen.most))
+}
+
+/// Whether one of the channels of colours has values that are not far apart.
+fn are_dense(alloc: Global, picture: &Picture) -> Result<bool, OutOfMemory> {
+    for channel in 0..colours(&picture.header) {
+        if is_dense(alloc, picture, channel)? {
+            return Ok(true);
+        }
+    }
+    Ok(false)
+}
 
 /// The channels of colours of a picture by the ranks of their values, beside all others; the tables of the values.
 #[derive(Drop)]
@@ -72,7 +140,7 @@ impl Ranks {
 
 /// The ranks of the values of a picture, if all of its channels of colours have few, and they are not its only channel.
 pub(crate) fn ranks_of(alloc: Global, picture: &Picture) -> Result<Option<Ranks>, OutOfMemory> {
-    if picture.channels.len() < 2 {
+    if picture.channels.len() < 2 || are_dense(alloc, picture)? {
         return Ok(None);
     }
     let mut ranks = Ranks {
@@ -89,18 +157,19 @@ pub(crate) fn ranks_of(alloc: Global, picture: &Picture) -> Result<Option<Ranks>
     Ok(Some(ranks))
 }
 
-/// Adds the ways by the ranks of the values of a picture.
+/// Adds the ways by the ranks of the values of a picture, if they do not cost more than the bound.
 pub(crate) fn add_rank_ways(
     alloc: Global,
     list: &mut Vec<Advice>,
     picture: &Picture,
     ranks: &Ranks,
     effort: Effort,
+    bound: Option<u64>,
 ) -> Result<(), OutOfMemory> {
     let coded = Coded {
         tables: &ranks.tables,
         samples: ranks.samples(),
     };
     let colours = colours_of(picture, effort);
-    add_ways_by(alloc, list, coded, &ranks.plans, colours, effort)
+    add_ways_by(alloc, list, coded, &ranks.plans, colours, effort, bound)
 }

@@ -14,8 +14,13 @@ use std::alloc::Global;
 pub struct Bounds {
     /// The most nodes of a tree, without the last two.
     pub nodes: usize,
-    /// By how many predictors a cut is tried: the cheapest of them, of which each side may have another.
+    /// By how many predictors a cut is tried, at most two: the cheapest of them, of which each side may have another.
     pub predictors: usize,
+    /// The price of a decision for each class of its span, in bits divided by 65,536: a class is a sample where samples
+    /// are counted one by one.
+    pub step: u64,
+    /// Whether the first decision is between the first class on the first axis and the others.
+    pub apart: bool,
 }
 
 /// Classes that a node does not tell apart, one behind another, and their predictor.
@@ -25,6 +30,8 @@ pub(crate) struct Span {
     end: usize,
     /// The predictor.
     pub(crate) kind: usize,
+    // The next best predictor.
+    second: usize,
     cost: u64,
 }
 
@@ -35,6 +42,13 @@ struct Cut {
     place: usize,
     cost: u64,
 }
+
+/// The cut between the first class on the first axis and the others.
+const FIRST_CUT: Cut = Cut {
+    axis: 0,
+    place: 0,
+    cost: 0,
+};
 
 /// A node of the tree: a decision, or a leaf with its classes.
 #[derive(Clone, Copy)]
@@ -60,8 +74,6 @@ pub(crate) struct Learner<'a, C> {
     above: Vec<u32>,
     // The number of symbols up to the greatest of the span.
     symbols: usize,
-    // What the span costs by each predictor.
-    costs: Vec<u64>,
     // What the samples on both sides of each cut cost, by the cheapest of the predictors that are tried.
     lower: Vec<u64>,
     upper: Vec<u64>,
@@ -164,7 +176,6 @@ impl<C: Counted> Learner<'_, C> {
             below: zeros(alloc, 1)?,
             above: zeros(alloc, 1)?,
             symbols: 0,
-            costs: vec![in alloc; 0; table.kinds().min(MAX_COUNTS)]?,
             lower: vec![in alloc; 0; cuts]?,
             upper: vec![in alloc; 0; cuts]?,
             stride,
@@ -209,19 +220,27 @@ impl<C: Counted> Learner<'_, C> {
         &self.whole
     }
 
-    /// The same classes by their best predictor.
+    /// The same classes by their best predictor, and the next best.
     fn settled(&mut self, span: Span) -> Span {
         let mut best = span;
+        let mut next = u64::MAX;
         for kind in 0..self.table.kinds() {
             self.count(span, kind);
             let cost = self.cost();
             if kind == 0 || cost < best.cost {
+                if kind > 0 {
+                    next = best.cost;
+                }
                 best = Span {
                     start: span.start,
                     end: span.end,
                     kind,
+                    second: best.kind,
                     cost,
                 };
+            } else if cost < next {
+                next = cost;
+                best.second = kind;
             }
         }
         best
@@ -229,14 +248,17 @@ impl<C: Counted> Learner<'_, C> {
 
     /// Counts the samples of a span at each place of an axis.
     fn count_places(&mut self, span: Span, kind: usize, axis: usize) {
-        clear(&mut self.places);
+        let end = self.size(axis).saturating_mul(SYMBOLS);
+        if end <= self.places.len() {
+            clear(&mut self.places[..end]);
+        }
         clear(&mut self.below);
         copy_counts(&mut self.above, &self.whole);
         let classes = classes_of(&self.classes, span);
         self.table.add_places(&mut self.places, classes, kind, axis);
     }
 
-    /// What the samples on both sides of the cut of this number cost, if that is less than by the predictors before.
+    /// What the samples on both sides of the cut of this number cost, if that is less than by the predictor before.
     fn put_costs(&mut self, cut: usize) {
         let below = piece(&self.below, 0, self.symbols);
         let above = piece(&self.above, 0, self.symbols);
@@ -271,43 +293,11 @@ impl<C: Counted> Learner<'_, C> {
         }
     }
 
-    /// What the samples of a span cost by each predictor.
-    fn put_kinds(&mut self, span: Span) {
-        for kind in 0..self.table.kinds() {
-            self.count(span, kind);
-            let own = self.cost();
-            if let Some(cost) = self.costs.get_mut(kind) {
-                *cost = own;
-            }
-        }
-    }
-
-    /// The cheapest predictor of the span, which it is not again.
-    fn next_kind(&mut self) -> usize {
-        let mut best: usize = 0;
-        let mut least = u64::MAX;
-        for kind in 0..self.costs.len() {
-            if self.costs[kind] < least {
-                least = self.costs[kind];
-                best = kind;
-            }
-        }
-        if let Some(cost) = self.costs.get_mut(best) {
-            *cost = u64::MAX;
-        }
-        best
-    }
-
     /// What the samples on both sides of each cut cost by the predictors that are tried.
     fn put_tried(&mut self, span: Span) {
-        if self.bounds.predictors < 2 {
-            self.put_all(span, span.kind);
-            return;
-        }
-        self.put_kinds(span);
-        for _ in 0..self.bounds.predictors.min(self.table.kinds()) {
-            let kind = self.next_kind();
-            self.put_all(span, kind);
+        self.put_all(span, span.kind);
+        if self.bounds.predictors > 1 && self.table.kinds() > 1 {
+            self.put_all(span, span.second);
         }
     }
 
@@ -339,10 +329,23 @@ impl<C: Counted> Learner<'_, C> {
         best
     }
 
+    /// The price of a decision for the samples of a span, in bits times 65,536.
+    fn price(&self, span: Span) -> u64 {
+        let samples = span.end.saturating_sub(span.start) as u64;
+        self.bounds
+            .step
+            .saturating_mul(self.prices.scale)
+            .saturating_mul(samples)
+            .saturating_add(self.prices.decision.saturating_mul(BIT))
+    }
+
     /// The best cut of a span, if it saves more than it costs.
     fn worth(&mut self, span: Span) -> Option<Cut> {
+        let price = self.price(span);
+        if span.cost <= price {
+            return None;
+        }
         let cut = self.best_cut(span)?;
-        let price = self.prices.decision.saturating_mul(BIT);
         if cut.cost.saturating_add(price) < span.cost {
             Some(cut)
         } else {
@@ -384,6 +387,7 @@ impl<C: Counted> Learner<'_, C> {
             start,
             end,
             kind: 0,
+            second: 0,
             cost: 0,
         })
     }
@@ -393,7 +397,13 @@ impl<C: Counted> Learner<'_, C> {
         if spans.len() > self.bounds.nodes {
             return Ok(Learnt::Leaf(span));
         }
-        let Some(cut) = self.worth(span) else {
+        let first = spans.len() == 1 && self.bounds.apart && self.size(0) > 1;
+        let found = if first {
+            Some(FIRST_CUT)
+        } else {
+            self.worth(span)
+        };
+        let Some(cut) = found else {
             return Ok(Learnt::Leaf(span));
         };
         let middle = self.part(span, cut);

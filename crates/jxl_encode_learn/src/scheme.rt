@@ -119,6 +119,8 @@ pub fn scheme_of<C: Counted>(
     let bounds = Bounds {
         nodes: 509,
         predictors: 1,
+        step: 0,
+        apart: false,
     };
     scheme_within(alloc, table, prices, bounds, values, most)
 }

@@ -46,6 +46,12 @@ const MAX_NODES: usize = 4093;
 /// By how many predictors a cut is tried.
 const TRIED: usize = 2;
 
+/// The most samples of a small picture.
+const SMALL: usize = 1 << 16;
+
+/// The price of a decision for each sample that it is made for, in bits divided by 65,536: decoding takes time for it.
+const STEP: u64 = 131;
+
 /// About how many values of a property its cuts are chosen by.
 const LOOKED: usize = 1 << 15;
 
@@ -61,6 +67,8 @@ struct Values {
 struct ByAll {
     values: Vec<Values>,
     samples: Samples,
+    // How many channels are walked over with the weighted predictor.
+    weighted: usize,
 }
 
 /// A property of the sample in a column.
@@ -76,8 +84,8 @@ fn property_of(rows: &Rows<'_>, x: usize, own: &[i32; 16], property: u32) -> i32
 }
 
 impl Taker for ByAll {
-    fn is_weighted(&self) -> bool {
-        true
+    fn is_weighted(&self, channel: usize) -> bool {
+        channel < self.weighted
     }
 
     fn step(
@@ -96,8 +104,8 @@ impl Taker for ByAll {
 }
 
 impl ByAll {
-    /// Nothing taken.
-    fn new(alloc: Global) -> Result<ByAll, OutOfMemory> {
+    /// Nothing taken, of channels of which this number is walked over with the weighted predictor.
+    fn new(alloc: Global, weighted: usize) -> Result<ByAll, OutOfMemory> {
         let mut values = Vec::new(alloc);
         for property in &PROPERTIES {
             values.push(Values {
@@ -108,6 +116,7 @@ impl ByAll {
         Ok(ByAll {
             values,
             samples: Samples::new(alloc, Vec::new(alloc), &PREDICTORS)?,
+            weighted,
         })
     }
 
@@ -185,15 +194,19 @@ fn cuts_between(alloc: Global, values: &[i32]) -> Result<Vec<i32>, OutOfMemory> 
 }
 
 /// The scheme that is learnt from a part of the samples of the channels, the first three of which are coded by a colour
-/// transform of this kind, if there is one.
+/// transform of this kind, if there is one. In a picture that is not small the weighted predictor is for the first channel
+/// alone: others have little use for it, and are decoded in less time.
 pub fn scheme_by_all(
     alloc: Global,
     channels: &[AlignedGrid<i32>],
     colour: Option<u32>,
     care: Care,
 ) -> Result<Scheme, OutOfMemory> {
-    let step = samples_in(channels).div_ceil(care.samples.max(1)).max(1);
-    let mut taker = ByAll::new(alloc)?;
+    let samples = samples_in(channels);
+    let step = samples.div_ceil(care.samples.max(1)).max(1);
+    let apart = samples > SMALL && channels.len() > 1;
+    let weighted = if apart { 1 } else { channels.len() };
+    let mut taker = ByAll::new(alloc, weighted)?;
     take_all(alloc, Source { channels, colour }, &mut taker, step)?;
     taker.place(alloc)?;
     let prices = Prices {
@@ -206,6 +219,8 @@ pub fn scheme_by_all(
     let bounds = Bounds {
         nodes: MAX_NODES,
         predictors: TRIED,
+        step: STEP,
+        apart,
     };
     scheme_within(alloc, &taker.samples, prices, bounds, &[], care.clusters)
 }

@@ -90,7 +90,7 @@ impl ByErrors {
 }
 
 impl Taker for ByErrors {
-    fn is_weighted(&self) -> bool {
+    fn is_weighted(&self, _channel: usize) -> bool {
         true
     }
 

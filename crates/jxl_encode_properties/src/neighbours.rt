@@ -79,7 +79,7 @@ impl ByNeighbours {
 }
 
 impl Taker for ByNeighbours {
-    fn is_weighted(&self) -> bool {
+    fn is_weighted(&self, _channel: usize) -> bool {
         false
     }
 

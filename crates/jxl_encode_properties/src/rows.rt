@@ -33,8 +33,8 @@ pub(crate) struct Rows<'a> {
 
 /// What takes the samples that are walked over.
 pub(crate) trait Taker {
-    /// Whether samples are walked over with the weighted predictor.
-    fn is_weighted(&self) -> bool;
+    /// Whether the samples of a channel are walked over with the weighted predictor.
+    fn is_weighted(&self, channel: usize) -> bool;
 
     /// Walks over the sample in a column, and takes it if `taken` says so.
     fn step(
@@ -146,7 +146,7 @@ fn take_channel<T: Taker>(
         let walked = taken || is_taken(y.saturating_add(BEFORE) / BAND, step);
         if walked {
             if rows.go(channel, y, anew)? {
-                walks = walks_of(alloc, rows.here.len(), taker.is_weighted())?;
+                walks = walks_of(alloc, rows.here.len(), taker.is_weighted(channel))?;
             }
             walk_row(rows, &mut walks, taker, taken)?;
         }
