@@ -18,12 +18,6 @@ use std::alloc::Global;
 /// How many colour transforms are tried with trees learnt from samples one by one.
 const COLOURS: usize = 2;
 
-/// How many lists of palettes are tried with most care.
-const PALETTES: usize = 2;
-
-/// The cost of a list of palettes that is tried is at most this percentage of the least one.
-const NEAR: u64 = 106;
-
 /// About how many samples are looked at by all properties and predictors.
 const SAMPLES: usize = 3 << 18;
 
@@ -123,28 +117,16 @@ fn costs_of(alloc: Global, ways: &[Advice]) -> Result<Vec<u64>, OutOfMemory> {
     Ok(costs)
 }
 
-/// Whether these palettes are among the lists.
-fn have(lists: &[Vec<PalettePlan>], palettes: &[PalettePlan]) -> bool {
-    lists.iter().any(|list| list.as_slice() == palettes)
-}
-
-/// The palettes of the cheapest of these ways, and of others that cost little more.
-fn likely_palettes(alloc: Global, ways: &[Advice]) -> Result<Vec<Vec<PalettePlan>>, OutOfMemory> {
+/// The palettes of the cheapest of these ways.
+fn likely_palettes(alloc: Global, ways: &[Advice]) -> Result<Vec<PalettePlan>, OutOfMemory> {
     let costs = costs_of(alloc, ways)?;
-    let mut lists = Vec::new(alloc);
-    let mut most = u64::MAX;
-    for at in &least_of(alloc, &costs, costs.len())? {
-        let Some(way) = ways.get(*at) else {
-            break;
-        };
-        most = most.min(way.cost.saturating_mul(NEAR) / 100);
-        if way.cost <= most && lists.len() < PALETTES && !have(&lists, &way.palettes) {
-            let mut plans = Vec::new(alloc);
+    let mut plans = Vec::new(alloc);
+    for at in &least_of(alloc, &costs, 1)? {
+        if let Some(way) = ways.get(*at) {
             plans.extend_from_slice(&way.palettes)?;
-            lists.push(plans)?;
         }
     }
-    Ok(lists)
+    Ok(plans)
 }
 
 /// Adds the ways by these palettes.
@@ -199,9 +181,8 @@ pub(crate) fn best_ways(
         let orders = &[ColourOrder::Sample];
         add_palette_ways_by(alloc, &mut ways, picture, Effort::Usual, orders, None)?;
     }
-    for palettes in &likely_palettes(alloc, &ways)? {
-        add_ways_with(alloc, &mut ways, picture, palettes, ranks)?;
-    }
+    let palettes = likely_palettes(alloc, &ways)?;
+    add_ways_with(alloc, &mut ways, picture, &palettes, ranks)?;
     let most = if samples_in(&picture.channels) <= SMALL {
         SMALL_WAYS
     } else if repeats {
