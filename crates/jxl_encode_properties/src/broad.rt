@@ -50,7 +50,7 @@ const TRIED: usize = 2;
 const SMALL: usize = 1 << 16;
 
 /// The price of a decision for each sample that it is made for, in bits divided by 65,536: decoding takes time for it.
-const STEP: u64 = 131;
+const STEP: u64 = 65;
 
 /// About how many values of a property its cuts are chosen by.
 const LOOKED: usize = 1 << 15;
