@@ -20,6 +20,10 @@ const COLOURS: usize = 2;
 /// About how many samples are looked at by all properties and predictors.
 const SAMPLES: usize = 3 << 18;
 
+/// The most samples of a picture of few colours, of which ways without a palette of all channels are tried: in larger ones
+/// too few are looked at to know what these cost.
+const TRUSTED: usize = 1 << 20;
+
 /// The most samples of a small picture.
 const SMALL: usize = 1 << 16;
 
@@ -194,16 +198,17 @@ pub(crate) fn best_ways(
         let orders = &[ColourOrder::Sample];
         add_palette_ways_by(alloc, &mut ways, picture, Effort::Usual, orders, None)?;
     }
+    let samples = samples_in(&picture.channels);
     let other = least_other(&ways, picture);
     let mut palette = u64::MAX;
     if let Some((order, cost)) = best_order(&ways, picture) {
-        palette = cost;
+        palette = if samples > TRUSTED { 0 } else { cost };
         add_palette_ways_by(alloc, &mut ways, picture, Effort::Best, &[order], None)?;
     }
     if other <= palette {
         add_other_ways(alloc, &mut ways, picture, ranks)?;
     }
-    let most = if samples_in(&picture.channels) <= SMALL {
+    let most = if samples <= SMALL {
         SMALL_WAYS
     } else if repeats {
         COPIED_WAYS
