@@ -8,7 +8,7 @@ use crate::advice::{
 use crate::effort::Effort;
 use crate::palettes::add_palette_ways_by;
 use crate::ranks::{Ranks, add_rank_ways};
-use jxl_encode_advice::residuals::{Care, samples_in, scheme_by_residuals};
+use jxl_encode_advice::residuals::{samples_in, scheme_by_residuals};
 use jxl_encode_palette::colours::ColourOrder;
 use jxl_picture::picture::Picture;
 use jxlm_base::grid::OutOfMemory;
@@ -17,13 +17,6 @@ use std::alloc::Global;
 /// How many colour transforms are tried with trees learnt from samples one by one.
 const COLOURS: usize = 2;
 
-/// About how many samples are looked at by all properties and predictors.
-const SAMPLES: usize = 3 << 18;
-
-/// The most samples of a picture of few colours, of which ways without a palette of all channels are tried: in larger ones
-/// too few are looked at to know what these cost.
-const TRUSTED: usize = 1 << 20;
-
 /// The most samples of a small picture.
 const SMALL: usize = 1 << 16;
 
@@ -31,10 +24,10 @@ const SMALL: usize = 1 << 16;
 const SMALL_WAYS: usize = 6;
 
 /// How many ways are tried to the end where samples repeat: costs are without copies.
-const COPIED_WAYS: usize = 2;
+const COPIED_WAYS: usize = 8;
 
 /// How many ways are tried to the end elsewhere.
-const WAYS: usize = 2;
+const WAYS: usize = 4;
 
 /// The place of the least of these numbers that is not taken; none, if all are.
 fn next_least(numbers: &[u64], taken: &[usize]) -> Option<usize> {
@@ -102,11 +95,7 @@ pub(crate) fn add_best_ways_of(
         Some(way) => way.colour,
         None => None,
     };
-    let care = Care {
-        samples: SAMPLES,
-        ..care_of(effort).1
-    };
-    let broad = by_all(alloc, samples, care, colour)?;
+    let broad = by_all(alloc, samples, care_of(effort).1, colour)?;
     add_way(alloc, list, Some(broad))?;
     add_way(alloc, list, way)
 }
@@ -202,7 +191,7 @@ pub(crate) fn best_ways(
     let other = least_other(&ways, picture);
     let mut palette = u64::MAX;
     if let Some((order, cost)) = best_order(&ways, picture) {
-        palette = if samples > TRUSTED { 0 } else { cost };
+        palette = cost;
         add_palette_ways_by(alloc, &mut ways, picture, Effort::Best, &[order], None)?;
     }
     if other <= palette {
