@@ -32,6 +32,8 @@ pub(crate) struct Advice {
     pub(crate) palettes: Vec<PalettePlan>,
     /// What samples, codes and tree cost, nearly, without copies, in bits times 65,536.
     pub(crate) cost: u64,
+    /// Whether its tree is by all properties and predictors.
+    pub(crate) broad: bool,
 }
 
 /// The samples of a picture, and how they are stored.
@@ -48,6 +50,7 @@ pub(crate) struct Way {
     scheme: Scheme,
     pub(crate) colour: Option<u32>,
     own: bool,
+    broad: bool,
 }
 
 impl Advice {
@@ -232,6 +235,7 @@ fn or_by_colours(
                 scheme,
                 colour,
                 own: true,
+                broad: false,
             },
         )),
         None => Ok(best),
@@ -277,6 +281,7 @@ pub(crate) fn by_slopes(
                 scheme,
                 colour: *colour,
                 own: true,
+                broad: false,
             },
         );
     }
@@ -317,6 +322,7 @@ pub(crate) fn by_samples(
                 scheme,
                 colour: *colour,
                 own: false,
+                broad: false,
             },
         );
     }
@@ -335,6 +341,7 @@ pub(crate) fn by_all(
         scheme,
         colour,
         own: false,
+        broad: true,
     })
 }
 
@@ -372,6 +379,7 @@ pub(crate) fn add_way(
         own: way.own,
         palettes: Vec::new(alloc),
         cost: way.scheme.cost,
+        broad: way.broad,
     };
     add_advice(list, advice)
 }
@@ -389,6 +397,7 @@ fn or_by_values(
                 scheme,
                 colour: None,
                 own: true,
+                broad: false,
             },
         )),
         None => Ok(best),

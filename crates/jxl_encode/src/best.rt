@@ -8,8 +8,7 @@ use crate::advice::{
 use crate::effort::Effort;
 use crate::palettes::add_palette_ways_by;
 use crate::ranks::{Ranks, add_rank_ways};
-use jxl_encode_advice::residuals::{Care, samples_in, scheme_by_residuals};
-use jxl_encode_image::transform::PalettePlan;
+use jxl_encode_advice::residuals::{samples_in, scheme_by_residuals};
 use jxl_encode_palette::colours::ColourOrder;
 use jxl_picture::picture::Picture;
 use jxlm_base::grid::OutOfMemory;
@@ -18,26 +17,17 @@ use std::alloc::Global;
 /// How many colour transforms are tried with trees learnt from samples one by one.
 const COLOURS: usize = 2;
 
-/// How many lists of palettes are tried with most care.
-const PALETTES: usize = 2;
-
-/// The cost of a list of palettes that is tried is at most this percentage of the least one.
-const NEAR: u64 = 106;
-
-/// About how many samples are looked at by all properties and predictors.
-const SAMPLES: usize = 3 << 18;
-
 /// The most samples of a small picture.
 const SMALL: usize = 1 << 16;
 
-/// How many ways are tried to the end of a small picture.
+/// How many ways are tried to the end of a small picture, beside those by all properties and predictors.
 const SMALL_WAYS: usize = 6;
 
 /// How many ways are tried to the end where samples repeat: costs are without copies.
-const COPIED_WAYS: usize = 3;
+const COPIED_WAYS: usize = 8;
 
 /// How many ways are tried to the end elsewhere.
-const WAYS: usize = 2;
+const WAYS: usize = 4;
 
 /// The place of the least of these numbers that is not taken; none, if all are.
 fn next_least(numbers: &[u64], taken: &[usize]) -> Option<usize> {
@@ -70,7 +60,7 @@ fn likely_colours(
     samples: Samples<'_>,
     colours: &[Option<u32>],
 ) -> Result<Vec<Option<u32>>, OutOfMemory> {
-    let (slopes, care) = care_of(Effort::Fast);
+    let (slopes, care) = care_of(Effort::Usual);
     let mut costs = Vec::new(alloc);
     for colour in colours {
         let axes = slope_axes(alloc, samples.depth, slopes)?;
@@ -105,11 +95,7 @@ pub(crate) fn add_best_ways_of(
         Some(way) => way.colour,
         None => None,
     };
-    let care = Care {
-        samples: SAMPLES,
-        ..care_of(effort).1
-    };
-    let broad = by_all(alloc, samples, care, colour)?;
+    let broad = by_all(alloc, samples, care_of(effort).1, colour)?;
     add_way(alloc, list, Some(broad))?;
     add_way(alloc, list, way)
 }
@@ -123,62 +109,64 @@ fn costs_of(alloc: Global, ways: &[Advice]) -> Result<Vec<u64>, OutOfMemory> {
     Ok(costs)
 }
 
-/// Whether these palettes are among the lists.
-fn have(lists: &[Vec<PalettePlan>], palettes: &[PalettePlan]) -> bool {
-    lists.iter().any(|list| list.as_slice() == palettes)
-}
-
-/// The palettes of the cheapest of these ways, and of others that cost little more.
-fn likely_palettes(alloc: Global, ways: &[Advice]) -> Result<Vec<Vec<PalettePlan>>, OutOfMemory> {
-    let costs = costs_of(alloc, ways)?;
-    let mut lists = Vec::new(alloc);
-    let mut most = u64::MAX;
-    for at in &least_of(alloc, &costs, costs.len())? {
-        let Some(way) = ways.get(*at) else {
-            break;
-        };
-        most = most.min(way.cost.saturating_mul(NEAR) / 100);
-        if way.cost <= most && lists.len() < PALETTES && !have(&lists, &way.palettes) {
-            let mut plans = Vec::new(alloc);
-            plans.extend_from_slice(&way.palettes)?;
-            lists.push(plans)?;
+/// The order of the cheapest palette of all channels of these ways, and what the way costs; none, if there is no such palette.
+fn best_order(ways: &[Advice], picture: &Picture) -> Option<(ColourOrder, u64)> {
+    let mut best: Option<(ColourOrder, u64)> = None;
+    for way in ways {
+        if let Some(plan) = way.palettes.first() {
+            let cheaper = match best {
+                Some((_, cost)) => way.cost < cost,
+                None => true,
+            };
+            if cheaper && plan.count == picture.channels.len() {
+                best = Some((plan.order, way.cost));
+            }
         }
     }
-    Ok(lists)
+    best
 }
 
-/// Adds the ways by these palettes.
-fn add_ways_with(
+/// What the cheapest of the ways without a palette of all channels costs.
+fn least_other(ways: &[Advice], picture: &Picture) -> u64 {
+    let mut least = u64::MAX;
+    for way in ways {
+        let other = match way.palettes.first() {
+            Some(plan) => plan.count != picture.channels.len(),
+            None => true,
+        };
+        if other {
+            least = least.min(way.cost);
+        }
+    }
+    least
+}
+
+/// Adds the ways without a palette of all channels: by the ranks of values, if there are some.
+fn add_other_ways(
     alloc: Global,
     list: &mut Vec<Advice>,
     picture: &Picture,
-    palettes: &[PalettePlan],
     ranks: &Option<Ranks>,
 ) -> Result<(), OutOfMemory> {
     let effort = Effort::Best;
-    let Some(plan) = palettes.first() else {
-        let samples = Samples {
-            channels: &picture.channels,
-            depth: picture.header.bit_depth,
-        };
-        return add_ways_of(alloc, list, samples, effort, colours_of(picture, effort));
-    };
-    match ranks {
-        Some(ranks) if plan.count < picture.channels.len() => {
-            add_rank_ways(alloc, list, picture, ranks, effort, None)
-        }
-        _ => add_palette_ways_by(alloc, list, picture, effort, &[plan.order], None),
+    if let Some(ranks) = ranks {
+        return add_rank_ways(alloc, list, picture, ranks, effort, None);
     }
+    let samples = Samples {
+        channels: &picture.channels,
+        depth: picture.header.bit_depth,
+    };
+    add_ways_of(alloc, list, samples, effort, colours_of(picture, effort))
 }
 
-/// The cheapest of these ways, at most this many.
+/// The ways by all properties and predictors, and the cheapest of these ways, at most this many.
 fn cheapest_of(alloc: Global, ways: Vec<Advice>, most: usize) -> Result<Vec<Advice>, OutOfMemory> {
     let costs = costs_of(alloc, &ways)?;
     let places = least_of(alloc, &costs, most)?;
     let mut kept = Vec::new(alloc);
     let mut at: usize = 0;
     for way in ways {
-        if places.iter().any(|place| *place == at) {
+        if way.broad || places.iter().any(|place| *place == at) {
             kept.push(way)?;
         }
         at = at.saturating_add(1);
@@ -199,10 +187,17 @@ pub(crate) fn best_ways(
         let orders = &[ColourOrder::Sample];
         add_palette_ways_by(alloc, &mut ways, picture, Effort::Usual, orders, None)?;
     }
-    for palettes in &likely_palettes(alloc, &ways)? {
-        add_ways_with(alloc, &mut ways, picture, palettes, ranks)?;
+    let samples = samples_in(&picture.channels);
+    let other = least_other(&ways, picture);
+    let mut palette = u64::MAX;
+    if let Some((order, cost)) = best_order(&ways, picture) {
+        palette = cost;
+        add_palette_ways_by(alloc, &mut ways, picture, Effort::Best, &[order], None)?;
     }
-    let most = if samples_in(&picture.channels) <= SMALL {
+    if other <= palette {
+        add_other_ways(alloc, &mut ways, picture, ranks)?;
+    }
+    let most = if samples <= SMALL {
         SMALL_WAYS
     } else if repeats {
         COPIED_WAYS

@@ -90,6 +90,7 @@ pub(crate) fn encode_codestream<P: Progress>(
         own: false,
         palettes: Vec::new(alloc),
         cost: 0,
+        broad: false,
     };
     codestream_by(alloc, picture, &plain, &[], copies)
 }

@@ -72,6 +72,7 @@ fn way_of(
         own: index.own,
         palettes: plans,
         cost: index.cost.saturating_add(table.cost),
+        broad: index.broad,
     }))
 }
 

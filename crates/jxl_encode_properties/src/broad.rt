@@ -50,7 +50,7 @@ const TRIED: usize = 2;
 const SMALL: usize = 1 << 16;
 
 /// The price of a decision for each sample that it is made for, in bits divided by 65,536: decoding takes time for it.
-const STEP: u64 = 131;
+const STEP: u64 = 65;
 
 /// About how many values of a property its cuts are chosen by.
 const LOOKED: usize = 1 << 15;
@@ -194,8 +194,8 @@ fn cuts_between(alloc: Global, values: &[i32]) -> Result<Vec<i32>, OutOfMemory> 
 }
 
 /// The scheme that is learnt from a part of the samples of the channels, the first three of which are coded by a colour
-/// transform of this kind, if there is one. In a picture that is not small the weighted predictor is for the first channel
-/// alone: others have little use for it, and are decoded in less time.
+/// transform of this kind, if there is one. In a picture of three channels that is not small the weighted predictor is for the
+/// first channel alone: others have little use for it, and are decoded in less time.
 pub fn scheme_by_all(
     alloc: Global,
     channels: &[AlignedGrid<i32>],
@@ -204,7 +204,7 @@ pub fn scheme_by_all(
 ) -> Result<Scheme, OutOfMemory> {
     let samples = samples_in(channels);
     let step = samples.div_ceil(care.samples.max(1)).max(1);
-    let apart = samples > SMALL && channels.len() > 1;
+    let apart = samples > SMALL && channels.len() == 3;
     let weighted = if apart { 1 } else { channels.len() };
     let mut taker = ByAll::new(alloc, weighted)?;
     take_all(alloc, Source { channels, colour }, &mut taker, step)?;
