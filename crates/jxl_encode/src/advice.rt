@@ -360,13 +360,14 @@ fn add_way(alloc: Global, list: &mut Vec<Advice>, way: Option<Way>) -> Result<()
     let Some(way) = way else {
         return Ok(());
     };
+    let cost = way.scheme.cost;
     let advice = Advice {
         nodes: way.scheme.nodes,
         clusters: way.scheme.clusters,
         colour: way.colour,
         own: way.own,
         palettes: Vec::new(alloc),
-        cost: way.scheme.cost,
+        cost,
     };
     add_advice(list, advice)
 }
