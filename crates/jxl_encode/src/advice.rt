@@ -372,13 +372,14 @@ pub(crate) fn add_way(
     let Some(way) = way else {
         return Ok(());
     };
+    let cost = way.scheme.cost;
     let advice = Advice {
         nodes: way.scheme.nodes,
         clusters: way.scheme.clusters,
         colour: way.colour,
         own: way.own,
         palettes: Vec::new(alloc),
-        cost: way.scheme.cost,
+        cost,
         broad: way.broad,
     };
     add_advice(list, advice)
