@@ -29,6 +29,9 @@ const COPIED_WAYS: usize = 8;
 /// How many ways are tried to the end elsewhere.
 const WAYS: usize = 4;
 
+/// The share by which ways without a palette of all channels may cost more than those by one, and are tried with most care.
+const MARGIN: u64 = 8;
+
 /// The place of the least of these numbers that is not taken; none, if all are.
 fn next_least(numbers: &[u64], taken: &[usize]) -> Option<usize> {
     let mut best: Option<usize> = None;
@@ -194,7 +197,7 @@ pub(crate) fn best_ways(
         palette = cost;
         add_palette_ways_by(alloc, &mut ways, picture, Effort::Best, &[order], None)?;
     }
-    if other <= palette {
+    if other <= palette.saturating_add(palette / MARGIN) {
         add_other_ways(alloc, &mut ways, picture, ranks)?;
     }
     let most = if samples <= SMALL {
