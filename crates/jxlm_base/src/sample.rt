@@ -177,15 +177,9 @@ impl Sealed for i32 {
     }
 
     fn grad_clamped(n: i32, w: i32, nw: i32) -> i32 {
-        let low = n.min(w);
-        let high = n.max(w);
-        if nw < low {
-            high
-        } else if high < nw {
-            low
-        } else {
-            n.wrapping_sub(nw).wrapping_add(w)
-        }
+        // the same number, by fewer steps that wait for the sample to the left
+        let between = w.clamp(n.min(nw), n.max(nw));
+        n.wrapping_add(w).wrapping_sub(between)
     }
 
     fn try_into_grid_i32(grid: AlignedGrid<i32>) -> Result<AlignedGrid<i32>, AlignedGrid<i32>>
