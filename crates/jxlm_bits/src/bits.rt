@@ -181,6 +181,9 @@ impl<'a> Bitstream<'a> {
         ensures bytes { bytes_of self.new ≡ bytes_of self.old }
     {
         if self.bytes.len() - self.byte < 8 {
+            if n == 0 {
+                return Ok(0);
+            }
             // a copy, so that a reader in a local variable may stay in registers
             let mut after = *self;
             let value = after.read_near_end(n)?;
@@ -341,7 +344,12 @@ impl<'a> Bitstream<'a> {
         ensures { ReadsNumbers n numbers.old numbers.new self.old self.new result }
     {
         if self.has_many(n, numbers.len()) {
-            self.take_many(n, numbers);
+            // numbers of a byte have a loop of their own, with no shift by their width
+            if n == 8 {
+                self.take_many(8, numbers);
+            } else {
+                self.take_many(n, numbers);
+            }
             return numbers.len();
         }
         // a copy, so that a reader in a local variable may stay in registers
