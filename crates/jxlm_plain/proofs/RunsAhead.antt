@@ -1,5 +1,6 @@
 -- Runs ahead of the reader: what the next bits, as one number, say.
-use Rattle.std.proofs.Common.{◌≡◌, ℕ, ◌+◌, ◌-◌, ◌/◌, ◌%◌, ◌^◌, ◌≤◌, ◌∙◌, List, length, Ok, refl, sym, ap, arith}
+use Rattle.std.proofs.Common.{◌≡◌, ℕ, ◌+◌, ◌-◌, ◌/◌, ◌%◌, ◌^◌, ◌≤◌, ◌==◌, ◌∙◌, Bool, true, false, if◌then◌else◌, List, length, Ok, refl, sym, ap, arith}
+use Rattle.std.proofs.lemmas.Bool.{eqb-false, eqb-true}
 use Rattle.jxlm_bits.specs.Bits.{bits_at}
 use Rattle.jxlm_bits.specs.declared.decoder.RleToken.TheVariants.{Value, Repeat}
 use Rattle.jxlm_plain.specs.Plain.{run_at, token_at}
@@ -44,3 +45,17 @@ module _ (bytes : List ℕ) (width p word : ℕ) (room : p / 8 + 8 ≤ length by
       token_at (Runs last left) (Fixed width) bytes p ≡ Ok (record { value = word / 2 % 2 ^ width; state = Runs (word / 2 % 2 ^ width) 0; position = p + 1 + width })
   unfolding token_at
   next_token narrow last left none zero_bit = rw (none, token_there narrow zero_bit) refl
+
+  -- so either is there, by the flag
+  pub next_ahead : width ≤ 32 → (last left : ℕ) → left ≡ 0 → (run : Bool) → (word % 2 == 1) ≡ run →
+      token_at (Runs last left) (Fixed width) bytes p ≡ Ok (record {
+        value = if run then last else word / 2 % 2 ^ width;
+        state = Runs (if run then last else word / 2 % 2 ^ width) (if run then word / 2 % 256 else 0);
+        position = p + (if run then 9 else 1 + width);
+      })
+  next_ahead narrow last left none true is = next_of_run last left none (eqb-true (word % 2) 1 is)
+  next_ahead narrow last left none false is =
+      let odd = eqb-false (word % 2) 1 is in
+      let even : word % 2 ≡ 0 = grind (arith, odd) in
+      let place : p + (1 + width) ≡ p + 1 + width = omega arith in
+      rw place (next_token narrow last left none even)

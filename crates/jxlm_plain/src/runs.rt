@@ -10,6 +10,7 @@ ghost use Rattle.jxlm_plain.specs.declared.plain.Mode.TheVariants.{Runs};
 use crate::plain::{Code, Mode, each_token};
 use jxlm_bits::bits::Bitstream;
 use jxlm_bits::decoder::TokensError;
+use std::hint::select_unpredictable;
 
 /// A place between two tokens: the token before, how often it is still owed, and how many bits after the reader's position
 /// it lies.
@@ -21,7 +22,6 @@ struct Ahead {
 }
 
 /// The next token, or the first of a run, which is then the last one; none is owed before it.
-#[tactic(auto, unfolding(crate::specs::Plain::token_at))]
 #[inline(always)]
 fn token_ahead(bits: &Bitstream<'_>, width: u32, before: Ahead) -> Ahead
     requires narrow { width ≤ 32 }
@@ -39,18 +39,13 @@ fn token_ahead(bits: &Bitstream<'_>, width: u32, before: Ahead) -> Ahead
     ensures few { result.left < 256 }
 {
     let word = bits.ahead(before.at);
-    if word % 2 == 1 {
-        Ahead {
-            last: before.last,
-            left: (word / 2 % 256) as u32,
-            at: before.at + 9,
-        }
-    } else {
-        Ahead {
-            last: (word / 2 % (1 << width)) as u32,
-            left: 0,
-            at: before.at + 1 + u64::from(width),
-        }
+    let is_run = word % 2 == 1;
+    let number = (word / 2 % (1 << width)) as u32;
+    let again = (word / 2 % 256) as u32;
+    Ahead {
+        last: select_unpredictable(is_run, before.last, number),
+        left: select_unpredictable(is_run, again, 0),
+        at: before.at + u64::from(select_unpredictable(is_run, 9, 1 + width)),
     }
 }
 
@@ -119,6 +114,30 @@ fn tokens_ahead(bits: &Bitstream<'_>, width: u32, before: Ahead, tokens: &mut [u
     now
 }
 
+/// The same, by a loop of its own for tokens that are as wide as a run's length.
+#[inline(always)]
+fn tokens_by_width(
+    bits: &Bitstream<'_>,
+    width: u32,
+    before: Ahead,
+    tokens: &mut [u32],
+) -> Ahead
+    requires narrow { width ≤ 32 }
+    requires here { before.at ≡ 0 }
+    requires few { length tokens.old < 2 ^ 32 }
+    requires room { (position_of bits.now + 33 * length tokens.old) / 8 + 8 ≤ length (bytes_of bits.now) }
+    ensures gives { ReadsTokens (Ok tt) tokens.old tokens.new (Runs before.last before.left)
+        (Runs result.last result.left) (Fixed width) (bytes_of bits.now) (position_of bits.now)
+        (position_of bits.now + result.at) }
+    ensures near { result.at ≤ 33 * length tokens.old }
+{
+    if width == 8 {
+        tokens_ahead(bits, 8, before, tokens)
+    } else {
+        tokens_ahead(bits, width, before, tokens)
+    }
+}
+
 /// Tokens of a fixed width under runs.
 #[inline(never)]
 pub(crate) fn numbers_in_runs(
@@ -140,7 +159,7 @@ pub(crate) fn numbers_in_runs(
     if few && bits.has_ahead(33 * tokens.len() as u64) {
         // a copy, so that it may stay in registers
         let reader = *bits;
-        let end = tokens_ahead(&reader, width, Ahead { last, left, at: 0 }, tokens);
+        let end = tokens_by_width(&reader, width, Ahead { last, left, at: 0 }, tokens);
         bits.skip(end.at);
         *mode = Mode::Runs {
             last: end.last,
