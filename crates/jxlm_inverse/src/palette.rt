@@ -387,10 +387,8 @@ fn is_simple_index(palette: &Palette, index: i32) -> bool
     ensures { IsTrue result ↔ IsSimpleIndex palette.now index }
 {
     let place = index.unsigned_abs();
-    if index < 0 || place < palette.nb_deltas {
-        return false;
-    }
-    place < palette.nb_colours
+    // no branch, so that many are tested at once
+    (index >= 0) & (palette.nb_deltas <= place) & (place < palette.nb_colours)
 }
 
 /// Whether all indices of a row do.
