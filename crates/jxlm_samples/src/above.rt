@@ -17,6 +17,16 @@ pub fn sample_above<S: Copy, const FIRST: bool>(above: &[S], x: usize, other: S)
     if FIRST { other } else { above[x] }
 }
 
+/// The same, where it was read before as `n`, in place of another number.
+#[inline(always)]
+pub fn sample_again<S: Copy, const FIRST: bool>(above: &[S], x: usize, n: S, other: S) -> S
+    requires first { FIRST ≡ true → above.now ≡ [] }
+    requires inside { FIRST ≡ false → x < length above.now }
+    ensures { (e : S) → n ≡ get_or above.now x e → result ≡ get_or above.now x other }
+{
+    if FIRST { other } else { n }
+}
+
 /// West less north west plus north, reduced to 32 bits.
 #[inline(always)]
 fn reduced_sum<S: Sample>(n: S, w: S, nw: S) -> i32

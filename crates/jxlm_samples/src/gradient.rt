@@ -9,7 +9,7 @@ ghost use Rattle.jxlm_samples.specs.Reading.{FindsClusters, cost_of, tree_of};
 ghost use Rattle.jxlm_samples.specs.Lines.{region_on};
 ghost use Rattle.jxlm_samples.specs.RowNeighbours.{sum_by};
 
-use crate::above::{property_9, sample_above};
+use crate::above::{property_9, sample_above, sample_again};
 use crate::one_gradient::read_one_gradient;
 use crate::rows::{Line, RowError};
 use crate::source::Source;
@@ -88,7 +88,7 @@ fn read_below<S: Sample, D: Decoder, const FIRST: bool, const CLAMPED: bool>(
         let value = S::unpack_signed_u32(token).add(S::grad_clamped(n, w, nw));
         row[x] = value;
         w = value;
-        nw = sample_above::<S, FIRST>(above, x, value);
+        nw = sample_again::<S, FIRST>(above, x, n, value);
     }
     source.bits = reader;
     Ok(())

@@ -11,7 +11,7 @@ ghost use Rattle.jxlm_samples.specs.Inner.Rows.{MakesCells, ReadsRow, StretchGiv
 ghost use Rattle.jxlm_samples.specs.declared.gradient.Leaves.TheVariants.{One};
 ghost use Rattle.jxlm_samples.specs.RowNeighbours.{gradient_in};
 
-use crate::above::sample_above;
+use crate::above::{sample_above, sample_again};
 use crate::rows::{RowError, STRETCH};
 use crate::source::Source;
 use jxlm_base::sample::{Sample, Sealed};
@@ -59,7 +59,7 @@ fn gradient_samples<S: Sample, const FIRST: bool>(
         let value = S::unpack_signed_u32(tokens[k]).add(S::grad_clamped(n, w, nw));
         row[x] = value;
         w = value;
-        nw = sample_above::<S, FIRST>(above, x, value);
+        nw = sample_again::<S, FIRST>(above, x, n, value);
     }
 }
 

@@ -22,7 +22,7 @@ loop-x-preserved g c =
     record {
       len = search rules;
       below = below_more g.met.D.Decoder.lawful c.requires.leaves (omega (arith, same, c.loop-x-test.true)) h.below _ c.sample_above-n.ensures _ c.cluster_of-cluster.ensures.cluster _ c.in-Ok.ensures.bytes c.cluster_of-cluster.ensures.cost
-          g.S.Sealed.from_int g.met.S.Sealed.to_int_from_int g.met.S.Sealed.wraps_after_i32 c.in-Ok.token _ _ _ _ c.in-Ok.ensures.gives c.unpack_signed_u32.ensures c.grad_clamped.ensures c.add-value.ensures c.sample_above-nw.ensures;
+          g.S.Sealed.from_int g.met.S.Sealed.to_int_from_int g.met.S.Sealed.wraps_after_i32 c.in-Ok.token _ _ _ _ c.in-Ok.ensures.gives c.unpack_signed_u32.ensures c.grad_clamped.ensures c.add-value.ensures (c.sample_again-nw.ensures _ c.sample_above-n.ensures);
     }
 
 pub returns-in-Err : goal.returns-in-Err

@@ -20,7 +20,7 @@ loop-k-preserved g c =
           cells_more _ _ _ _ _ _ _ _ inside (h.made leaf plain)
           (gradient_sample h.left inside _ c.sample_above-n.ensures g.S.Sealed.width g.S.Sealed.from_int g.met.S.Sealed.to_int_from_int g.met.S.Sealed.wraps_after_i32 leaf plain
           _ _ _ _ c.unpack_signed_u32.ensures c.grad_clamped.ensures c.add-value.ensures);
-      left = rw next at (left_next h.left inside _ _ c.sample_above-nw.ensures);
+      left = rw next at (left_next h.left inside _ _ (c.sample_again-nw.ensures _ c.sample_above-n.ensures));
     }
 
 pub returns : goal.returns
