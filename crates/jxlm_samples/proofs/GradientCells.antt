@@ -10,7 +10,7 @@ use Rattle.jxlm_bits.specs.Bits.{bytes_of, position_of}
 use Rattle.jxlm_bits.specs.Decoding.{IsLawful, Meaning, Taken}
 use Rattle.jxlm_bits.specs.Numbers.{clamped_gradient, unpack}
 use Rattle.jxlm_bits.specs.declared.decoder.DecoderError.{DecoderError}
-use Rattle.jxlm_tree.specs.declared.flat.Leaf.{Leaf}
+use Rattle.jxlm_ma_tree.specs.declared.leaf.Leaf.{Leaf}
 use Rattle.jxlm_samples.specs.Coded.{sample_of}
 use Rattle.jxlm_samples.specs.Inner.Paths.{AreGradients, AreLeft, IsPlain, gradient_rule, leaf_by, steps_by}
 use Rattle.jxlm_samples.specs.Inner.Rows.{FailsRow, ReadsCells}

@@ -3,6 +3,9 @@
 ghost use Rattle.std.specs.Prelude.{◌≡◌, ◌≤◌, ◌<◌, ◌+◌, ◌↔◌, ℕ, ℤ, length, slice_index, Contains, IfErr, IfOk, IfSome, IsTrue, None};
 ghost use Rattle.std.specs.Option.{option_map};
 ghost use Rattle.std.specs.Rc.{rc_value};
+ghost use Rattle.jxlm_tree.specs.ClusterTables.{in_cluster};
+ghost use Rattle.jxlm_tree.specs.Paths.{IsNamed, IsPlainGradient};
+ghost use Rattle.jxlm_tree.specs.Inner.Tables.{IsPathOfLeaf};
 
 use crate::flat::{FlatMaTree, FlatNode, Leaf, entry_of};
 use crate::steps::Steps;
@@ -30,7 +33,7 @@ pub struct ClusterTable {
 impl Model for ClusterTable {
     ghost use Rattle.std.specs.Prelude.{◌<◌, length};
     ghost use Rattle.jxlm_tree.specs.ClusterTables.{Clusters, clusters_of, coded_clusters};
-    ghost use Rattle.jxlm_tree.specs.contracts.flat.Leaf as leaves;
+    ghost use Rattle.jxlm_ma_tree.specs.contracts.leaf.Leaf as leaves;
 
     ghost Value = { Clusters };
 
@@ -60,45 +63,39 @@ pub enum Path<'t> {
     Tree,
 }
 
-impl Leaf {
-    ghost use Rattle.jxlm_tree.specs.ClusterTables.{in_cluster};
-    ghost use Rattle.jxlm_tree.specs.Paths.{IsNamed, IsPlainGradient};
-    ghost use Rattle.jxlm_tree.specs.Inner.Tables.{IsPathOfLeaf};
+// Whether two leaves agree in all but the cluster.
+fn agree(leaf: &Leaf, other: &Leaf) -> bool
+    ensures { IsTrue result ↔ other.now ≡ in_cluster other.now.cluster leaf.now }
+{
+    leaf.predictor == other.predictor
+        && leaf.offset == other.offset
+        && leaf.multiplier == other.multiplier
+}
 
-    // Whether the other leaf is this one but for the cluster.
-    fn agrees(&self, other: &Leaf) -> bool
-        ensures { IsTrue result ↔ other.now ≡ in_cluster other.now.cluster self.now }
-    {
-        self.predictor == other.predictor
-            && self.offset == other.offset
-            && self.multiplier == other.multiplier
-    }
+// Whether a leaf predicts by the gradient, with nothing to add and nothing to multiply by.
+fn is_plain_gradient(leaf: &Leaf) -> bool
+    ensures { IsTrue result ↔ IsPlainGradient leaf.now }
+{
+    leaf.predictor == Predictor::Gradient && leaf.offset == 0 && leaf.multiplier == 1
+}
 
-    // Whether it predicts by the gradient, with nothing to add and nothing to multiply by.
-    fn is_plain_gradient(&self) -> bool
-        ensures { IsTrue result ↔ IsPlainGradient self.now }
-    {
-        self.predictor == Predictor::Gradient && self.offset == 0 && self.multiplier == 1
-    }
-
-    // The path of a channel that has this leaf only.
-    fn path<'t, D: Decoder>(self, decoder: &D) -> Path<'t>
-        requires cluster { Contains (D.meaning.cluster_map decoder.now) self.cluster }
-        ensures leaf { IsPathOfLeaf self result }
-        ensures named { IsNamed D.meaning decoder.now result }
-    {
-        if self.predictor == Predictor::Zero {
-            match decoder.single_token(self.cluster) {
-                Some(_) => Path::Constant(self),
-                None => Path::Zero(self),
-            }
-        } else if !self.is_plain_gradient() {
-            Path::Tree
-        } else if decoder.as_rle() {
-            Path::Runs(self)
-        } else {
-            Path::Gradient(self)
+// The path of a channel that has this leaf only.
+fn path_of_leaf<'t, D: Decoder>(leaf: Leaf, decoder: &D) -> Path<'t>
+    requires cluster { Contains (D.meaning.cluster_map decoder.now) leaf.cluster }
+    ensures leaf { IsPathOfLeaf leaf result }
+    ensures named { IsNamed D.meaning decoder.now result }
+{
+    if leaf.predictor == Predictor::Zero {
+        match decoder.single_token(leaf.cluster) {
+            Some(_) => Path::Constant(leaf),
+            None => Path::Zero(leaf),
         }
+    } else if !is_plain_gradient(&leaf) {
+        Path::Tree
+    } else if decoder.as_rle() {
+        Path::Runs(leaf)
+    } else {
+        Path::Gradient(leaf)
     }
 }
 
@@ -107,7 +104,7 @@ impl ClusterTable {
     ghost use Rattle.jxlm_tree.specs.FlatTree.{FlatTree, HasMultiplier, PropertiesAre, leaf_reached};
     ghost use Rattle.jxlm_tree.specs.ClusterTables.{IsTableOf, table_leaf};
     ghost use Rattle.jxlm_tree.specs.Paths.{IsNamed, IsOnGradient};
-    ghost use Rattle.jxlm_tree.specs.Tree.{StandsAtLeaf};
+    ghost use Rattle.jxlm_ma_tree.specs.Tree.{StandsAtLeaf};
     ghost use Rattle.jxlm_tree.specs.Inner.FlatNodes.{IsSound};
     ghost use Rattle.jxlm_tree.specs.Inner.Tables.{AreClusters, IsPathOfTable, TableAt};
 
@@ -124,7 +121,7 @@ impl ClusterTable {
         let mut clusters = Vec::new(alloc);
         for place in entries {
             match &nodes[*place as usize] {
-                FlatNode::Leaf(leaf) if first.agrees(leaf) => clusters.push(leaf.cluster)?,
+                FlatNode::Leaf(leaf) if agree(first, leaf) => clusters.push(leaf.cluster)?,
                 _ => return Ok(None),
             }
         }
@@ -180,7 +177,7 @@ impl ClusterTable {
     fn is_on_gradient(&self) -> bool
         ensures { IsTrue result ↔ IsOnGradient self.now }
     {
-        self.property.number() == 9 && self.leaf.is_plain_gradient()
+        self.property.number() == 9 && is_plain_gradient(&self.leaf)
     }
 
     /// The property that tells which leaf is reached.
@@ -274,7 +271,7 @@ impl FlatMaTree {
         ensures steps { steps_on result self.now.tree ≤ most_steps self.now.tree }
     {
         if let FlatNode::Leaf(only) = &self.compiled.nodes[self.compiled.root as usize] {
-            return only.path(decoder);
+            return path_of_leaf(*only, decoder);
         }
         match &self.compiled.table {
             Some(table) => table.path(decoder),
