@@ -5,12 +5,11 @@
 ghost use Rattle.std.specs.Prelude.{◌≡◌, ◌+◌, ◌+ℤ◌, ◌-ℤ◌, ◌<◌, ◌≤◌, true, map, length, if◌then◌else◌};
 ghost use Rattle.jxlm_tree.specs.ClusterTables.{Clusters, table_leaf};
 ghost use Rattle.jxlm_tree.specs.EntriesOf.{AreEntriesOf};
-ghost use Rattle.jxlm_samples.specs.Inner.Paths.{AreGradients, AreLeavesOf, steps_by};
+ghost use Rattle.jxlm_samples.specs.Inner.Paths.{AreGradients, AreLeavesOf, are_of_table, steps_by};
 ghost use Rattle.jxlm_samples.specs.Inner.Rows.{GradientGives, IsLine, RowGives};
 ghost use Rattle.jxlm_samples.specs.Reading.{FindsClusters, cost_of, tree_of};
 ghost use Rattle.jxlm_samples.specs.Lines.{region_on};
 ghost use Rattle.jxlm_samples.specs.RowNeighbours.{sum_by};
-ghost use Rattle.jxlm_samples.specs.declared.gradient.Leaves.TheVariants.{Table};
 
 use crate::above::{property_9, sample_above, sample_again};
 use crate::one_gradient::read_one_gradient;
@@ -56,17 +55,21 @@ fn cluster_of<S: Sample, const CLAMPED: bool>(
 #[inline(never)]
 fn read_below<S: Sample, D: Decoder, const FIRST: bool, const CLAMPED: bool>(
     source: &mut Source<'_, D>,
-    table: &ClusterTable,
+    leaves: Leaves<'_>,
     widest: u32,
     above: &[S],
     row: &mut [S],
 ) -> Result<(), RowError>
-    requires leaves { AreGradients (D.meaning.cluster_map source.old.decoder) (Table table) }
+    requires leaves { AreGradients (D.meaning.cluster_map source.old.decoder) leaves }
+    requires kind { are_of_table leaves ≡ true }
     requires columns { 0 < length row.old }
     requires above { length above.now ≡ (if FIRST then 0 else length row.old) }
-    ensures { GradientGives D.meaning S.width CLAMPED (Table table) widest (map S.to_int above.now)
+    ensures { GradientGives D.meaning S.width CLAMPED leaves.entry widest (map S.to_int above.now)
         (map S.to_int row.new) source.old source.new result }
 {
+    let Leaves::Table(table) = leaves else {
+        unreachable!()
+    };
     let kept = table.entries();
     let mut reader = source.bits;
     let mut w = sample_above::<S, FIRST>(above, 0, S::from_i32(0));
@@ -111,10 +114,10 @@ fn read_by_kind<S: Sample, D: Decoder, const FIRST: bool>(
 {
     match leaves {
         Leaves::One(leaf) => read_one_gradient::<S, D, FIRST>(source, leaf, widest, above, row),
-        Leaves::Table(table) if clamped => {
-            read_below::<S, D, FIRST, true>(source, table, widest, above, row)
+        Leaves::Table(_) if clamped => {
+            read_below::<S, D, FIRST, true>(source, leaves, widest, above, row)
         }
-        Leaves::Table(table) => read_below::<S, D, FIRST, false>(source, table, widest, above, row),
+        Leaves::Table(_) => read_below::<S, D, FIRST, false>(source, leaves, widest, above, row),
     }
 }
 
