@@ -1,4 +1,5 @@
 pub mod DecodingSamples
+pub mod EntriesOf
 pub mod FlatTree
 pub mod Inner
 pub mod ShortTrees

@@ -44,6 +44,15 @@ impl Model for ClusterTable {
     ghost invariant = { λ t. 0 < length t.clusters.items };
 }
 
+/// What a loop keeps of a table of clusters in local variables.
+#[derive(Clone, Copy)]
+pub struct ClusterEntries<'t> {
+    clusters: &'t [u8],
+    base: i32,
+    first: u8,
+    last: u8,
+}
+
 /// What the samples of one channel are decoded by.
 #[derive(Clone, Copy)]
 pub enum Path<'t> {
@@ -106,6 +115,7 @@ impl ClusterTable {
     ghost use Rattle.jxlm_tree.specs.Paths.{IsNamed, IsOnGradient};
     ghost use Rattle.jxlm_ma_tree.specs.Tree.{StandsAtLeaf};
     ghost use Rattle.jxlm_tree.specs.Inner.FlatNodes.{IsSound};
+    ghost use Rattle.jxlm_tree.specs.EntriesOf.{AreEntriesOf};
     ghost use Rattle.jxlm_tree.specs.Inner.Tables.{AreClusters, IsPathOfTable, TableAt};
 
     // The clusters of the leaves to which the entries of a table lead, where they all agree with this one.
@@ -204,6 +214,20 @@ impl ClusterTable {
         self.clusters[entry_of(self.base, self.clusters.len() - 1, value)]
     }
 
+    /// What a loop keeps of the table.
+    #[inline(always)]
+    pub fn entries(&self) -> ClusterEntries<'_>
+        ensures { AreEntriesOf self.now result }
+    {
+        let clusters = self.clusters.as_slice();
+        ClusterEntries {
+            clusters,
+            base: self.base,
+            first: clusters[0],
+            last: clusters[clusters.len() - 1],
+        }
+    }
+
     /// The leaf to which these properties lead in the trees that this table is of, looked up in one step.
     #[inline(always)]
     pub fn leaf_by<P: PlaceProperties>(&self, properties: &P, steps: &mut Steps) -> Leaf
@@ -230,6 +254,30 @@ impl ClusterTable {
             Path::GradientClusters(self)
         } else {
             Path::Clusters(self)
+        }
+    }
+}
+
+impl ClusterEntries<'_> {
+    ghost use Rattle.jxlm_tree.specs.ClusterTables.{Clusters, table_leaf};
+    ghost use Rattle.jxlm_tree.specs.EntriesOf.{AreEntriesOf};
+
+    /// The cluster of the leaf that is reached where the property has this value, looked up in one step. It branches on
+    /// the value, so that what follows need not wait for it.
+    #[inline(always)]
+    pub fn cluster(&self, value: i32, steps: &mut Steps) -> u8
+        ensures cluster { (t : Clusters) → AreEntriesOf t self.now → result ≡ (table_leaf t value).cluster }
+        ensures cost { steps.new ≡ steps.old + 1 }
+    {
+        steps.tick();
+        if value <= self.base {
+            return self.first;
+        }
+        let above = (i64::from(value) - i64::from(self.base)) as usize;
+        if above < self.clusters.len() {
+            self.clusters[above]
+        } else {
+            self.last
         }
     }
 }
