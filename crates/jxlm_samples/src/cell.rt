@@ -74,7 +74,7 @@ fn next_sample<S: Sample, D: Decoder, const SETS: bool>(
 /// from every edge but the last row; without `WEIGHTED` no weights are used in the channel. With `CLAMPED` property 9 is
 /// clamped. With `SETS` the leaf is found by sets of leaves.
 #[inline(always)]
-fn decode_cell_by<
+fn decode_cell<
     's,
     S: Sample,
     D: Decoder,
@@ -116,46 +116,6 @@ fn decode_cell_by<
     properties.record_in_row::<EDGE>(sample.to_i32());
     row[x] = sample;
     Ok(())
-}
-
-/// Reads the cell in column `x` into `row`; `rows` are those of the nearest earlier channels. The walk of these parts
-/// must be at this cell, and is at the next one afterwards. Without `EDGE` the cell is two or more columns and rows away
-/// from every edge but the last row; without `WEIGHTED` no weights are used in the channel. With `CLAMPED` property 9 is
-/// clamped. With `SETS` the leaf is found by sets of leaves.
-#[inline(always)]
-fn decode_cell<
-    's,
-    S: Sample,
-    D: Decoder,
-    const EDGE: bool,
-    const WEIGHTED: bool,
-    const CLAMPED: bool,
-    const SETS: bool,
->(
-    source: &mut Source<'_, D>,
-    bits: &mut Bitstream<'_>,
-    state: &mut PredictorState<S>,
-    line: &Line<'_, 's, S, D>,
-    rows: &'s [EarlierRow<'s, S>],
-    row: &mut [S],
-    x: usize,
-) -> Result<(), DecoderError>
-    requires line { IsWalked line.now rows.now }
-    requires column { x < (region_on line.now).width }
-    requires inner { EDGE ≡ false → IsAway x line.now.y (region_on line.now).width }
-    requires without { WEIGHTED ≡ false → used_weights state.old ≡ None }
-    requires clamped { line.now.clamped ≡ CLAMPED }
-    requires made { SETS ≡ true → HasSetsOn line.now }
-    requires at { IsAtCell line.now D.meaning S.to_int S.width x row.old
-        (walk_of source.old bits.old state.old) }
-    ensures { CellGives line.now D.meaning S.to_int S.width x row.old row.new
-        (walk_of source.old bits.old state.old) (walk_of source.new bits.new state.new) result }
-{
-    if WEIGHTED && state.is_weighted() {
-        decode_cell_by::<S, D, EDGE, true, CLAMPED, SETS>(source, bits, state, line, rows, row, x)
-    } else {
-        decode_cell_by::<S, D, EDGE, false, CLAMPED, SETS>(source, bits, state, line, rows, row, x)
-    }
 }
 
 /// Reads the cells from column `from` to before column `to` into `row`; the walk must be at the first of them, and is
@@ -248,33 +208,6 @@ fn read_stretches<'s, S: Sample, D: Decoder, const WEIGHTED: bool, const SETS: b
     read_cells::<S, D, true, WEIGHTED, false, false>(walk, line, rows, row, to, width)
 }
 
-/// Reads the row cell by cell, with property 9 not clamped; `rows` are those of the nearest earlier channels. The walk
-/// must be at the row's first cell, and is after its last one then. With `SETS` leaves are found by sets of leaves.
-///
-/// # Errors
-///
-/// That of the read of one cell; the cells before are in the row then.
-#[inline(always)]
-fn read_unclamped<'s, S: Sample, D: Decoder, const SETS: bool>(
-    walk: &mut Walk<'_, S, D>,
-    line: &Line<'_, 's, S, D>,
-    rows: &'s [EarlierRow<'s, S>],
-    row: &mut [S],
-) -> Result<(), RowError>
-    requires line { IsWalked line.now rows.now }
-    requires clamped { line.now.clamped ≡ false }
-    requires made { SETS ≡ true → HasSetsOn line.now }
-    requires at { IsAtCell line.now D.meaning S.to_int S.width 0 row.old walk.old }
-    ensures gives { RowGives line.now D.meaning S.to_int S.width row.new walk.old.source walk.new.source result }
-    ensures at { OnOk result (IsAtCell line.now D.meaning S.to_int S.width (length row.new) row.new walk.new) }
-{
-    if walk.state.is_weighted() {
-        read_stretches::<S, D, true, SETS>(walk, line, rows, row)
-    } else {
-        read_stretches::<S, D, false, SETS>(walk, line, rows, row)
-    }
-}
-
 /// Reads the row cell by cell; the walk must be at its first cell, and is after its last one then.
 ///
 /// # Errors
@@ -294,12 +227,17 @@ pub(crate) fn read_by_cells<S: Sample, D: Decoder>(
     let asked = line.coding.flats[line.i].asked;
     let earlier = EarlierRows::of(&walk.state, line.store, asked);
     let rows = earlier.rows();
-    if line.clamped {
-        let width = row.len();
-        read_cells::<S, D, true, true, true, false>(walk, line, rows, row, 0, width)
-    } else if line.has_sets() {
-        read_unclamped::<S, D, true>(walk, line, rows, row)
-    } else {
-        read_unclamped::<S, D, false>(walk, line, rows, row)
+    let width = row.len();
+    match (walk.state.is_weighted(), line.clamped, line.has_sets()) {
+        (true, true, _) => read_cells::<S, D, true, true, true, false>(
+            walk, line, rows, row, 0, width,
+        ),
+        (false, true, _) => read_cells::<S, D, true, false, true, false>(
+            walk, line, rows, row, 0, width,
+        ),
+        (true, false, true) => read_stretches::<S, D, true, true>(walk, line, rows, row),
+        (true, false, false) => read_stretches::<S, D, true, false>(walk, line, rows, row),
+        (false, false, true) => read_stretches::<S, D, false, true>(walk, line, rows, row),
+        (false, false, false) => read_stretches::<S, D, false, false>(walk, line, rows, row),
     }
 }

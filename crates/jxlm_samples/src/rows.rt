@@ -1,6 +1,6 @@
 //! Rows of a channel: what one only looks at, what its read returns, and how it is written.
 
-ghost use Rattle.std.specs.Prelude.{◌≡◌, ◌-◌, ◌<◌, ◌≤◌, ◌++◌, drop, length, replicate, take, true, IfErr};
+ghost use Rattle.std.specs.Prelude.{◌≡◌, ◌-◌, ◌<◌, ◌≤◌, ◌++◌, drop, length, replicate, take, ◌↔◌, IfErr, IsTrue};
 ghost use Rattle.jxlm_base.specs.Outside.{SetsRow};
 ghost use Rattle.jxlm_base.specs.Regions.{Lies};
 ghost use Rattle.jxlm_samples.specs.Inner.Rows.{HasSetsOn, IsLine, SetsRead};
@@ -38,9 +38,10 @@ impl<S, D: Decoder> Line<'_, '_, S, D> {
     /// property 9 is not clamped.
     pub(crate) fn has_sets(&self) -> bool
         requires { IsLine self.now }
-        ensures { result ≡ true → HasSetsOn self.now }
+        ensures { IsTrue result ↔ HasSetsOn self.now }
     {
-        !self.clamped && matches!(self.path, Path::Tree) && self.coding.flats[self.i].sets.is_some()
+        let tree = &self.coding.flats[self.i];
+        !self.clamped && matches!(self.path, Path::Tree) && tree.sets.is_some()
     }
 }
 

@@ -1,4 +1,4 @@
-use Rattle.std.proofs.Common.{◌≡◌, ℕ, ℤ, ◌≤◌, true, List, arith, sym}
+use Rattle.std.proofs.Common.{◌≡◌, ℕ, ℤ, ◌≤◌, true, List, arith, refl, sym}
 use Rattle.std.specs.Int.{Width}
 use Rattle.jxlm_bits.specs.Decoding.{Meaning}
 use Rattle.jxlm_tree.specs.Paths.{steps_on}
@@ -15,7 +15,7 @@ use Rattle.jxlm_samples.specs.Inner.Rows.{IsAtCell, IsLine, IsWalked}
 use Rattle.jxlm_samples.specs.Reading.{cost_of}
 use Rattle.jxlm_samples.specs.declared.rows.Line.{Line}
 use Rattle.jxlm_samples.specs.declared.source.Walk.{Walk}
-use Rattle.jxlm_samples.proofs.CellLaws.{is_ready, rows_are}
+use Rattle.jxlm_samples.proofs.CellLaws.{has_none, is_ready, rows_are}
 use Rattle.jxlm_samples.proofs.RowEnds.{before_first, row_ends}
 use Rattle.jxlm_samples.proofs.cell.read_by_cells.Goals as goal
 
@@ -47,13 +47,36 @@ of-earlier-requires-after_bounds g c κs within = (omega arith, ready c.requires
 pub read_cells-requires-clause-line : goal.read_cells-requires-clause-line
 read_cells-requires-clause-line g c κs within = with_rows c.requires.at c.requires.line c.requires.walked _ (rw c.rows-rows.ensures c.of-earlier.ensures.held)
 
-pub returns-then-line : goal.returns-then-line
-returns-then-line g c =
+pub returns-in-true-true-default : goal.returns-in-true-true-default
+returns-in-true-true-default g c =
     let ends = row_ends _ _ _ _ _ _ _ _ c.args.walk.now _ _ c.read_cells.result c.read_cells.ensures (before_first c.requires.at) (sym c.read_cells.auto.row) in
     record { gives = ends.0; at = ends.1 }
 
-pub read_unclamped-requires-clause-line : goal.read_unclamped-requires-clause-line
-read_unclamped-requires-clause-line g c κs within = with_rows c.requires.at c.requires.line c.requires.walked _ (rw c.rows-rows.ensures c.of-earlier.ensures.held)
+pub read_cells-requires-in-false-true-default-clause-line : goal.read_cells-requires-in-false-true-default-clause-line
+read_cells-requires-in-false-true-default-clause-line g c κs within = with_rows c.requires.at c.requires.line c.requires.walked _ (rw c.rows-rows.ensures c.of-earlier.ensures.held)
 
-pub read_unclamped-requires-else-has_sets-clause-line : goal.read_unclamped-requires-else-has_sets-clause-line
-read_unclamped-requires-else-has_sets-clause-line g c κs within = with_rows c.requires.at c.requires.line c.requires.walked _ (rw c.rows-rows.ensures c.of-earlier.ensures.held)
+pub read_cells-requires-in-false-true-default-clause-without : goal.read_cells-requires-in-false-true-default-clause-without
+read_cells-requires-in-false-true-default-clause-without g c κs within = λ none. has_none _ _ _ _ _ _ (c.in-false-true-default.ensures refl) c.requires.at.stands.corrects
+
+pub returns-in-false-true-default : goal.returns-in-false-true-default
+returns-in-false-true-default g c =
+    let ends = row_ends _ _ _ _ _ _ _ _ c.args.walk.now _ _ c.read_cells-in-false-true-default.result c.read_cells-in-false-true-default.ensures (before_first c.requires.at) (sym c.read_cells-in-false-true-default.auto.row) in
+    record { gives = ends.0; at = ends.1 }
+
+pub read_stretches-requires-clause-line : goal.read_stretches-requires-clause-line
+read_stretches-requires-clause-line g c κs within = with_rows c.requires.at c.requires.line c.requires.walked _ (rw c.rows-rows.ensures c.of-earlier.ensures.held)
+
+pub read_stretches-requires-in-true-false-false-clause-line : goal.read_stretches-requires-in-true-false-false-clause-line
+read_stretches-requires-in-true-false-false-clause-line g c κs within = with_rows c.requires.at c.requires.line c.requires.walked _ (rw c.rows-rows.ensures c.of-earlier.ensures.held)
+
+pub read_stretches-requires-in-false-false-true-clause-line : goal.read_stretches-requires-in-false-false-true-clause-line
+read_stretches-requires-in-false-false-true-clause-line g c κs within = with_rows c.requires.at c.requires.line c.requires.walked _ (rw c.rows-rows.ensures c.of-earlier.ensures.held)
+
+pub read_stretches-requires-in-false-false-true-clause-without : goal.read_stretches-requires-in-false-false-true-clause-without
+read_stretches-requires-in-false-false-true-clause-without g c κs within = λ none. has_none _ _ _ _ _ _ (c.in-false-false-true.ensures refl) c.requires.at.stands.corrects
+
+pub read_stretches-requires-in-false-false-false-clause-line : goal.read_stretches-requires-in-false-false-false-clause-line
+read_stretches-requires-in-false-false-false-clause-line g c κs within = with_rows c.requires.at c.requires.line c.requires.walked _ (rw c.rows-rows.ensures c.of-earlier.ensures.held)
+
+pub read_stretches-requires-in-false-false-false-clause-without : goal.read_stretches-requires-in-false-false-false-clause-without
+read_stretches-requires-in-false-false-false-clause-without g c κs within = λ none. has_none _ _ _ _ _ _ (c.in-false-false-false.ensures refl) c.requires.at.stands.corrects

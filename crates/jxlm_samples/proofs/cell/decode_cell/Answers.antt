@@ -10,7 +10,7 @@ use Rattle.jxlm_samples.specs.Inner.Cells.{source_of}
 use Rattle.jxlm_samples.specs.Inner.Rows.{IsAtCell, walk_of}
 use Rattle.jxlm_samples.specs.Reading.{FindsClusters}
 use Rattle.jxlm_samples.proofs.CellLaws.{clusters_at, fails_cell, flat_at, is_inner, is_ready, flat_there, made_on, own, reads_cell, roomy_still, rows_held, stands_further, sets_at, stands_so, sums_at}
-use Rattle.jxlm_samples.proofs.cell.decode_cell_by.Goals as goal
+use Rattle.jxlm_samples.proofs.cell.decode_cell.Goals as goal
 
 pub properties_in_row-properties-requires-clause-ready : goal.properties_in_row-properties-requires-clause-ready
 properties_in_row-properties-requires-clause-ready g c =
