@@ -11,8 +11,8 @@ import sys
 
 os.chdir(os.path.dirname(os.path.dirname(os.path.abspath(__file__))))
 LIBRARY = (
-    "jxlm_bits jxlm_kernels jxlm_base jxlm_plain jxlm_weighted jxlm_predictor jxlm_tree jxlm_transform jxlm_inverse"
-    " jxlm_chain jxlm_groups jxlm_samples jxlm_header jxlm_nested jxlm_bit_writer jxlm_encode_write jxlm_encode_tokens"
+    "jxlm_bits jxlm_kernels jxlm_base jxlm_plain jxlm_weighted jxlm_predictor jxlm_ma_tree jxlm_tree jxlm_transform"
+    " jxlm_inverse jxlm_chain jxlm_groups jxlm_samples jxlm_header jxlm_nested jxlm_bit_writer jxlm_encode_write jxlm_encode_tokens"
     " jxlm_encode jxl_modular"
 ).split()
 

@@ -9,7 +9,7 @@ use Rattle.jxlm_bits.specs.Decoding.{Meaning}
 use Rattle.jxlm_bits.specs.ErrorKind.{ErrorKind, UnlessMemory, UnlessNoMemory, kind_of}
 use Rattle.jxlm_bits.specs.Grammar.{Grammar, IsErrorAt}
 use Rattle.jxlm_bits.specs.declared.error.Error.{Error}
-use Rattle.jxlm_tree.proofs.Memory.{unless_so}
+use Rattle.jxlm_ma_tree.proofs.Memory.{unless_so}
 use Rattle.jxlm_transform.proofs.Failures.{unless_memory}
 use Rattle.jxl_image_header.proofs.Refusals.{low_shifts}
 use Rattle.jxl_image_header.specs.Images.{Image, image_header, image_refusal}

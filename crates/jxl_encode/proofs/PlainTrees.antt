@@ -3,7 +3,7 @@ use Rattle.std.proofs.Common.{◌≡◌, pos, [], ◌∷◌, true, refl, arith}
 use Rattle.std.proofs.lemmas.List.Elements.{All-cons, All-nil}
 use Rattle.jxlm_predictor.specs.declared.predictor.Predictor.TheVariants.{Gradient}
 use Rattle.jxlm_tree.specs.Tree.{leaf}
-use Rattle.jxlm_tree.specs.declared.flat.Leaf.{Leaf}
+use Rattle.jxlm_ma_tree.specs.declared.leaf.Leaf.{Leaf}
 use Rattle.jxlm_tree.specs.declared.ma.MaConfigParams.{MaConfigParams}
 use Rattle.jxlm_encode_write.specs.Nodes.{has_token}
 use Rattle.jxlm_encode_write.specs.declared.tree.EncodeNode.{EncodeNode}

@@ -23,7 +23,7 @@ use Rattle.jxlm_transform.specs.Transforms.{Transform}
 use Rattle.jxlm_transform.specs.declared.channels.ModularChannels.{ModularChannels}
 use Rattle.jxlm_transform.specs.declared.param.ModularChannelParams.{ModularChannelParams}
 use Rattle.jxlm_tree.specs.Tree.{AllLeaves, Shape}
-use Rattle.jxlm_tree.specs.declared.flat.Leaf.{Leaf}
+use Rattle.jxlm_ma_tree.specs.declared.leaf.Leaf.{Leaf}
 use Rattle.jxlm_tree.specs.declared.ma.MaConfigParams.{MaConfigParams}
 use Rattle.jxl_codestream.specs.Layouts.{Layout, has_part, layout_of, section_count_of, stream_index}
 use Rattle.jxl_coding.specs.Clusters.{count_of}

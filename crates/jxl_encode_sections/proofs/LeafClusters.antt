@@ -5,8 +5,8 @@ use Rattle.std.proofs.lemmas.List.{get_or_past}
 use Rattle.jxlm_bits.specs.declared.decoder.DecoderError.{DecoderError}
 use Rattle.jxlm_tree.specs.Tree.{AllLeaves, Node, Shape, leaf, decision, leaf_node, decision_node, levels}
 use Rattle.jxlm_tree.specs.TreeReading.{with_clusters}
-use Rattle.jxlm_tree.specs.declared.flat.Leaf.{Leaf}
-use Rattle.jxlm_tree.proofs.Listing.{Lists, queue_of-levels, queue_of-lists}
+use Rattle.jxlm_ma_tree.specs.declared.leaf.Leaf.{Leaf}
+use Rattle.jxlm_ma_tree.proofs.Listing.{Lists, queue_of-levels, queue_of-lists}
 use Rattle.jxlm_encode_write.specs.Nodes.{node_of}
 use Rattle.jxlm_encode_write.specs.declared.tree.EncodeNode.{EncodeNode}
 use Rattle.jxlm_encode_write.specs.declared.tree.EncodeNode.TheVariants as given

@@ -20,7 +20,7 @@ use Rattle.jxlm_samples.specs.Part.{cell_count, cells_of}
 use Rattle.jxlm_transform.specs.Channels.{Channel}
 use Rattle.jxlm_tree.specs.Tree.{AllLeaves, Shape, depth}
 use Rattle.jxlm_tree.specs.TreeReading.{IsTreeAt}
-use Rattle.jxlm_tree.specs.declared.flat.Leaf.{Leaf}
+use Rattle.jxlm_ma_tree.specs.declared.leaf.Leaf.{Leaf}
 use Rattle.jxlm_tree.specs.declared.ma.MaConfigParams.{MaConfigParams}
 use Rattle.jxl_codestream.specs.Layouts.{Layout}
 use Rattle.jxl_coding.specs.Clusters.{count_of}

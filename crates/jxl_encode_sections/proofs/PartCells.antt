@@ -19,7 +19,7 @@ use Rattle.jxlm_transform.specs.Lists.{list_of}
 use Rattle.jxlm_transform.specs.declared.channels.ModularChannels.{ModularChannels}
 use Rattle.jxlm_transform.specs.declared.channels.PlacedChannel.{PlacedChannel}
 use Rattle.jxlm_tree.specs.Tree.{AllLeaves}
-use Rattle.jxlm_tree.specs.declared.flat.Leaf.{Leaf}
+use Rattle.jxlm_ma_tree.specs.declared.leaf.Leaf.{Leaf}
 use Rattle.jxlm_tree.proofs.FlatTrees.{reached_leaf}
 use Rattle.jxlm_weighted.specs.SelfCorrecting.{IsHeader}
 use Rattle.jxlm_weighted.specs.WeightsHeader.{default_weights}

@@ -4,8 +4,8 @@ use Rattle.std.proofs.lemmas.List.{map-append}
 use Rattle.jxlm_tree.specs.ClusterTables.{in_cluster}
 use Rattle.jxlm_tree.specs.Tree.{Shape, leaf, decision, levels}
 use Rattle.jxlm_tree.specs.TreeReading.{with_clusters}
-use Rattle.jxlm_tree.specs.declared.flat.Leaf.{Leaf}
-use Rattle.jxlm_tree.proofs.Listing.{Lists, lists-levels, queue_of-levels, queue_of-lists}
+use Rattle.jxlm_ma_tree.specs.declared.leaf.Leaf.{Leaf}
+use Rattle.jxlm_ma_tree.proofs.Listing.{Lists, lists-levels, queue_of-levels, queue_of-lists}
 use Rattle.jxlm_encode_write.specs.Nodes.{node_of}
 use Rattle.jxlm_encode_write.specs.declared.tree.EncodeNode.{EncodeNode}
 use Rattle.jxlm_encode_write.specs.declared.tree.EncodeNode.TheVariants as given

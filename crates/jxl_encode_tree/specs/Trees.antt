@@ -3,7 +3,7 @@ use Rattle.std.specs.Prelude.{◌≡◌, ℕ, ◌+◌, ◌≤◌, List, length, 
 use Rattle.std.specs.List.{All}
 use Rattle.jxlm_tree.specs.Tree.{Shape, levels, node_count, depth, config_of}
 use Rattle.jxlm_tree.specs.TreeReading.{IsTreeAt}
-use Rattle.jxlm_tree.specs.declared.flat.Leaf.{Leaf}
+use Rattle.jxlm_ma_tree.specs.declared.leaf.Leaf.{Leaf}
 use Rattle.jxlm_tree.specs.declared.ma.MaConfigParams.{MaConfigParams}
 use Rattle.jxlm_encode_write.specs.Nodes.{has_token}
 use Rattle.jxlm_encode_write.specs.Trees.{leaves_in}

@@ -5,7 +5,7 @@ use Rattle.std.specs.List.{AllZip}
 use Rattle.jxlm_bits.specs.Decoding.{Meaning}
 use Rattle.jxlm_bits.specs.ErrorKind.{kind_of}
 use Rattle.jxlm_base.specs.Grid.{Grid}
-use Rattle.jxlm_tree.proofs.Memory.{unless_so}
+use Rattle.jxlm_ma_tree.proofs.Memory.{unless_so}
 use Rattle.jxlm_tree.specs.Tree.{Config}
 use Rattle.jxlm_transform.specs.Channels.{ChannelList}
 use Rattle.jxlm_groups.specs.declared.part.SectionPart.{SectionPart}

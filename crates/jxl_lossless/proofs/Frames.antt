@@ -9,7 +9,7 @@ use Rattle.jxlm_base.specs.Grid.{Grid}
 use Rattle.jxlm_groups.specs.Passes.{passes_of}
 use Rattle.jxlm_groups.specs.declared.part.SectionPart.{SectionPart}
 use Rattle.jxlm_groups.specs.declared.pass.Pass.{Pass}
-use Rattle.jxlm_tree.proofs.Memory.{unless_so}
+use Rattle.jxlm_ma_tree.proofs.Memory.{unless_so}
 use Rattle.jxlm_tree.specs.Tree.{Config}
 use Rattle.jxl_image_header.specs.Images.{Image}
 use Rattle.jxl_image_header.specs.declared.size.Size.{Size}

@@ -11,7 +11,7 @@ use Rattle.jxlm_bits.specs.ErrorKind.{UnlessMemory, kind_of}
 use Rattle.jxlm_base.specs.Grid.{Grid}
 use Rattle.jxlm_bits.specs.declared.bits.Bitstream.{Bitstream}
 use Rattle.jxlm_bits.specs.declared.error.Error.{Error}
-use Rattle.jxlm_tree.proofs.Memory.{unless_so}
+use Rattle.jxlm_ma_tree.proofs.Memory.{unless_so}
 use Rattle.jxlm_tree.specs.Tree.{Config}
 use Rattle.jxlm_chain.specs.Chain.{Chain}
 use Rattle.jxlm_transform.specs.ChannelSteps.{Step}

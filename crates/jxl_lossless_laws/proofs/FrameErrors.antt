@@ -6,7 +6,7 @@ use Rattle.jxlm_bits.specs.Decoding.{Meaning}
 use Rattle.jxlm_bits.specs.ErrorKind.{ErrorKind, kind_of}
 use Rattle.jxlm_base.specs.Grid.{Grid}
 use Rattle.jxlm_groups.specs.Passes.{passes_of}
-use Rattle.jxlm_tree.proofs.Memory.{unless_so}
+use Rattle.jxlm_ma_tree.proofs.Memory.{unless_so}
 use Rattle.jxlm_tree.specs.Tree.{Config, depth}
 use Rattle.jxlm_tree.specs.TreeReading.{IsTreeAt}
 use Rattle.jxlm_encode_roundtrip.proofs.TwoPictures.{one_tree}

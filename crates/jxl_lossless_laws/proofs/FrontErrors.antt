@@ -4,7 +4,7 @@ use Rattle.std.specs.Prelude.{slice_get, ◌&&◌}
 use Rattle.std.specs.List.{list_all}
 use Rattle.jxlm_bits.specs.Decoding.{Meaning}
 use Rattle.jxlm_bits.specs.ErrorKind.{ErrorKind, kind_of}
-use Rattle.jxlm_tree.proofs.Memory.{unless_so}
+use Rattle.jxlm_ma_tree.proofs.Memory.{unless_so}
 use Rattle.jxl_image_header.specs.Images.{Image, image_header, image_refusal}
 use Rattle.jxl_frame_header.specs.Frames.{Frame, frame_header, frame_refusal, frame_size}
 use Rattle.jxl_picture.specs.Limits.{Allow, AllowFrame}

@@ -15,7 +15,7 @@ use Rattle.jxlm_header.specs.Opening.{Opening}
 use Rattle.jxlm_nested.specs.Starts.{Start, coded_part}
 use Rattle.jxlm_samples.specs.Part.{Part, cell_count}
 use Rattle.jxlm_transform.specs.Channels.{ChannelList}
-use Rattle.jxlm_tree.proofs.Memory.{unless_so}
+use Rattle.jxlm_ma_tree.proofs.Memory.{unless_so}
 use Rattle.jxlm_tree.specs.Tree.{Config, depth}
 use Rattle.jxl_coding.specs.Parse.{decoder_at}
 use Rattle.jxl_coding.specs.Tokens.{Entropy, entropy}

@@ -18,7 +18,7 @@ use Rattle.jxlm_transform.specs.declared.param.ModularChannelParams.{ModularChan
 use Rattle.jxlm_tree.specs.Tree.{Config, config_of, leaf, levels}
 use Rattle.jxlm_tree.specs.TreeReading.{listing_at, drafts_at, nodes_at, node_at, leaf_at, predictor_at, multiplier_at, IsTreeAt}
 use Rattle.jxlm_weighted.specs.WeightsHeader.{default_weights}
-use Rattle.jxlm_tree.specs.declared.flat.Leaf.{Leaf}
+use Rattle.jxlm_ma_tree.specs.declared.leaf.Leaf.{Leaf}
 use Rattle.jxlm_predictor.specs.declared.predictor.Predictor.TheVariants.{Zero, Gradient}
 use Rattle.jxlm_samples.specs.Coded.{IsCodedWhole}
 use Rattle.jxlm_samples.specs.Decode.{Standing, FailsLater, DecodeGives}

@@ -12,7 +12,7 @@ use Rattle.jxlm_chain.proofs.ListsApart.{pairs_take, zip_take}
 use Rattle.jxlm_transform.specs.Channels.{Channel, IsNarrow, infos, regions}
 use Rattle.jxlm_tree.specs.Steps.{most_steps}
 use Rattle.jxlm_tree.specs.Tree.{Shape, depth}
-use Rattle.jxlm_tree.specs.declared.flat.Leaf.{Leaf}
+use Rattle.jxlm_ma_tree.specs.declared.leaf.Leaf.{Leaf}
 use Rattle.jxlm_tree.proofs.FewSteps.{no_more_steps}
 use Rattle.jxlm_weighted.specs.declared.weights.WpHeader.{WpHeader}
 use Rattle.jxlm_samples.specs.Decode.{DecodeGives, MovesWithin}

@@ -8,7 +8,7 @@ use Rattle.jxlm_bits.specs.ErrorKind.{ErrorKind, NoMemory, UnlessMemory, kind_of
 use Rattle.jxlm_base.specs.Grid.{Grid}
 use Rattle.jxlm_bits.specs.declared.error.Error.{Error}
 use Rattle.jxlm_chain.specs.Chain.{Chain}
-use Rattle.jxlm_tree.proofs.Memory.{unless_so}
+use Rattle.jxlm_ma_tree.proofs.Memory.{unless_so}
 use Rattle.jxlm_transform.specs.Channels.{AreGridsOf, Channel, ChannelList, area, image_list}
 use Rattle.jxlm_transform.specs.ChannelSteps.{Step}
 use Rattle.jxlm_transform.specs.declared.param.ModularChannelParams.{ModularChannelParams}

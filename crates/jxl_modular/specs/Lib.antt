@@ -36,8 +36,8 @@ pub use Rattle.jxlm_predictor.specs.Predictions
 pub use Rattle.jxlm_predictor.specs.Properties
 pub use Rattle.jxlm_weighted.specs.SelfCorrecting
 pub use Rattle.jxlm_predictor.specs.Standing
-pub use Rattle.jxlm_tree.specs.Tree
-pub use Rattle.jxlm_tree.specs.TreeReading
+pub use Rattle.jxlm_ma_tree.specs.Tree
+pub use Rattle.jxlm_ma_tree.specs.TreeReading
 pub use Rattle.jxlm_weighted.specs.WeightsHeader
 pub use Rattle.jxlm_transform.specs.Channels
 pub use Rattle.jxlm_transform.specs.ChannelSteps

@@ -6,7 +6,7 @@ pub use Rattle.jxlm_bits.specs.declared.decoder.RleToken
 pub use Rattle.jxlm_bits.specs.declared.error.Error
 pub use Rattle.jxlm_bits.specs.declared.error.OutOfMemory
 pub use Rattle.jxlm_base.specs.declared.subgrid.Region
-pub use Rattle.jxlm_tree.specs.declared.flat.Leaf
+pub use Rattle.jxlm_ma_tree.specs.declared.leaf.Leaf
 pub use Rattle.jxlm_predictor.specs.declared.predictor.Predictor
 pub use Rattle.jxlm_weighted.specs.declared.weights.WpHeader
 pub use Rattle.jxlm_transform.specs.declared.channels.ModularChannelInfo

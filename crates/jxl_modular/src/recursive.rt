@@ -38,7 +38,7 @@ impl<S, D: Decoder> Model for NestedHeader<S, D> {
     ghost use Rattle.jxl_modular.specs.Layers.{Layer};
     ghost use Rattle.jxl_modular.specs.Inner.StepCode.{step_code};
     ghost use Rattle.jxlm_tree.specs.TreeCode.{coded_config};
-    ghost use Rattle.jxlm_tree.specs.contracts.flat.Leaf as leaves;
+    ghost use Rattle.jxlm_ma_tree.specs.contracts.leaf.Leaf as leaves;
     ghost use Rattle.jxlm_weighted.specs.contracts.weights.WpHeader as weights;
     ghost use Rattle.jxlm_transform.specs.contracts.transform.Rct as colours;
     ghost use Rattle.jxlm_transform.specs.contracts.transform.Palette as palettes;

@@ -22,7 +22,7 @@ use Rattle.jxlm_chain.proofs.PlacedSteps.{placed_by}
 use Rattle.jxlm_chain.proofs.ShapeLaws.{lie_in_kept, tables_kept}
 use Rattle.jxlm_chain.proofs.Undone.{chain_of}
 use Rattle.jxlm_tree.specs.Tree.{AllLeaves, Shape}
-use Rattle.jxlm_tree.specs.declared.flat.Leaf.{Leaf}
+use Rattle.jxlm_ma_tree.specs.declared.leaf.Leaf.{Leaf}
 use Rattle.jxlm_tree.proofs.FlatTrees.{each_leaf}
 use Rattle.jxlm_samples.specs.Part.{cells_of}
 use Rattle.jxlm_samples.proofs.Loops.{all_cells}

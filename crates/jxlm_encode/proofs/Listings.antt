@@ -4,9 +4,9 @@ use Rattle.std.specs.Prelude.{◌↔◌, slice_index}
 use Rattle.std.proofs.lemmas.List.{take-append-drop, length-take-le, drop_all, drop_more, length-append, length-drop, length-map}
 use Rattle.jxlm_tree.specs.Tree.{AllLeaves, Node, Shape, leaf, decision, leaf_node, decision_node, levels, node_count}
 use Rattle.jxlm_tree.specs.TreeReading.{with_clusters}
-use Rattle.jxlm_tree.specs.declared.flat.Leaf.{Leaf}
-use Rattle.jxlm_tree.proofs.Listing.{Lists, lists-levels, queue_of-levels, queue_of-lists}
-use Rattle.jxlm_tree.proofs.Shapes.{count_is, levels-count}
+use Rattle.jxlm_ma_tree.specs.declared.leaf.Leaf.{Leaf}
+use Rattle.jxlm_ma_tree.proofs.Listing.{Lists, lists-levels, queue_of-levels, queue_of-lists}
+use Rattle.jxlm_ma_tree.proofs.Shapes.{count_is, levels-count}
 use Rattle.jxlm_encode_write.specs.Nodes.{node_of}
 use Rattle.jxlm_encode_write.specs.Trees.{leaves_in}
 use Rattle.jxlm_encode_write.specs.declared.tree.EncodeNode.{EncodeNode}

@@ -8,8 +8,8 @@ use Rattle.jxlm_bits.specs.ErrorKind.{ErrorKind}
 use Rattle.jxlm_base.specs.Grid.{Grid}
 use Rattle.jxlm_chain.specs.Chain.{Chain, Codes}
 use Rattle.jxlm_tree.specs.Tree.{Shape}
-use Rattle.jxlm_tree.specs.declared.flat.Leaf.{Leaf}
-use Rattle.jxlm_tree.proofs.Listing.{levels-injective}
+use Rattle.jxlm_ma_tree.specs.declared.leaf.Leaf.{Leaf}
+use Rattle.jxlm_ma_tree.proofs.Listing.{levels-injective}
 use Rattle.jxlm_samples.specs.Part.{cells_of}
 use Rattle.jxlm_plain.specs.Plain.{plain, plain2}
 use Rattle.jxlm_encode_transform.specs.Redo.{IsNoPalette}

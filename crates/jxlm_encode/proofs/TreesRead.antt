@@ -9,8 +9,8 @@ use Rattle.jxlm_header.specs.Opening.{depth_limit}
 use Rattle.jxlm_tree.specs.Tree.{Config, Node, Shape, config_of, depth, levels, node_count}
 use Rattle.jxlm_tree.specs.TreeReading.{IsTooDeep, IsTreeAt, TreeGives, listing_at}
 use Rattle.jxlm_tree.specs.TreeStands.{OneTreeStands, TreeStands, TreesAreReadExactly}
-use Rattle.jxlm_tree.specs.declared.flat.Leaf.{Leaf}
-use Rattle.jxlm_tree.proofs.Listing.{levels-injective}
+use Rattle.jxlm_ma_tree.specs.declared.leaf.Leaf.{Leaf}
+use Rattle.jxlm_ma_tree.proofs.Listing.{levels-injective}
 use Rattle.jxlm_plain.specs.Plain.{PlainState, plain}
 use Rattle.jxlm_encode_write.specs.Nodes.{node_of, tree_tokens}
 use Rattle.jxlm_encode_write.specs.Tokens.{decoder_bits, gamma_decoder_bits, gamma_token_bits, one_cluster, token_bits}

@@ -10,7 +10,7 @@ use Rattle.jxlm_header.specs.Header.{header}
 use Rattle.jxlm_header.specs.Opening.{node_limit, depth_limit}
 use Rattle.jxlm_tree.specs.Tree.{Shape, levels, node_count, depth, config_of}
 use Rattle.jxlm_tree.specs.TreeStands.{TreeStands}
-use Rattle.jxlm_tree.specs.declared.flat.Leaf.{Leaf}
+use Rattle.jxlm_ma_tree.specs.declared.leaf.Leaf.{Leaf}
 use Rattle.jxlm_samples.specs.Coded.{IsCodedWhole}
 use Rattle.jxlm_samples.specs.Part.{Part}
 use Rattle.jxlm_plain.specs.Plain.{plain, plain2}

@@ -1,7 +1,7 @@
 -- Nodes that list a tree (ISO/IEC 18181-1, Modular: meta-adaptive trees).
 use Rattle.std.specs.Prelude.{◌≡◌, List, map}
 use Rattle.jxlm_tree.specs.Tree.{Shape, levels}
-use Rattle.jxlm_tree.specs.declared.flat.Leaf.{Leaf}
+use Rattle.jxlm_ma_tree.specs.declared.leaf.Leaf.{Leaf}
 use Rattle.jxlm_encode_write.specs.Nodes.{node_of}
 use Rattle.jxlm_encode_write.specs.declared.tree.EncodeNode.{EncodeNode}
 

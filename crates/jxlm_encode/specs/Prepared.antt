@@ -6,7 +6,7 @@ use Rattle.jxlm_chain.specs.Chain.{Chain}
 use Rattle.jxlm_transform.specs.ChannelSteps.{CodedList}
 use Rattle.jxlm_transform.specs.Transforms.{Transform}
 use Rattle.jxlm_tree.specs.Tree.{Shape}
-use Rattle.jxlm_tree.specs.declared.flat.Leaf.{Leaf}
+use Rattle.jxlm_ma_tree.specs.declared.leaf.Leaf.{Leaf}
 use Rattle.jxlm_samples.specs.Part.{cell_count, cells_of}
 use Rattle.jxlm_encode_tokens.specs.Tokens.{AreTokensOf}
 use Rattle.jxlm_encode_write.specs.declared.tree.EncodeNode.{EncodeNode}

@@ -13,8 +13,8 @@ use Rattle.jxlm_header.specs.Header.{Header}
 use Rattle.jxlm_header.specs.Opening.{Opening, conditions, depth_limit, node_limit, resolve}
 use Rattle.jxlm_header.proofs.HeaderLaws.{exact-opening}
 use Rattle.jxlm_tree.specs.Tree.{Config, Node}
-use Rattle.jxlm_tree.specs.declared.flat.Leaf.{Leaf}
-use Rattle.jxlm_tree.proofs.Listing.{levels-injective}
+use Rattle.jxlm_ma_tree.specs.declared.leaf.Leaf.{Leaf}
+use Rattle.jxlm_ma_tree.proofs.Listing.{levels-injective}
 use Rattle.jxlm_tree.specs.TreeReading.{IsTreeAt, listing_at}
 use Rattle.jxlm_nested.specs.Starts.{IsStartAt, coded_part, opening_at}
 use Rattle.jxlm_samples.specs.Coded.{IsCodedWhole, part_rule}

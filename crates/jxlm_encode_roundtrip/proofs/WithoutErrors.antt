@@ -9,9 +9,9 @@ use Rattle.jxlm_bits.specs.declared.decoder.DecoderError.{DecoderError}
 use Rattle.jxlm_base.specs.Grid.{Grid}
 use Rattle.jxlm_header.specs.Opening.{Opening, depth_limit, node_limit}
 use Rattle.jxlm_tree.specs.Tree.{Config, Node, depth, levels}
-use Rattle.jxlm_tree.specs.declared.flat.Leaf.{Leaf}
+use Rattle.jxlm_ma_tree.specs.declared.leaf.Leaf.{Leaf}
 use Rattle.jxlm_tree.specs.TreeReading.{IsTooDeep, IsTreeAt, listing_at}
-use Rattle.jxlm_tree.proofs.Listing.{levels-injective}
+use Rattle.jxlm_ma_tree.proofs.Listing.{levels-injective}
 use Rattle.jxlm_nested.specs.Starts.{IsStartAt, IsTreeErrorAt, opening_at}
 use Rattle.jxlm_samples.specs.Coded.{DecodingFails, FailsAfter, IsCodedWhole, part_rule}
 use Rattle.jxlm_samples.specs.Rule.{CodedPrefix}

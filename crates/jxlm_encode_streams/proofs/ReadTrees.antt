@@ -9,7 +9,7 @@ use Rattle.jxlm_bits.specs.Decoding.{Asked, Found, IsLawful, Meaning}
 use Rattle.jxlm_tree.specs.Tree.{Node, decision_node, levels}
 use Rattle.jxlm_tree.specs.TreeReading.{with_clusters}
 use Rattle.jxlm_tree.specs.TreeStands.{TokenStands, NodesStand, leaf_clusters}
-use Rattle.jxlm_tree.specs.declared.flat.Leaf.{Leaf}
+use Rattle.jxlm_ma_tree.specs.declared.leaf.Leaf.{Leaf}
 use Rattle.jxlm_predictor.specs.Predictions.{number_of, predictors}
 use Rattle.jxlm_predictor.specs.declared.predictor.Predictor.{Predictor}
 use Rattle.jxlm_predictor.proofs.Numbers.{found_by_number}

@@ -6,7 +6,7 @@ use Rattle.jxlm_bit_writer.specs.ReadStreams.{IsRead}
 use Rattle.jxlm_tree.specs.Tree.{Node, Shape, levels, depth, node_count, config_of}
 use Rattle.jxlm_tree.specs.TreeReading.{with_clusters}
 use Rattle.jxlm_tree.specs.TreeStands.{TreeStands}
-use Rattle.jxlm_tree.specs.declared.flat.Leaf.{Leaf}
+use Rattle.jxlm_ma_tree.specs.declared.leaf.Leaf.{Leaf}
 use Rattle.jxlm_encode_write.specs.Nodes.{node_of, tree_tokens}
 use Rattle.jxlm_encode_write.specs.Trees.{leaves_in}
 use Rattle.jxlm_encode_write.specs.declared.tree.EncodeNode.{EncodeNode}

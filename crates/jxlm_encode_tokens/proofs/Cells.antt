@@ -13,7 +13,7 @@ use Rattle.jxlm_base.specs.declared.subgrid.Region.{Region}
 use Rattle.jxlm_base.proofs.Outside.{number_of_row}
 use Rattle.jxlm_base.proofs.Regions.{IsFull-grid_of, cell-grid_of, cell-grid_of_read}
 use Rattle.jxlm_tree.specs.FlatTree.{FlatTree, GoesWithoutWeights, ReadsEarlierBelow, leaf_reached}
-use Rattle.jxlm_tree.specs.declared.flat.Leaf.{Leaf}
+use Rattle.jxlm_ma_tree.specs.declared.leaf.Leaf.{Leaf}
 use Rattle.jxlm_transform.specs.Channels.{AreGridsOf, area}
 use Rattle.jxlm_predictor.specs.EarlierRows.{AreRowsOf, HoldRows}
 use Rattle.jxlm_predictor.specs.Holding.{surroundings}

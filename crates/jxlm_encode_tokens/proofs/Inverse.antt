@@ -5,7 +5,7 @@ use Rattle.std.proofs.lemmas.Int.{ints, int_wrap_fits, SFits-int_wrap, int_wrap-
 use Rattle.std.proofs.lemmas.Nat.{div-mul-add}
 use Rattle.std.proofs.Math.IntN.{+ℤ_assoc, pos-*ℤ-pos}
 use Rattle.jxlm_bits.specs.Numbers.{unpack}
-use Rattle.jxlm_tree.specs.declared.flat.Leaf.{Leaf}
+use Rattle.jxlm_ma_tree.specs.declared.leaf.Leaf.{Leaf}
 use Rattle.jxlm_samples.specs.Coded.{sample_of}
 use Rattle.jxlm_samples.specs.Token.{IsTokenOf}
 use Rattle.jxlm_samples.proofs.TokenLaw.{double, each_has_token, halve, mul_assoc, power_suc}

@@ -5,7 +5,7 @@ use Rattle.std.proofs.lemmas.Int.{ints, SFits-int_wrap}
 use Rattle.std.proofs.lemmas.List.{get_or_default, same_lists}
 use Rattle.jxlm_bits.specs.Numbers.{unpack}
 use Rattle.jxlm_tree.specs.Tree.{AllLeaves}
-use Rattle.jxlm_tree.specs.declared.flat.Leaf.{Leaf}
+use Rattle.jxlm_ma_tree.specs.declared.leaf.Leaf.{Leaf}
 use Rattle.jxlm_tree.proofs.FlatTrees.{reached_leaf}
 use Rattle.jxlm_samples.specs.Coded.{next_prediction}
 use Rattle.jxlm_samples.specs.Part.{Part, clamps, next_channel, next_leaf, property_by, surroundings}

@@ -5,7 +5,7 @@ use Rattle.std.proofs.lemmas.Int.{ints, int_wrap_fits, SFits-int_wrap, int_wrap-
 use Rattle.std.proofs.lemmas.Bool.{cases_lt}
 use Rattle.std.proofs.Math.IntN.{+ℤ_assoc}
 use Rattle.jxlm_bits.specs.Numbers.{unpack}
-use Rattle.jxlm_tree.specs.declared.flat.Leaf.{Leaf}
+use Rattle.jxlm_ma_tree.specs.declared.leaf.Leaf.{Leaf}
 use Rattle.jxlm_samples.specs.Coded.{sample_of}
 use Rattle.jxlm_encode_write.specs.Nodes.{packed_number}
 use Rattle.jxlm_encode_tokens.specs.Laws.{EachHasOneToken}

@@ -4,7 +4,7 @@ use Rattle.std.specs.List.{All}
 use Rattle.std.specs.Int.{Width, w32}
 use Rattle.jxlm_bits.specs.Decoding.{Meaning}
 use Rattle.jxlm_base.specs.Grid.{Grid}
-use Rattle.jxlm_tree.specs.declared.flat.Leaf.{Leaf}
+use Rattle.jxlm_ma_tree.specs.declared.leaf.Leaf.{Leaf}
 use Rattle.jxlm_tree.specs.Tree.{AllLeaves}
 use Rattle.jxlm_samples.specs.Coded.{IsCodedToTheEnd}
 use Rattle.jxlm_samples.specs.Part.{Part, next_leaf, cell_count, cells_of, max_width}

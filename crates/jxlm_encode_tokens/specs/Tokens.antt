@@ -3,7 +3,7 @@ use Rattle.std.specs.Prelude.{◌≡◌, ℕ, ◌%◌, ◌<◌, ℤ, pos, List, 
 use Rattle.std.specs.Int.{Width}
 use Rattle.jxlm_bits.specs.Numbers.{unpack}
 use Rattle.jxlm_bit_writer.specs.declared.token.Token.{Token}
-use Rattle.jxlm_tree.specs.declared.flat.Leaf.{Leaf}
+use Rattle.jxlm_ma_tree.specs.declared.leaf.Leaf.{Leaf}
 use Rattle.jxlm_samples.specs.Coded.{next_prediction, sample_of}
 use Rattle.jxlm_samples.specs.Part.{Part, next_leaf}
 

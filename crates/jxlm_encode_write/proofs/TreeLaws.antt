@@ -9,7 +9,7 @@ use Rattle.jxlm_bits.specs.Numbers.{unpack}
 use Rattle.jxlm_plain.specs.Plain.{plain, plain2}
 use Rattle.jxlm_tree.specs.Tree.{Shape, levels, depth, node_count, config_of}
 use Rattle.jxlm_tree.specs.TreeStands.{TokenStands, NodeStands, NodesStand, TreeStands, leaf_clusters}
-use Rattle.jxlm_tree.specs.declared.flat.Leaf.{Leaf}
+use Rattle.jxlm_ma_tree.specs.declared.leaf.Leaf.{Leaf}
 use Rattle.jxlm_predictor.specs.Predictions.{number_of, predictors}
 use Rattle.jxlm_predictor.specs.declared.predictor.Predictor.{Predictor}
 use Rattle.jxlm_bit_writer.specs.Written.{digits, HasBits}

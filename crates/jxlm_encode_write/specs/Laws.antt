@@ -4,7 +4,7 @@ use Rattle.std.specs.List.{All}
 use Rattle.jxlm_header.specs.Header.{header}
 use Rattle.jxlm_tree.specs.Tree.{Shape, levels, node_count, depth, config_of}
 use Rattle.jxlm_tree.specs.TreeStands.{TreeStands}
-use Rattle.jxlm_tree.specs.declared.flat.Leaf.{Leaf}
+use Rattle.jxlm_ma_tree.specs.declared.leaf.Leaf.{Leaf}
 use Rattle.jxlm_plain.specs.Plain.{plain, plain2}
 use Rattle.jxlm_transform.specs.Transforms.{Transform, OfRct, OfPalette, OfSqueeze, IsRct, IsSqueeze}
 use Rattle.jxlm_weighted.specs.WeightsHeader.{default_weights}

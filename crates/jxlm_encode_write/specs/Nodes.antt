@@ -2,7 +2,7 @@
 use Rattle.std.specs.Prelude.{ℕ, suc, ◌+◌, ◌*◌, ◌^◌, ℤ, pos, negsuc, List, [], ◌∷◌, Bool, true, nat_lt, ◌-◌}
 use Rattle.std.specs.List.{flat_map}
 use Rattle.jxlm_tree.specs.Tree.{Node, leaf_node, decision_node}
-use Rattle.jxlm_tree.specs.declared.flat.Leaf.{Leaf}
+use Rattle.jxlm_ma_tree.specs.declared.leaf.Leaf.{Leaf}
 use Rattle.jxlm_predictor.specs.Predictions.{number_of}
 use Rattle.jxlm_encode_write.specs.declared.tree.EncodeNode.{EncodeNode}
 use Rattle.jxlm_encode_write.specs.declared.tree.EncodeNode.TheVariants as given

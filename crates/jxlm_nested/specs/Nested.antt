@@ -18,7 +18,7 @@ use Rattle.jxlm_transform.specs.Channels.{ChannelList}
 use Rattle.jxlm_transform.specs.ChannelSteps.{Step}
 use Rattle.jxlm_transform.specs.Steps.{tables_of}
 use Rattle.jxlm_tree.specs.Tree.{Config, Shape, depth}
-use Rattle.jxlm_tree.specs.declared.flat.Leaf.{Leaf}
+use Rattle.jxlm_ma_tree.specs.declared.leaf.Leaf.{Leaf}
 use Rattle.jxlm_nested.specs.Zeros.{zeros}
 use Rattle.jxlm_nested.specs.Starts.{IsTreeErrorAt, Start, coded_part, opening_at}
 

@@ -116,12 +116,7 @@ fn tokens_ahead(bits: &Bitstream<'_>, width: u32, before: Ahead, tokens: &mut [u
 
 /// The same, by a loop of its own for tokens that are as wide as a run's length.
 #[inline(always)]
-fn tokens_by_width(
-    bits: &Bitstream<'_>,
-    width: u32,
-    before: Ahead,
-    tokens: &mut [u32],
-) -> Ahead
+fn tokens_by_width(bits: &Bitstream<'_>, width: u32, before: Ahead, tokens: &mut [u32]) -> Ahead
     requires narrow { width ≤ 32 }
     requires here { before.at ≡ 0 }
     requires few { length tokens.old < 2 ^ 32 }

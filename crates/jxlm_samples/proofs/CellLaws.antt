@@ -25,7 +25,7 @@ use Rattle.jxlm_weighted.specs.Neighbours.{row as line}
 use Rattle.jxlm_predictor.specs.Standing.{HasSameRoom, HoldsRow, IsInner, IsReady, Setting, StandsAt, row_of}
 use Rattle.jxlm_samples.specs.CellLeaves.{leaf_at, steps_walked}
 use Rattle.jxlm_predictor.specs.declared.earlier.EarlierRow.{EarlierRow}
-use Rattle.jxlm_tree.specs.declared.flat.Leaf.{Leaf}
+use Rattle.jxlm_ma_tree.specs.declared.leaf.Leaf.{Leaf}
 use Rattle.jxlm_tree.specs.declared.paths.Path.{Path}
 use Rattle.jxlm_predictor.specs.declared.properties.Properties.{Properties}
 use Rattle.jxlm_weighted.specs.declared.weights.WpHeader.{WpHeader}

@@ -8,7 +8,7 @@ use Rattle.jxlm_bits.specs.Numbers.{clamp}
 use Rattle.jxlm_tree.specs.FlatTree.{FlatTree, property_of, leaf_reached}
 use Rattle.jxlm_tree.specs.ShortTrees.{Fits}
 use Rattle.jxlm_tree.specs.Tree.{walk}
-use Rattle.jxlm_tree.proofs.FlatCasts.{less, not_less}
+use Rattle.jxlm_ma_tree.proofs.Comparing.{less, not_less}
 use Rattle.jxlm_tree.proofs.FlatTrees.{asked_is, walk_by}
 use Rattle.jxlm_weighted.specs.Neighbours.{neighbours}
 use Rattle.jxlm_predictor.specs.Properties.{Surroundings, place_property}

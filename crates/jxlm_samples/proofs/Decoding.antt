@@ -8,7 +8,7 @@ use Rattle.jxlm_base.specs.Grid.{Grid}
 use Rattle.jxlm_bits.specs.declared.decoder.DecoderError.{DecoderError}
 use Rattle.jxlm_base.proofs.Outside.{all_lie_still, keeps_all, keeps_both}
 use Rattle.jxlm_predictor.specs.declared.state.PredictorState.{PredictorState}
-use Rattle.jxlm_tree.specs.declared.flat.Leaf.{Leaf}
+use Rattle.jxlm_ma_tree.specs.declared.leaf.Leaf.{Leaf}
 use Rattle.jxlm_samples.specs.ChannelSettings.{StandsAfter, region_at}
 use Rattle.jxlm_samples.specs.Inner.Levels.{IsAtRow, IsOnPath, IsReady}
 use Rattle.jxlm_samples.specs.Inner.Progress.{DecodesCells, FailsInCells, Moment, WalkGives}

@@ -1,5 +1,6 @@
 -- One more cell of a row is read from the row above it.
 use Rattle.std.proofs.Common.{◌≡◌, ℕ, zero, suc, ◌+◌, ◌<◌, List, Contains, length, take, map, Ok, Err, Result, Bool, true, false, refl, sym, ap, ◌∙◌, subst, arith, rules, ℤ, pos, ◌+ℤ◌, ◌-ℤ◌, ◌*ℤ◌}
+use Rattle.std.specs.Borrow.{Bor}
 use Rattle.std.specs.Prelude.{get_or, slice_set}
 use Rattle.std.specs.Int.{Width, w32, int_wrap}
 use Rattle.std.proofs.Math.IntN.{+ℤ_idr, *ℤ_comm, suc_ℤ-*ℤ, zero-*ℤ, +ℤ_idl}
@@ -10,13 +11,15 @@ use Rattle.jxlm_bits.specs.Bits.{bytes_of, position_of}
 use Rattle.jxlm_bits.specs.Decoding.{IsLawful, Meaning, Taken}
 use Rattle.jxlm_bits.specs.Numbers.{clamped_gradient, unpack}
 use Rattle.jxlm_bits.specs.declared.decoder.DecoderError.{DecoderError}
-use Rattle.jxlm_tree.specs.declared.flat.Leaf.{Leaf}
+use Rattle.jxlm_ma_tree.specs.declared.leaf.Leaf.{Leaf}
+use Rattle.jxlm_tree.specs.ClusterTables.{Clusters, table_leaf}
 use Rattle.jxlm_samples.specs.Coded.{sample_of}
 use Rattle.jxlm_samples.specs.Inner.Paths.{AreGradients, AreLeft, IsPlain, gradient_rule, leaf_by, steps_by}
 use Rattle.jxlm_samples.specs.Inner.Rows.{FailsRow, ReadsCells}
 use Rattle.jxlm_samples.specs.declared.source.Source.{Source}
 use Rattle.jxlm_samples.specs.Rule.{Rule}
 use Rattle.jxlm_samples.specs.declared.gradient.Leaves.{Leaves}
+use Rattle.jxlm_samples.specs.declared.gradient.Leaves.TheVariants.{Table}
 use Rattle.jxlm_samples.proofs.ClampedSums.{sum-fits}
 use Rattle.jxlm_samples.proofs.RowReads.{cell_fails, cell_more}
 use Rattle.jxlm_samples.specs.RowNeighbours.{gradient_in, north_in, north_west_in, property_9_in, sum_by, west_in}
@@ -37,6 +40,13 @@ reduced_sample w l token g plain after =
     plain_sample w l token (int_wrap w32 g) plain
     ∙ sym (int_wrap-add_right w u (int_wrap w32 g)) ∙ ap (λ z. int_wrap w (u +ℤ z)) (after g) ∙ int_wrap-add_right w u g
     ∙ sym (int_wrap-add_left w u g)
+
+-- what a look-up in a table says of the leaves that it gives
+pub by_table : (leaves : Leaves) (c : Bor Clusters) (x : ℤ) (k : ℕ) → leaves ≡ Table c → k ≡ (table_leaf c.now x).cluster → k ≡ (leaf_by leaves x).cluster
+by_table leaves c x k is e = e ∙ ap (λ (ls : Leaves). (leaf_by ls x).cluster) (sym is)
+
+pub step_by_table : (leaves : Leaves) (c : Bor Clusters) (before after : ℕ) → leaves ≡ Table c → after ≡ before + 1 → after ≡ before + steps_by leaves
+step_by_table leaves c before after is e = e ∙ ap (λ (ls : Leaves). before + steps_by ls) (sym is)
 
 -- ---- neighbours
 

@@ -6,7 +6,7 @@ use Rattle.std.proofs.lemmas.List.{get_or-map, get_or-set_other, get_or-set_same
 use Rattle.jxlm_weighted.specs.Neighbours.{Neighbours}
 use Rattle.jxlm_predictor.specs.Predictions.{prediction_from}
 use Rattle.jxlm_predictor.specs.declared.predictor.Predictor.{Predictor}
-use Rattle.jxlm_tree.specs.declared.flat.Leaf.{Leaf}
+use Rattle.jxlm_ma_tree.specs.declared.leaf.Leaf.{Leaf}
 use Rattle.jxlm_samples.specs.Coded.{sample_of}
 use Rattle.jxlm_samples.specs.Inner.LeafRows.{IsLeft, around_in, leaf_value, prediction_in, west_west_in}
 use Rattle.jxlm_samples.specs.RowNeighbours.{north_west_in, west_in}

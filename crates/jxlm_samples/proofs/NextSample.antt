@@ -17,7 +17,7 @@ use Rattle.jxlm_predictor.specs.Properties.{Surroundings, earlier_property, own_
 use Rattle.jxlm_weighted.specs.SelfCorrecting.{error_property}
 use Rattle.jxlm_predictor.specs.Standing.{Setting, setting}
 use Rattle.jxlm_tree.specs.Tree.{walk}
-use Rattle.jxlm_tree.specs.declared.flat.Leaf.{Leaf}
+use Rattle.jxlm_ma_tree.specs.declared.leaf.Leaf.{Leaf}
 use Rattle.jxlm_predictor.specs.declared.predictor.Predictor.{Predictor}
 use Rattle.jxlm_predictor.specs.declared.predictor.Predictor.TheVariants.{Zero, West, North, AvgWestAndNorth, Select, Gradient, SelfCorrecting, NorthEast, NorthWest, WestWest, AvgWestAndNorthWest, AvgNorthAndNorthWest, AvgNorthAndNorthEast, AvgAll}
 use Rattle.jxlm_weighted.specs.declared.weights.WpHeader.{WpHeader}

@@ -21,7 +21,7 @@ use Rattle.jxlm_predictor.specs.Properties.{Surroundings, gradient_at}
 use Rattle.jxlm_predictor.specs.Sums.{gradient_sum}
 use Rattle.jxlm_weighted.specs.declared.weights.WpHeader.{WpHeader}
 use Rattle.jxlm_predictor.specs.declared.predictor.Predictor.TheVariants as predictor
-use Rattle.jxlm_tree.specs.declared.flat.Leaf.{Leaf}
+use Rattle.jxlm_ma_tree.specs.declared.leaf.Leaf.{Leaf}
 use Rattle.jxlm_samples.specs.Inner.LeafRows.{around_in, north_east_in, prediction_in, row_two_above, west_west_in}
 use Rattle.jxlm_samples.specs.Inner.Paths.{row_above}
 use Rattle.jxlm_samples.specs.RowNeighbours.{gradient_in, north_in, north_west_in, property_9_in, sum_by, west_in}

@@ -17,7 +17,7 @@ use Rattle.jxlm_tree.specs.ClusterTables.{table_leaf}
 use Rattle.jxlm_tree.specs.FlatTree.{leaf_reached}
 use Rattle.jxlm_tree.specs.Paths.{IsLeafOf, IsPlainGradient}
 use Rattle.jxlm_tree.specs.ShortTrees.{Fits}
-use Rattle.jxlm_tree.specs.declared.flat.Leaf.{Leaf}
+use Rattle.jxlm_ma_tree.specs.declared.leaf.Leaf.{Leaf}
 use Rattle.jxlm_tree.proofs.FlatTrees.{standing_leaf}
 use Rattle.jxlm_transform.specs.Channels.{AreRegionsOf}
 use Rattle.jxlm_samples.specs.Coded.{next_prediction, sample_of}

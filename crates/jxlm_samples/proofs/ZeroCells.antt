@@ -9,7 +9,7 @@ use Rattle.jxlm_bits.specs.Decoding.{IsLawful, Meaning}
 use Rattle.jxlm_predictor.specs.declared.predictor.Predictor.TheVariants as predictor
 use Rattle.jxlm_tree.specs.FlatTree.{FlatTree}
 use Rattle.jxlm_tree.specs.Paths.{Gives, IsLeafOf}
-use Rattle.jxlm_tree.specs.declared.flat.Leaf.{Leaf}
+use Rattle.jxlm_ma_tree.specs.declared.leaf.Leaf.{Leaf}
 use Rattle.jxlm_tree.specs.declared.paths.Path.{Path}
 use Rattle.jxlm_tree.specs.declared.paths.Path.TheVariants as path
 use Rattle.jxlm_samples.specs.Coded.{sample_of}

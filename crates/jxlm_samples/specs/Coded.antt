@@ -6,7 +6,7 @@ use Rattle.jxlm_base.specs.Grid.{Grid}
 use Rattle.jxlm_bits.specs.Numbers.{unpack}
 use Rattle.jxlm_bits.specs.declared.decoder.DecoderError.{DecoderError}
 use Rattle.jxlm_predictor.specs.Predictions.{prediction}
-use Rattle.jxlm_tree.specs.declared.flat.Leaf.{Leaf}
+use Rattle.jxlm_ma_tree.specs.declared.leaf.Leaf.{Leaf}
 use Rattle.jxlm_samples.specs.Part.{Part, surroundings, next_leaf, cell_count, max_width, cells_of}
 use Rattle.jxlm_samples.specs.Rule.{Rule, CodedPrefix}
 

@@ -9,7 +9,7 @@ use Rattle.jxlm_predictor.specs.Properties.{Surroundings, place_property, proper
 use Rattle.jxlm_predictor.specs.Sums.{gradient_sum}
 use Rattle.jxlm_tree.specs.SumTrees.{takes_sums_at}
 use Rattle.jxlm_tree.specs.Tree.{Shape, walk}
-use Rattle.jxlm_tree.specs.declared.flat.Leaf.{Leaf}
+use Rattle.jxlm_ma_tree.specs.declared.leaf.Leaf.{Leaf}
 use Rattle.jxlm_weighted.specs.declared.weights.WpHeader.{WpHeader}
 
 -- a part: its channels in order, the weights of its header, its tree, and its stream index

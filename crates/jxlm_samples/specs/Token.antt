@@ -1,7 +1,7 @@
 -- The token of a sample (for writing).
 use Rattle.std.specs.Prelude.{◌≡◌, ℕ, ◌%◌, ◌^◌, ◌<◌, ℤ, FitsSigned}
 use Rattle.std.specs.Int.{w32}
-use Rattle.jxlm_tree.specs.declared.flat.Leaf.{Leaf}
+use Rattle.jxlm_ma_tree.specs.declared.leaf.Leaf.{Leaf}
 use Rattle.jxlm_samples.specs.Coded.{sample_of}
 
 -- the only token below 2 ^ 32 that stands for a sample of 32 bits, at a leaf and over a prediction

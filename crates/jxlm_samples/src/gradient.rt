@@ -3,7 +3,9 @@
 //! No state of the predictors is needed for them: a row is read from the row above it.
 
 ghost use Rattle.std.specs.Prelude.{◌≡◌, ◌+◌, ◌+ℤ◌, ◌-ℤ◌, ◌<◌, ◌≤◌, true, map, length, if◌then◌else◌};
-ghost use Rattle.jxlm_samples.specs.Inner.Paths.{AreGradients, AreLeavesOf, are_of_table, leaf_by, steps_by};
+ghost use Rattle.jxlm_tree.specs.ClusterTables.{Clusters, table_leaf};
+ghost use Rattle.jxlm_tree.specs.EntriesOf.{AreEntriesOf};
+ghost use Rattle.jxlm_samples.specs.Inner.Paths.{AreGradients, AreLeavesOf, are_of_table, steps_by};
 ghost use Rattle.jxlm_samples.specs.Inner.Rows.{GradientGives, IsLine, RowGives};
 ghost use Rattle.jxlm_samples.specs.Reading.{FindsClusters, cost_of, tree_of};
 ghost use Rattle.jxlm_samples.specs.Lines.{region_on};
@@ -17,7 +19,7 @@ use jxlm_base::region::region_row;
 use jxlm_base::sample::{Sample, Sealed};
 use jxlm_bits::decoder::Decoder;
 use jxlm_tree::flat::{Leaf, Steps};
-use jxlm_tree::paths::ClusterTable;
+use jxlm_tree::paths::{ClusterEntries, ClusterTable};
 
 /// The leaves of a channel whose cells are all predicted by the clamped gradient.
 #[derive(Clone, Copy)]
@@ -31,21 +33,17 @@ pub(crate) enum Leaves<'t> {
 /// The cluster of a cell with these neighbours, by the table.
 #[inline(always)]
 fn cluster_of<S: Sample, const CLAMPED: bool>(
-    leaves: Leaves<'_>,
+    entries: &ClusterEntries<'_>,
     n: S,
     w: S,
     nw: S,
     steps: &mut Steps,
 ) -> u8
-    requires kind { are_of_table leaves ≡ true }
-    ensures cluster { result ≡
-        (leaf_by leaves.entry (sum_by CLAMPED (S.to_int w -ℤ S.to_int nw +ℤ S.to_int n))).cluster }
-    ensures cost { steps.new ≡ steps.old + steps_by leaves.entry }
+    ensures cluster { (t : Clusters) → AreEntriesOf t entries.now → result ≡
+        (table_leaf t (sum_by CLAMPED (S.to_int w -ℤ S.to_int nw +ℤ S.to_int n))).cluster }
+    ensures cost { steps.new ≡ steps.old + 1 }
 {
-    match leaves {
-        Leaves::Table(table) => table.cluster(property_9::<S, CLAMPED>(n, w, nw), steps),
-        Leaves::One(_) => unreachable!(),
-    }
+    entries.cluster(property_9::<S, CLAMPED>(n, w, nw), steps)
 }
 
 /// Reads a row below another, or the first one, by the leaves of a table. The reader is a local variable for the length
@@ -69,12 +67,16 @@ fn read_below<S: Sample, D: Decoder, const FIRST: bool, const CLAMPED: bool>(
     ensures { GradientGives D.meaning S.width CLAMPED leaves.entry widest (map S.to_int above.now)
         (map S.to_int row.new) source.old source.new result }
 {
+    let Leaves::Table(table) = leaves else {
+        unreachable!()
+    };
+    let kept = table.entries();
     let mut reader = source.bits;
     let mut w = sample_above::<S, FIRST>(above, 0, S::from_i32(0));
     let mut nw = w;
     for x in 0..row.len() {
         let n = sample_above::<S, FIRST>(above, x, w);
-        let cluster = cluster_of::<S, CLAMPED>(leaves, n, w, nw, &mut source.steps);
+        let cluster = cluster_of::<S, CLAMPED>(&kept, n, w, nw, &mut source.steps);
         let token = match source
             .decoder
             .read_varint_with_multiplier_clustered(&mut reader, cluster, widest)

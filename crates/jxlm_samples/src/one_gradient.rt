@@ -4,7 +4,7 @@
 
 ghost use Rattle.std.specs.Prelude.{◌≡◌, ◌+◌, ◌<◌, ◌≤◌, map, length, Contains, false, if◌then◌else◌};
 ghost use Rattle.jxlm_bits.specs.Bits.{bytes_of};
-ghost use Rattle.jxlm_tree.specs.declared.flat.Leaf.{Leaf};
+ghost use Rattle.jxlm_ma_tree.specs.declared.leaf.Leaf.{Leaf};
 ghost use Rattle.jxlm_samples.specs.Coded.{sample_of};
 ghost use Rattle.jxlm_samples.specs.Inner.Paths.{AreLeft, IsPlain, gradient_rule};
 ghost use Rattle.jxlm_samples.specs.Inner.Rows.{MakesCells, ReadsRow, StretchGives};

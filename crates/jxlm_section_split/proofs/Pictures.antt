@@ -12,7 +12,7 @@ use Rattle.jxlm_bits.specs.Grammar.{IsErrorAt}
 use Rattle.jxlm_base.specs.Grid.{Grid}
 use Rattle.jxlm_bits.specs.declared.bits.Bitstream.{Bitstream}
 use Rattle.jxlm_bits.specs.declared.error.Error.{Error}
-use Rattle.jxlm_tree.proofs.Memory.{always_so, unless_so}
+use Rattle.jxlm_ma_tree.proofs.Memory.{always_so, unless_so}
 use Rattle.jxlm_transform.proofs.Failures.{unless_memory}
 use Rattle.jxlm_chain.specs.Chain.{Chain}
 use Rattle.jxlm_transform.specs.ChannelSteps.{Step}

@@ -9,7 +9,7 @@ use Rattle.jxlm_tree.specs.ClusterTables.{Clusters, IsTableOf, in_cluster, table
 use Rattle.jxlm_tree.specs.ShortTrees.{Fits}
 use Rattle.jxlm_tree.specs.Inner.FlatNodes.{IsSound, LeadsBelow}
 use Rattle.jxlm_tree.specs.Inner.Tables.{AreClusters, LeadTo}
-use Rattle.jxlm_tree.specs.declared.flat.Leaf.{Leaf}
+use Rattle.jxlm_ma_tree.specs.declared.leaf.Leaf.{Leaf}
 use Rattle.jxlm_tree.specs.declared.flat.FlatNode.{FlatNode}
 use Rattle.jxlm_tree.specs.declared.flat.FlatNode.TheVariants as node
 use Rattle.jxlm_tree.proofs.FlatLooks.{read-at}

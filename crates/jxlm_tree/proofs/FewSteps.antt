@@ -9,12 +9,12 @@ use Rattle.jxlm_tree.specs.ClusterTables.{LeavesAgree, in_cluster}
 use Rattle.jxlm_tree.specs.Paths.{IsPlainGradient}
 use Rattle.jxlm_tree.specs.ShortTrees.{CutsWithin, Reaches, TestsOnly, way}
 use Rattle.jxlm_tree.specs.Steps.{are_alike, cuts_within, each_leaf, is_tabular, leaves_within, leftmost, most_steps, plain_gradient, tests_only}
-use Rattle.jxlm_tree.specs.Tree.{AllLeaves, Shape, leaf, decision, depth}
-use Rattle.jxlm_tree.specs.Inner.Pruned.{greatest, least}
-use Rattle.jxlm_tree.specs.declared.flat.Leaf.{Leaf}
+use Rattle.jxlm_ma_tree.specs.Tree.{AllLeaves, Shape, leaf, decision, depth}
+use Rattle.jxlm_ma_tree.specs.Cuts.{greatest, least}
+use Rattle.jxlm_ma_tree.specs.declared.leaf.Leaf.{Leaf}
 use Rattle.jxlm_tree.proofs.FlatTrees.{each_leaf as all-leaves}
 use Rattle.jxlm_tree.proofs.FlatTwo.{four_places, way_left, way_right}
-use Rattle.jxlm_tree.proofs.FlatWalks.{above, int_lt-tells, not_above}
+use Rattle.jxlm_ma_tree.proofs.Comparing.{above, int_lt-tells, not_above}
 use Rattle.jxlm_tree.proofs.MostSteps.{and-both, decides-alike, decides-cuts_within, decides-each_leaf, decides-tests_only}
 use Rattle.jxlm_predictor.specs.declared.predictor.Predictor.TheVariants as predictor
 use Rattle.jxlm_predictor.specs.Predictions.{number_of}

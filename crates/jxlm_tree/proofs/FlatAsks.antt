@@ -5,11 +5,11 @@ use Rattle.std.proofs.lemmas.Bool.Decides.{nat_tests, eqb_tells}
 use Rattle.jxlm_tree.specs.FlatTree.{NamesEarlier, flat_tree, leaf_reached, needs_weights}
 use Rattle.jxlm_tree.specs.ShortTrees.{Fits}
 use Rattle.jxlm_tree.specs.Inner.FlatShapes.{Lacks}
-use Rattle.jxlm_tree.specs.Tree.{Shape, leaf, decision}
+use Rattle.jxlm_ma_tree.specs.Tree.{Shape, leaf, decision}
 use Rattle.jxlm_tree.specs.Inner.Compiled.{IsCompiled, known_at}
 use Rattle.jxlm_tree.specs.Inner.FlatNodes.{alike, channels_of, corrects, is_error, no_leaf, of_channel, reached}
 use Rattle.jxlm_tree.specs.declared.flat.FlatNode.{FlatNode}
-use Rattle.jxlm_tree.specs.declared.flat.Leaf.{Leaf}
+use Rattle.jxlm_ma_tree.specs.declared.leaf.Leaf.{Leaf}
 use Rattle.jxlm_predictor.specs.declared.predictor.Predictor.TheVariants.{SelfCorrecting}
 use Rattle.jxlm_tree.proofs.FlatChannels.{channels-bound, channels-other, not_past, not_zero, sees_no_more, unknown-few}
 use Rattle.jxlm_tree.proofs.FlatLooks.{all-of}

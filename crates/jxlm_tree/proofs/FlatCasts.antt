@@ -1,14 +1,14 @@
 -- What the functions' answers need, with the checks' casts as equations.
-use Rattle.std.proofs.Common.{◌≡◌, ℕ, ◌+◌, ◌<◌, ◌≤◌, ℤ, pos, ◌+ℤ◌, ◌<ℤ◌, ◌≤ℤ◌, true, false, List, [], ◌∷◌, length, Option, Some, None, Result, Ok, Err, IfOk, OnOk, IsSome, sym, ap, ◌∙◌, subst, arith}
-use Rattle.std.specs.Prelude.{int_lt}
-use Rattle.std.proofs.lemmas.Int.{ints}
+use Rattle.std.proofs.Common.{◌≡◌, ℕ, ◌+◌, ◌<◌, ◌≤◌, ℤ, pos, ◌+ℤ◌, ◌<ℤ◌, ◌≤ℤ◌, List, [], ◌∷◌, length, Option, Some, None, Result, Ok, Err, IfOk, OnOk, IsSome, sym, ap, ◌∙◌, subst}
 use Rattle.std.proofs.lemmas.Bool.{false≢true}
-use Rattle.jxlm_tree.specs.declared.marks.Survey.{Survey}
+use Rattle.jxlm_ma_tree.specs.declared.marks.Survey.{Survey}
 use Rattle.jxlm_tree.specs.declared.flat.FlatNode.{FlatNode}
-use Rattle.jxlm_tree.specs.declared.flat.Leaf.{Leaf}
-use Rattle.jxlm_tree.specs.Tree.{Shape, decision}
+use Rattle.jxlm_ma_tree.specs.declared.leaf.Leaf.{Leaf}
+use Rattle.jxlm_ma_tree.specs.Tree.{Shape, decision}
+use Rattle.jxlm_ma_tree.specs.declared.marks.Marked.{Marked}
+use Rattle.jxlm_ma_tree.specs.Marked.{marked_shape}
 use Rattle.jxlm_tree.specs.Inner.FlatShapes.{size}
-use Rattle.jxlm_tree.specs.Inner.Pruned.{hanging}
+use Rattle.jxlm_tree.specs.Inner.Chosen.{hanging}
 use Rattle.jxlm_tree.specs.Inner.FlatNodes.{Compiles, CompilesSide, Fills, IsTable}
 use Rattle.jxlm_tree.proofs.FlatNodes.{hanging-at, hanging-some, hanging-few, fill-left, fill-right, fill-both, side-split}
 
@@ -19,12 +19,6 @@ on_ok (Err e) P Q f h = h
 pub if_ok : {T E : Type 0} (r : Result T E) (P Q : T → Type 0) → ((x : T) → P x → Q x) → IfOk r P → IfOk r Q
 if_ok (Ok x) P Q f h = f x h
 if_ok (Err e) P Q f h = h
-
-pub less : (a b : ℤ) → int_lt a b ≡ true → a <ℤ b
-less a b h = grind (arith, ints)
-
-pub not_less : (a b : ℤ) → int_lt a b ≡ false → b ≤ℤ a
-not_less a b h = grind (arith, ints)
 
 -- what a root that was opened tells of numbers
 pub record Splits (p : ℕ) (t a b : Shape Leaf) : Type 0 where
@@ -98,3 +92,6 @@ side-split-at k p v v1 t a b i j old mid new e is none ca cb =
 pub side-named : (k p q : ℕ) (v : ℤ) (i j : ℕ) (old new : List FlatNode) (t : Shape Leaf) → q ≡ p → CompilesSide k old new (record { property = p; value = v; above = i; rest = j }) t →
     CompilesSide k old new (record { property = q; value = v; above = i; rest = j }) t
 side-named k p q v i j old new t e h = subst (λ n. CompilesSide k old new (record { property = n; value = v; above = i; rest = j }) t) (sym e) h
+
+pub size_of : {m n : Marked} → m ≡ n → size (marked_shape m) ≡ size (marked_shape n)
+size_of e = ap (λ m. size (marked_shape m)) e

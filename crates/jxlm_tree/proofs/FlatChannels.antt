@@ -3,10 +3,10 @@ use Rattle.std.proofs.Common.{◌≡◌, ℕ, ◌+◌, ◌*◌, ◌<◌, ◌≤�
 use Rattle.std.specs.Prelude.{fold}
 use Rattle.std.proofs.lemmas.List.{reverse-reverse}
 use Rattle.std.proofs.lemmas.Bool.Decides.{nat_tests, leb_tells}
-use Rattle.jxlm_tree.specs.declared.marks.Known.{Known}
+use Rattle.jxlm_ma_tree.specs.declared.marks.Known.{Known}
 use Rattle.jxlm_tree.specs.declared.flat.FlatNode.{FlatNode}
 use Rattle.jxlm_tree.specs.declared.flat.FlatNode.TheVariants as node
-use Rattle.jxlm_tree.specs.Inner.Pruned.{known}
+use Rattle.jxlm_ma_tree.specs.Pruned.{known}
 use Rattle.jxlm_tree.specs.Inner.FlatNodes.{NodeLacks, NodesLack, channels_of, node_channels, most_channels, of_channel, no_leaf, alike, reached}
 use Rattle.jxlm_tree.proofs.FlatNeeds.{lack-reverse}
 use Rattle.jxlm_tree.proofs.FlatLooks.{blind}

@@ -4,17 +4,22 @@ use Rattle.std.specs.Prelude.{int_lt, is_some, fold, not, ◌&&◌, ◌||◌}
 use Rattle.std.specs.Int.{w32, int_wrap, int_min, int_max}
 use Rattle.std.proofs.lemmas.Int.{ints, clamps}
 use Rattle.std.proofs.lemmas.Bool.Decides.{nat_tests}
-use Rattle.jxlm_tree.specs.CompiledNodes.{cuts, greatest, has_table, if_any, least, make_table, nodes_of_sides, takes, prune}
+use Rattle.jxlm_ma_tree.specs.Cuts.{cuts, greatest, least}
+use Rattle.jxlm_tree.specs.CompiledNodes.{has_table, if_any, make_table, nodes_of_sides, takes, prune}
 use Rattle.jxlm_tree.specs.FlatTree.{FlatTree}
-use Rattle.jxlm_tree.specs.Tree.{Shape, leaf, decision, depth}
+use Rattle.jxlm_ma_tree.specs.Tree.{Shape, leaf, decision, depth}
 use Rattle.jxlm_tree.specs.Inner.Compiled.{known_at}
-use Rattle.jxlm_tree.specs.Inner.Marked.{Each}
-use Rattle.jxlm_tree.specs.Inner.Pruned.{chosen, pruned, surveyed, tabled, taken, unsurveyed, worth}
-use Rattle.jxlm_tree.specs.declared.marks.Survey.{Survey}
-use Rattle.jxlm_tree.specs.declared.flat.Leaf.{Leaf}
-use Rattle.jxlm_tree.proofs.FlatCuts.{From, cuts-within}
-use Rattle.jxlm_tree.proofs.FlatTables.{Each-back, Each-front, Each-map, cuts_above, cuts_below, cuts_between, surveyed-cuts, worth-some as survey-of}
-use Rattle.jxlm_tree.proofs.FlatWalks.{above, not_above, int_lt-tells, eqb-same, eqb-not, eqb_is, chosen_root-depth}
+use Rattle.jxlm_ma_tree.specs.Marked.{Each}
+use Rattle.jxlm_tree.specs.Inner.Chosen.{chosen}
+use Rattle.jxlm_ma_tree.specs.Pruned.{pruned, taken}
+use Rattle.jxlm_ma_tree.specs.Cuts.{surveyed, tabled, unsurveyed, worth}
+use Rattle.jxlm_ma_tree.specs.declared.marks.Survey.{Survey}
+use Rattle.jxlm_ma_tree.specs.declared.leaf.Leaf.{Leaf}
+use Rattle.jxlm_ma_tree.proofs.CutLists.{From, cuts-within}
+use Rattle.jxlm_ma_tree.proofs.CutLists.{Each-back, Each-front, Each-map, cuts_above, cuts_below, cuts_between, surveyed-cuts}
+use Rattle.jxlm_tree.proofs.FlatTables.{worth-some as survey-of}
+use Rattle.jxlm_ma_tree.proofs.Comparing.{above, not_above, int_lt-tells, eqb-same, eqb-not, eqb_is}
+use Rattle.jxlm_tree.proofs.FlatWalks.{chosen_root-depth}
 
 -- ---- which decisions have a table
 

@@ -7,13 +7,13 @@ use Rattle.std.specs.Global.{Vec}
 use Rattle.std.specs.Prelude.{int_lt}
 use Rattle.jxlm_tree.specs.ClusterTables.{in_cluster}
 use Rattle.jxlm_tree.specs.ShortTrees.{TestsOnly}
-use Rattle.jxlm_tree.specs.Tree.{AllLeaves, Shape, StandsAtLeaf, leaf, decision, depth}
+use Rattle.jxlm_ma_tree.specs.Tree.{AllLeaves, Shape, StandsAtLeaf, leaf, decision, depth}
 use Rattle.jxlm_tree.specs.Inner.Compiled.{IsCompiled, known_at}
 use Rattle.jxlm_tree.specs.Inner.FlatNodes.{Answers, Heard, IsSound, IsTable, IsTableOf, Reached, Says, Serves, go, onward, reached, says, side_says, stop}
-use Rattle.jxlm_tree.specs.Inner.Marked.{asks_for}
-use Rattle.jxlm_tree.specs.Inner.Pruned.{chosen}
+use Rattle.jxlm_ma_tree.specs.Marked.{asks_for}
+use Rattle.jxlm_tree.specs.Inner.Chosen.{chosen}
 use Rattle.jxlm_tree.specs.Inner.Tables.{LeadTo}
-use Rattle.jxlm_tree.specs.declared.flat.Leaf.{Leaf}
+use Rattle.jxlm_ma_tree.specs.declared.leaf.Leaf.{Leaf}
 use Rattle.jxlm_tree.specs.declared.flat.FlatNode.{FlatNode}
 use Rattle.jxlm_tree.specs.declared.flat.FlatNode.TheVariants as node
 use Rattle.jxlm_tree.proofs.FlatLooks.{read-at, reached-some, says-below}

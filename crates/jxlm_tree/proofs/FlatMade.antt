@@ -8,14 +8,14 @@ use Rattle.jxlm_tree.specs.FlatTree.{HasMultiplier}
 use Rattle.jxlm_tree.specs.Inner.Compiled.{IsCompiled, IsLeftAlike}
 use Rattle.jxlm_tree.specs.Inner.FlatNodes.{Compiles, most_channels, sees_error}
 use Rattle.jxlm_tree.specs.Inner.FlatShapes.{size}
-use Rattle.jxlm_tree.specs.Inner.Marked.{AreMarks, IsMarked, marked_shape}
-use Rattle.jxlm_tree.specs.Inner.Pruned.{later, pruned}
-use Rattle.jxlm_tree.specs.Tree.{AllLeaves, Shape, leaf, decision, node_count}
-use Rattle.jxlm_tree.specs.declared.marks.Known.{Known}
-use Rattle.jxlm_tree.specs.declared.marks.Marked.{Marked}
-use Rattle.jxlm_tree.specs.declared.marks.Marks.{Marks}
+use Rattle.jxlm_ma_tree.specs.Marked.{AreMarks, IsMarked, marked_shape}
+use Rattle.jxlm_ma_tree.specs.Pruned.{later, pruned}
+use Rattle.jxlm_ma_tree.specs.Tree.{AllLeaves, Shape, leaf, decision, node_count}
+use Rattle.jxlm_ma_tree.specs.declared.marks.Known.{Known}
+use Rattle.jxlm_ma_tree.specs.declared.marks.Marked.{Marked}
+use Rattle.jxlm_ma_tree.specs.declared.marks.Marks.{Marks}
 use Rattle.jxlm_tree.specs.declared.flat.FlatNode.{FlatNode}
-use Rattle.jxlm_tree.specs.declared.flat.Leaf.{Leaf}
+use Rattle.jxlm_ma_tree.specs.declared.leaf.Leaf.{Leaf}
 use Rattle.jxlm_tree.proofs.FlatWalks.{pruned-size}
 
 -- the nodes of a tree, counted either way

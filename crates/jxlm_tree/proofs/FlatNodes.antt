@@ -3,22 +3,25 @@ use Rattle.std.proofs.Common.{◌≡◌, ℕ, ◌+◌, ◌-◌, ◌*◌, ◌<◌
 use Rattle.std.specs.Prelude.{int_lt}
 use Rattle.std.proofs.lemmas.Int.{ints}
 use Rattle.std.proofs.lemmas.Bool.{false≢true}
-use Rattle.jxlm_tree.specs.declared.flat.Leaf.{Leaf}
+use Rattle.jxlm_ma_tree.specs.declared.leaf.Leaf.{Leaf}
 use Rattle.jxlm_tree.specs.declared.flat.Side.{Side}
-use Rattle.jxlm_tree.specs.declared.marks.Survey.{Survey}
+use Rattle.jxlm_ma_tree.specs.declared.marks.Survey.{Survey}
 use Rattle.jxlm_tree.specs.declared.flat.FlatNode.{FlatNode}
 use Rattle.jxlm_tree.specs.declared.flat.FlatNode.TheVariants as node
-use Rattle.jxlm_tree.specs.Tree.{Shape, StandsAtLeaf, leaf, decision, walk, depth}
+use Rattle.jxlm_ma_tree.specs.Tree.{Shape, StandsAtLeaf, leaf, decision, walk, depth}
 use Rattle.jxlm_tree.specs.Inner.FlatShapes.{size, Lacks}
 use Rattle.jxlm_tree.specs.ShortTrees.{MeetsOnce, TestsOnly}
-use Rattle.jxlm_tree.specs.Inner.Pruned.{chosen, cuts, surveyed, unsurveyed, tabled, least, greatest, hanging}
+use Rattle.jxlm_tree.specs.Inner.Chosen.{chosen, hanging}
+use Rattle.jxlm_ma_tree.specs.Cuts.{cuts, surveyed, unsurveyed, tabled, least, greatest}
 use Rattle.jxlm_tree.specs.Inner.FlatNodes.{slot, side_end, side_says, Answers, AreOf, says, Reached, onward, reached, LeadsBelow, IsTable, Few, Serves, SideServes, Grows, Compiles, CompilesSide, Fills}
-use Rattle.jxlm_tree.proofs.FlatWalks.{eqb-same, eqb-other, chosen-walk, chosen-stands, chosen_root-depth, chosen-one, chosen_above, chosen_not_above, int_lt-tells, eqb_is, eqb-not}
+use Rattle.jxlm_ma_tree.proofs.Comparing.{eqb-same, int_lt-tells, eqb_is, eqb-not}
+use Rattle.jxlm_tree.proofs.FlatWalks.{eqb-other, chosen-walk, chosen-stands, chosen_root-depth, chosen-one, chosen_above, chosen_not_above}
 use Rattle.jxlm_tree.specs.CompiledNodes.{has_table, takes}
-use Rattle.jxlm_tree.specs.Inner.Marked.{Each}
-use Rattle.jxlm_tree.proofs.FlatCuts.{From}
+use Rattle.jxlm_ma_tree.specs.Marked.{Each}
+use Rattle.jxlm_ma_tree.proofs.CutLists.{From}
 use Rattle.jxlm_tree.proofs.FlatCounts.{own-fused, own-table, side-fused, side-own, tabled-is, table-below, within-both, within-hanging, within-left, within-narrow, within-right}
-use Rattle.jxlm_tree.proofs.FlatTables.{Each-map, Within, surveyed-within, surveyed-cuts, worth-some, once-not_table, chosen-same, slot-stands, stands-alike, Alike}
+use Rattle.jxlm_ma_tree.proofs.CutLists.{Each-map, surveyed-cuts}
+use Rattle.jxlm_tree.proofs.FlatTables.{Within, surveyed-within, worth-some, once-not_table, chosen-same, slot-stands, stands-alike, Alike}
 
 -- the two equations of the walk
 pub reached-older : (n : FlatNode) (older : List FlatNode) (i : ℕ) (a : ℕ → Answers) → i < length older → reached (n ∷ older) i a ≡ reached older i a

@@ -9,13 +9,13 @@ use Rattle.jxlm_tree.specs.FlatTree.{FlatTree, HasMultiplier, flat_tree}
 use Rattle.jxlm_tree.specs.ClusterTables.{Clusters, IsTableOf, slot, table_leaf}
 use Rattle.jxlm_tree.specs.Paths.{Gives, IsLeafOf}
 use Rattle.jxlm_tree.specs.ShortTrees.{Fits}
-use Rattle.jxlm_tree.specs.Tree.{Shape, StandsAtLeaf}
+use Rattle.jxlm_ma_tree.specs.Tree.{Shape, StandsAtLeaf}
 use Rattle.jxlm_tree.specs.Inner.Compiled.{IsCompiled, IsCompiledFor, known_at}
 use Rattle.jxlm_tree.specs.Inner.FlatNodes.{Answers, AreOf, Reached, alike, heard, onward, reached, says}
-use Rattle.jxlm_tree.specs.Inner.Pruned.{pruned}
+use Rattle.jxlm_ma_tree.specs.Pruned.{pruned}
 use Rattle.jxlm_tree.specs.Inner.Tables.{IsPathOfLeaf, IsPathOfTable, IsTableAt, TableAt}
 use Rattle.jxlm_tree.specs.declared.flat.CompiledTree.{CompiledTree}
-use Rattle.jxlm_tree.specs.declared.flat.Leaf.{Leaf}
+use Rattle.jxlm_ma_tree.specs.declared.leaf.Leaf.{Leaf}
 use Rattle.jxlm_tree.specs.declared.flat.FlatNode.{FlatNode}
 use Rattle.jxlm_tree.specs.declared.flat.FlatNode.TheVariants as node
 use Rattle.jxlm_tree.specs.declared.paths.Path.{Path}

@@ -2,15 +2,15 @@
 use Rattle.std.proofs.Common.{◌≡◌, ℕ, ◌+◌, ◌*◌, ◌<◌, ◌≤◌, ◌∙◌, ◌||◌, ◌^◌, reverse, ℤ, Bool, true, false, ltb, [], Option, None, inl, inr, refl, sym, ap, subst, arith}
 use Rattle.std.proofs.lemmas.Bool.Decides.{leb_tells, nat_tests}
 use Rattle.jxlm_tree.specs.CompiledNodes.{takes}
-use Rattle.jxlm_tree.specs.Inner.FlatShapes.{earlier_named}
-use Rattle.jxlm_tree.specs.Tree.{Shape, leaf, decision}
+use Rattle.jxlm_ma_tree.specs.EarlierChannels.{earlier_named}
+use Rattle.jxlm_ma_tree.specs.Tree.{Shape, leaf, decision}
 use Rattle.jxlm_tree.specs.Inner.Compiled.{IsCompiled, IsCompiledFor, ServesAnywhere, known_at}
 use Rattle.jxlm_tree.specs.Inner.FlatNodes.{Keeps, Serves, Tops, channels_of}
-use Rattle.jxlm_tree.specs.Inner.Pruned.{known, known_side, pruned, side_of, taken, tests_place}
-use Rattle.jxlm_tree.specs.NextChannel.{goes_alike, taken_alike}
-use Rattle.jxlm_tree.specs.declared.marks.Known.{Known}
+use Rattle.jxlm_ma_tree.specs.Pruned.{known, known_side, pruned, side_of, taken, tests_place}
+use Rattle.jxlm_ma_tree.specs.TakenAlike.{goes_alike, taken_alike}
+use Rattle.jxlm_ma_tree.specs.declared.marks.Known.{Known}
 use Rattle.jxlm_tree.specs.declared.flat.CompiledTree.{CompiledTree}
-use Rattle.jxlm_tree.specs.declared.flat.Leaf.{Leaf}
+use Rattle.jxlm_ma_tree.specs.declared.leaf.Leaf.{Leaf}
 use Rattle.jxlm_tree.proofs.FlatAsks.{within}
 use Rattle.jxlm_tree.proofs.FlatNeeds.{or-left, or-right}
 use Rattle.jxlm_tree.proofs.MostSteps.{and-both}

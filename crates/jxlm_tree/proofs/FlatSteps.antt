@@ -6,21 +6,22 @@ use Rattle.std.proofs.lemmas.Grind.{get_or_default_zero}
 use Rattle.std.proofs.lemmas.Int.{ints}
 use Rattle.jxlm_tree.specs.FlatTree.{FlatTree, HasMultiplier, PropertiesAre, property_of, flat_tree, leaf_reached}
 use Rattle.jxlm_tree.specs.ShortTrees.{CutsWithin, Fits, MeetsOnce, Reaches, TestsOnly}
-use Rattle.jxlm_tree.specs.Tree.{Shape, StandsAtLeaf, depth, walk}
+use Rattle.jxlm_ma_tree.specs.Tree.{Shape, StandsAtLeaf, depth, walk}
 use Rattle.jxlm_tree.specs.Inner.Compiled.{IsCompiled, IsCompiledFor, known_at}
 use Rattle.jxlm_tree.specs.Inner.FlatNodes.{slot, side_end, Answers, Heard, heard, AreOf, FirstFit, go, says, Reached, onward, reached, IsTable}
-use Rattle.jxlm_tree.specs.Inner.Pruned.{or_seen, pruned, seen}
+use Rattle.jxlm_ma_tree.specs.Pruned.{or_seen, pruned, seen}
 use Rattle.jxlm_tree.specs.Inner.Walking.{Ended, Walked}
-use Rattle.jxlm_tree.specs.declared.marks.Known.{Known}
+use Rattle.jxlm_ma_tree.specs.declared.marks.Known.{Known}
 use Rattle.jxlm_tree.specs.declared.flat.CompiledTree.{CompiledTree}
 use Rattle.jxlm_tree.specs.declared.flat.FlatNode.{FlatNode}
 use Rattle.jxlm_tree.specs.declared.flat.FlatNode.TheVariants as node
-use Rattle.jxlm_tree.specs.declared.flat.Leaf.{Leaf}
+use Rattle.jxlm_ma_tree.specs.declared.leaf.Leaf.{Leaf}
 use Rattle.jxlm_tree.specs.declared.flat.Side.{Side}
 use Rattle.jxlm_tree.proofs.FlatLooks.{Read, goes, heard-append, slot-within}
 use Rattle.jxlm_tree.proofs.FlatTrees.{standing_leaf, walk_by}
 use Rattle.jxlm_tree.proofs.FlatTwo.{near-is_table, same-pruned}
-use Rattle.jxlm_tree.proofs.FlatWalks.{eqb-same, eqb-not, pruned-depth, pruned-once, pruned-stands, pruned-walk}
+use Rattle.jxlm_ma_tree.proofs.Comparing.{eqb-same, eqb-not}
+use Rattle.jxlm_tree.proofs.FlatWalks.{pruned-depth, pruned-once, pruned-stands, pruned-walk}
 
 -- one answer to each question of a node
 abbrev pub told : ℤ → ℤ → Answers

@@ -4,41 +4,18 @@ use Rattle.std.specs.Prelude.{int_lt, unsigned_abs}
 use Rattle.std.specs.Int.{int_min, int_max}
 use Rattle.std.proofs.lemmas.Int.{ints, clamps}
 use Rattle.std.proofs.lemmas.Bool.Decides.{nat_tests}
-use Rattle.jxlm_tree.specs.declared.marks.Survey.{Survey}
-use Rattle.jxlm_tree.specs.declared.flat.Leaf.{Leaf}
-use Rattle.jxlm_tree.specs.Tree.{Shape, leaf, decision}
+use Rattle.jxlm_ma_tree.specs.declared.marks.Survey.{Survey}
+use Rattle.jxlm_ma_tree.specs.declared.leaf.Leaf.{Leaf}
+use Rattle.jxlm_ma_tree.specs.Tree.{Shape, leaf, decision}
 use Rattle.jxlm_tree.specs.Inner.FlatShapes.{size}
 use Rattle.jxlm_tree.specs.ShortTrees.{Avoids, MeetsOnce}
-use Rattle.jxlm_tree.specs.Inner.Pruned.{chosen, cuts, surveyed, unsurveyed, worth, tabled, least, greatest}
-use Rattle.jxlm_tree.specs.Inner.Marked.{Each}
+use Rattle.jxlm_tree.specs.Inner.Chosen.{chosen}
+use Rattle.jxlm_ma_tree.specs.Cuts.{cuts, surveyed, unsurveyed, worth, tabled, least, greatest}
+use Rattle.jxlm_ma_tree.specs.Marked.{Each}
 use Rattle.jxlm_tree.specs.Inner.FlatNodes.{slot}
-use Rattle.jxlm_tree.proofs.FlatWalks.{above, not_above, int_lt-tells, eqb-same, eqb-not, eqb_is, chosen_above, chosen_not_above, chosen-other}
-
--- P of each cut
-pub Each-front : (P : ℤ → Type 0) (xs ys : List ℤ) → Each P (xs ++ ys) → Each P xs
-Each-front P [] ys h = tt
-Each-front P (x ∷ xs) ys h = (h.0, Each-front P xs ys h.1)
-
-pub Each-back : (P : ℤ → Type 0) (xs ys : List ℤ) → Each P (xs ++ ys) → Each P ys
-Each-back P [] ys h = h
-Each-back P (x ∷ xs) ys h = Each-back P xs ys h.1
-
-pub Each-map : (P Q : ℤ → Type 0) → ((v : ℤ) → P v → Q v) → (xs : List ℤ) → Each P xs → Each Q xs
-Each-map P Q f [] h = tt
-Each-map P Q f (x ∷ xs) h = (f x h.0, Each-map P Q f xs h.1)
-
--- the cuts of a decision, case by case
-pub cuts_above : (p : ℕ) (low high v : ℤ) (a b : Shape Leaf) → v <ℤ low → cuts p low high (decision p v a b) ≡ cuts p low high a
-cuts_above p low high v a b h = rw (eqb-same p, above v low h)
-
-pub cuts_between : (p : ℕ) (low high v : ℤ) (a b : Shape Leaf) → low ≤ℤ v → v <ℤ high → cuts p low high (decision p v a b) ≡ cuts p low v b ++ v ∷ cuts p (v +ℤ pos 1) high a
-cuts_between p low high v a b h k = rw (eqb-same p, not_above v low h, above v high k)
-
-pub cuts_below : (p : ℕ) (low high v : ℤ) (a b : Shape Leaf) → low ≤ℤ v → high ≤ℤ v → cuts p low high (decision p v a b) ≡ cuts p low high b
-cuts_below p low high v a b h k = rw (eqb-same p, not_above v low h, not_above v high k)
-
-pub cuts-other : (p q : ℕ) (low high v : ℤ) (a b : Shape Leaf) → (q ≡ p → ⊥) → cuts p low high (decision q v a b) ≡ []
-cuts-other p q low high v a b h = rw (eqb-not q p h)
+use Rattle.jxlm_ma_tree.proofs.Comparing.{above, not_above, int_lt-tells, eqb_is}
+use Rattle.jxlm_tree.proofs.FlatWalks.{chosen_above, chosen_not_above, chosen-other}
+use Rattle.jxlm_ma_tree.proofs.CutLists.{Each-back, cuts_above, cuts_below, cuts_between, cuts-other, Each-front}
 
 -- a cut parts x and y alike
 abbrev pub Alike : ℤ → ℤ → ℤ → Type 0
@@ -89,10 +66,6 @@ chosen-same p low high x y (decision q v a b) lx xh ly yh h = elim (eqb_is q p) 
 pub surveyed-append : (s : Survey) (xs ys : List ℤ) → surveyed s (xs ++ ys) ≡ surveyed (surveyed s xs) ys
 surveyed-append s [] ys = refl
 surveyed-append s (x ∷ xs) ys = surveyed-append (record { cuts = s.cuts + 1; least = int_min s.least x; greatest = int_max s.greatest x }) xs ys
-
-pub surveyed-cuts : (s : Survey) (xs : List ℤ) → (surveyed s xs).cuts ≡ s.cuts + length xs
-surveyed-cuts s [] = omega arith
-surveyed-cuts s (x ∷ xs) = let h = surveyed-cuts (record { cuts = s.cuts + 1; least = int_min s.least x; greatest = int_max s.greatest x }) xs in omega arith
 
 -- v lies in what was surveyed
 abbrev pub Within : Survey → ℤ → Type 0

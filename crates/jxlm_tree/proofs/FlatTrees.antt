@@ -7,7 +7,7 @@ use Rattle.std.proofs.lemmas.Bool.Decides.{nat_tests}
 use Rattle.std.proofs.lemmas.Option.{slice_get_past}
 use Rattle.jxlm_predictor.specs.Properties.{Surroundings, place_property, property}
 use Rattle.jxlm_tree.specs.FlatTree.{FlatTree, property_of, leaf_reached}
-use Rattle.jxlm_tree.specs.Tree.{AllLeaves, Shape, StandsAtLeaf, leaf, decision, walk}
+use Rattle.jxlm_ma_tree.specs.Tree.{AllLeaves, Shape, StandsAtLeaf, leaf, decision, walk}
 
 -- what holds of each leaf holds of the one that is reached
 pub reached_leaf : {L : Type 0} (P : L → Type 0) (t : Shape L) (f : ℕ → ℤ) → AllLeaves P t → P (walk t f)

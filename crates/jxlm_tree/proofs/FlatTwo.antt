@@ -4,16 +4,18 @@ use Rattle.std.specs.Prelude.{int_lt}
 use Rattle.std.specs.Int.{int_min, int_max}
 use Rattle.std.proofs.lemmas.Int.{ints, clamps}
 use Rattle.std.proofs.lemmas.Bool.Decides.{nat_tests}
-use Rattle.jxlm_tree.specs.declared.marks.Survey.{Survey}
-use Rattle.jxlm_tree.specs.declared.marks.Known.{Known}
-use Rattle.jxlm_tree.specs.declared.flat.Leaf.{Leaf}
-use Rattle.jxlm_tree.specs.Tree.{Shape, leaf, decision}
+use Rattle.jxlm_ma_tree.specs.declared.marks.Survey.{Survey}
+use Rattle.jxlm_ma_tree.specs.declared.marks.Known.{Known}
+use Rattle.jxlm_ma_tree.specs.declared.leaf.Leaf.{Leaf}
+use Rattle.jxlm_ma_tree.specs.Tree.{Shape, leaf, decision}
 use Rattle.jxlm_tree.specs.ShortTrees.{TestsOnly, EachCut, CutsWithin, way, Reaches}
-use Rattle.jxlm_tree.specs.Inner.Pruned.{known, pruned, taken, cuts, surveyed, unsurveyed, worth, least, greatest}
+use Rattle.jxlm_ma_tree.specs.Pruned.{known, pruned, taken}
+use Rattle.jxlm_ma_tree.specs.Cuts.{cuts, surveyed, unsurveyed, worth, least, greatest}
 use Rattle.jxlm_tree.specs.Inner.FlatNodes.{IsTable}
-use Rattle.jxlm_tree.proofs.FlatWalks.{above, not_above, int_lt-tells}
-use Rattle.jxlm_tree.specs.Inner.Marked.{Each}
-use Rattle.jxlm_tree.proofs.FlatTables.{Each-map, Alike, cuts_above, cuts_between, cuts_below, surveyed-cuts}
+use Rattle.jxlm_ma_tree.proofs.Comparing.{above, not_above, int_lt-tells}
+use Rattle.jxlm_ma_tree.specs.Marked.{Each}
+use Rattle.jxlm_ma_tree.proofs.CutLists.{Each-map, cuts_above, cuts_between, cuts_below, surveyed-cuts}
+use Rattle.jxlm_tree.proofs.FlatTables.{Alike}
 
 Each-front : (P : ℤ → Type 0) (xs ys : List ℤ) → Each P (xs ++ ys) → Each P xs
 Each-front P [] ys h = tt

@@ -1,23 +1,15 @@
 -- Pruning and choosing keep the walk.
 use Rattle.std.proofs.Common.{◌≡◌, ℕ, ◌+◌, ◌<◌, ◌≤◌, max, ℤ, ◌<ℤ◌, ◌≤ℤ◌, Bool, true, false, cond, eqb, Option, Some, None, refl, sym, ap, ◌∙◌, subst, arith, ◌⊎◌, inl, inr}
 use Rattle.std.specs.Prelude.{int_lt}
-use Rattle.std.proofs.lemmas.Int.{ints}
-use Rattle.std.proofs.lemmas.Bool.Decides.{nat_tests, eqb_tells}
-use Rattle.jxlm_tree.specs.declared.flat.Leaf.{Leaf}
-use Rattle.jxlm_tree.specs.declared.marks.Known.{Known}
-use Rattle.jxlm_tree.specs.Tree.{Shape, StandsAtLeaf, leaf, decision, walk, depth}
+use Rattle.std.proofs.lemmas.Bool.Decides.{nat_tests}
+use Rattle.jxlm_ma_tree.specs.declared.leaf.Leaf.{Leaf}
+use Rattle.jxlm_ma_tree.specs.declared.marks.Known.{Known}
+use Rattle.jxlm_ma_tree.specs.Tree.{Shape, StandsAtLeaf, leaf, decision, walk, depth}
 use Rattle.jxlm_tree.specs.Inner.FlatShapes.{size, Lacks}
 use Rattle.jxlm_tree.specs.ShortTrees.{Avoids, MeetsOnce, TestsOnly}
-use Rattle.jxlm_tree.specs.Inner.Pruned.{known, or_seen, seen, taken, pruned, chosen}
-
-pub above : (v x : ℤ) → v <ℤ x → int_lt v x ≡ true
-above v x h = grind (arith, ints)
-
-pub not_above : (v x : ℤ) → x ≤ℤ v → int_lt v x ≡ false
-not_above v x h = grind (arith, ints)
-
-pub int_lt-tells : (v x : ℤ) → ((int_lt v x ≡ true) × (v <ℤ x)) ⊎ ((int_lt v x ≡ false) × (x ≤ℤ v))
-int_lt-tells v x = grind (arith, ints)
+use Rattle.jxlm_ma_tree.specs.Pruned.{known, or_seen, seen, taken, pruned}
+use Rattle.jxlm_tree.specs.Inner.Chosen.{chosen}
+use Rattle.jxlm_ma_tree.proofs.Comparing.{eqb-not, eqb-same, above, not_above}
 
 taken-walk : (o : Option ℤ) (p : ℕ) (v : ℤ) (a b : Shape Leaf) (f : ℕ → ℤ) → walk (taken o p v a b) f ≡ cond (int_lt v (or_seen o (f p))) (walk a f) (walk b f)
 taken-walk None p v a b f = refl
@@ -85,14 +77,8 @@ chosen-test true q p v a b ca cb f is l r =
 eqb-is : (q p : ℕ) → eqb q p ≡ true → q ≡ p
 eqb-is q p h = grind (arith, nat_tests)
 
-pub eqb-same : (q : ℕ) → eqb q q ≡ true
-eqb-same q = grind (arith, nat_tests)
-
 pub eqb-other : (i j : ℕ) → i < j → eqb i j ≡ false
 eqb-other i j h = grind (arith, nat_tests)
-
-pub eqb-not : (q p : ℕ) → (q ≡ p → ⊥) → eqb q p ≡ false
-eqb-not q p h = grind (arith, nat_tests)
 
 pub chosen-walk : (p : ℕ) (t : Shape Leaf) (f : ℕ → ℤ) → walk (chosen p (f p) t) f ≡ walk t f
 chosen-walk p (leaf l) f = refl
@@ -155,9 +141,6 @@ chosen_above p x v a b h = rw (eqb-same p, above v x h)
 
 pub chosen_not_above : (p : ℕ) (x v : ℤ) (a b : Shape Leaf) → x ≤ℤ v → chosen p x (decision p v a b) ≡ chosen p x b
 chosen_not_above p x v a b h = rw (eqb-same p, not_above v x h)
-
-pub eqb_is : (q p : ℕ) → (q ≡ p) ⊎ (q ≡ p → ⊥)
-eqb_is q p = elim (eqb_tells q p) [ inl h ↦ inl h.1 | inr h ↦ inr h.1 ]
 
 taken-lacks : (p : ℕ → Bool) (q : Leaf → Bool) (o : Option ℤ) (k : ℕ) (v : ℤ) (a b : Shape Leaf) → p k ≡ false → Lacks p q a → Lacks p q b → Lacks p q (taken o k v a b)
 taken-lacks p q None k v a b n l r = (n, (l, r))

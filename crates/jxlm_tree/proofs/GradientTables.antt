@@ -10,14 +10,14 @@ use Rattle.jxlm_tree.specs.ClusterTables.{Clusters, in_cluster}
 use Rattle.jxlm_tree.specs.FlatTree.{FlatTree, flat_tree}
 use Rattle.jxlm_tree.specs.Paths.{IsOnGradient, IsPlainGradient, TakesGradientTable}
 use Rattle.jxlm_tree.specs.Steps.{leftmost, most_steps}
-use Rattle.jxlm_tree.specs.Tree.{Shape}
+use Rattle.jxlm_ma_tree.specs.Tree.{Shape}
 use Rattle.jxlm_tree.specs.Inner.Compiled.{IsCompiledFor}
 use Rattle.jxlm_tree.specs.Inner.FlatNodes.{LeadsBelow}
 use Rattle.jxlm_tree.specs.Inner.Tables.{IsTableAt, TableAt}
 use Rattle.jxlm_tree.specs.declared.flat.CompiledTree.{CompiledTree}
 use Rattle.jxlm_tree.specs.declared.flat.FlatNode.{FlatNode}
 use Rattle.jxlm_tree.specs.declared.flat.FlatNode.TheVariants as node
-use Rattle.jxlm_tree.specs.declared.flat.Leaf.{Leaf}
+use Rattle.jxlm_ma_tree.specs.declared.leaf.Leaf.{Leaf}
 use Rattle.jxlm_tree.proofs.FlatForced.{Forced, forced, root-of_leaf}
 use Rattle.jxlm_tree.proofs.FlatLooks.{read-at}
 use Rattle.jxlm_tree.proofs.MostSteps.{table_steps, tabular, tabular-leaf}

@@ -1,16 +1,16 @@
 -- Sets of leaves, bit by bit.
-use Rattle.std.proofs.Common.{◌≡◌, ◌∙◌, ℕ, zero, suc, ℤ, ◌+◌, ◌-◌, ◌*◌, ◌%◌, ◌^◌, ◌<◌, ◌≤◌, ◌-ℤ◌, min, Bool, true, false, List, ◌++◌, drop, length, get_or, take, refl, sym, ap, ap₂, arith, w64, ◌⊎◌, inl, inr}
+use Rattle.std.proofs.Common.{◌≡◌, ◌∙◌, ℕ, zero, suc, ℤ, [], ◌∷◌, SFits, w32, to_z, of_z, ◌+◌, ◌-◌, ◌*◌, ◌%◌, ◌^◌, ◌<◌, ◌≤◌, ◌-ℤ◌, min, Bool, true, false, List, ◌++◌, drop, length, get_or, take, refl, sym, ap, ap₂, arith, w64, ◌⊎◌, inl, inr}
 use Rattle.std.specs.Int.{bit_at, bit_not, trailing_zeros}
 use Rattle.std.specs.Int.Bits.{bit_and}
-use Rattle.std.specs.Prelude.{◌==◌, ◌&&◌, not, nat_lt, int_lt, pos, neg_ℤ, replicate, slice_index}
+use Rattle.std.specs.Prelude.{◌↔◌, IsTrue, ◌==◌, ◌&&◌, not, nat_lt, int_lt, pos, neg_ℤ, replicate, slice_index, slice_index_or}
 use Rattle.std.proofs.lemmas.Bool.{cases_lt, false≢true}
 use Rattle.std.proofs.lemmas.Bool.Decides.{nat_tests}
-use Rattle.std.proofs.lemmas.Int.{ints}
+use Rattle.std.proofs.lemmas.Int.{ints, to_z-of_z}
 use Rattle.std.proofs.lemmas.List.{append-nil, drop_all, get_or-replicate, take_all}
 use Rattle.std.proofs.lemmas.Nat.{one_shl}
 use Rattle.std.proofs.lemmas.Nat.Bits.{bit_at-lt, bit_at-zero, bit_at-trailing_zeros, bit_at_and, bit_at_not, bit_at_ones, bit_at_mask_above, bit_at_mask_below, bit_at_mask_inside}
 use Rattle.jxlm_tree.specs.ClusterTables.{slot}
-use Rattle.jxlm_tree.specs.Inner.LeafSets.{AreEntriesOf, is_in_range, is_near, is_within}
+use Rattle.jxlm_tree.specs.Inner.LeafSets.{AreEntriesOf, AreValuesOf, is_in_range, is_near, is_within}
 use Rattle.jxlm_tree.specs.SetTables.{has, set_for, stays}
 use Rattle.jxlm_tree.proofs.SumTrees.{second_of}
 
@@ -245,16 +245,60 @@ all-of-seven x h =
     each-of-seven (λ k. x k ≡ true) (first-is (x 0) (x 1) h1) (second_of (x 0) (x 1) h1) (second_of (x 0 && x 1) (x 2) h2) (second_of ((x 0 && x 1) && x 2) (x 3) h3)
     (second_of (((x 0 && x 1) && x 2) && x 3) (x 4) h4) (second_of ((((x 0 && x 1) && x 2) && x 3) && x 4) (x 5) h5) (second_of (((((x 0 && x 1) && x 2) && x 3) && x 4) && x 5) (x 6) h)
 
--- seven values that are near
-pub near-of-seven : (vs : List ℤ) (a b c d e f g : Bool) → a ≡ is_near (get_or vs 0 (pos 0)) → b ≡ is_near (get_or vs 1 (pos 0)) → c ≡ is_near (get_or vs 2 (pos 0)) → d ≡ is_near (get_or vs 3 (pos 0)) →
-    e ≡ is_near (get_or vs 4 (pos 0)) → f ≡ is_near (get_or vs 5 (pos 0)) → g ≡ is_near (get_or vs 6 (pos 0)) → ((((((a && b) && c) && d) && e) && f) && g) ≡ true → (k : ℕ) → k < 7 → is_near (get_or vs k (pos 0)) ≡ true
-near-of-seven vs a b c d e f g ia ib ic id ie if_ ig h =
-    let both : Bool → Bool → Bool = λ x y. x && y in
-    all-of-seven (λ k. is_near (get_or vs k (pos 0)))
-    (ap₂ both (ap₂ both (ap₂ both (ap₂ both (ap₂ both (ap₂ both (sym ia) (sym ib)) (sym ic)) (sym id)) (sym ie)) (sym if_)) (sym ig) ∙ h)
+-- seven values, each read back from its 32 bits
+abbrev pub FitSeven : List ℤ → Type 0
+FitSeven vs = (k : ℕ) → k < 7 → SFits w32 (get_or vs k (pos 0))
 
-pub slot-below : (n : ℕ) (x : ℤ) → n ≡ slot (neg_ℤ (pos 1024)) 2047 x → n < 2048
-slot-below n x is = let w = slot-within x in omega (arith, is, w)
+abbrev pub read_back : List ℤ → ℕ → ℤ
+read_back vs k = to_z w32 (of_z w32 (get_or vs k (pos 0)))
+
+-- they are near where each of them is
+pub near-of-seven : (vs : List ℤ) (a b c d e f g : Bool) → FitSeven vs → a ≡ is_near (read_back vs 0) → b ≡ is_near (read_back vs 1) → c ≡ is_near (read_back vs 2) → d ≡ is_near (read_back vs 3) →
+    e ≡ is_near (read_back vs 4) → f ≡ is_near (read_back vs 5) → g ≡ is_near (read_back vs 6) →
+    IsTrue ((((((a && b) && c) && d) && e) && f) && g) ↔ ((k : ℕ) → k < 7 → is_near (get_or vs k (pos 0)) ≡ true)
+near-of-seven vs a b c d e f g fits ia ib ic id ie if_ ig =
+    let both : Bool → Bool → Bool = λ x y. x && y in
+    let same = ap₂ both (ap₂ both (ap₂ both (ap₂ both (ap₂ both (ap₂ both (one 0 a (omega arith) ia) (one 1 b (omega arith) ib)) (one 2 c (omega arith) ic)) (one 3 d (omega arith) id)) (one 4 e (omega arith) ie))
+    (one 5 f (omega arith) if_)) (one 6 g (omega arith) ig) in
+    (λ h. all-of-seven (λ k. is_near (get_or vs k (pos 0))) (sym same ∙ h), λ h. same ∙ seven-true (λ k. is_near (get_or vs k (pos 0))) h)
+  where
+    one : (k : ℕ) (x : Bool) → k < 7 → x ≡ is_near (read_back vs k) → x ≡ is_near (get_or vs k (pos 0))
+    one k x less is = is ∙ ap is_near (to_z-of_z w32 (get_or vs k (pos 0)) (fits k less))
+
+    seven-true : (x : ℕ → Bool) → ((k : ℕ) → k < 7 → x k ≡ true) → ((((((x 0 && x 1) && x 2) && x 3) && x 4) && x 5) && x 6) ≡ true
+    seven-true x h = rw (h 0 (omega arith), h 1 (omega arith), h 2 (omega arith), h 3 (omega arith), h 4 (omega arith), h 5 (omega arith), h 6 (omega arith)) refl
+
+-- they are the properties of which the values are
+pub values-of-seven : (vs : List ℤ) (f : ℕ → ℤ) → FitSeven vs → AreValuesOf vs f →
+    AreValuesOf (read_back vs 0 ∷ read_back vs 1 ∷ read_back vs 2 ∷ read_back vs 3 ∷ read_back vs 4 ∷ read_back vs 5 ∷ read_back vs 6 ∷ []) f
+values-of-seven vs f fits are =
+    each-of-seven (λ k. slice_index_or (read_back vs 0 ∷ read_back vs 1 ∷ read_back vs 2 ∷ read_back vs 3 ∷ read_back vs 4 ∷ read_back vs 5 ∷ read_back vs 6 ∷ []) k (pos 0) ≡ f (9 + k))
+    (one 0 (omega arith)) (one 1 (omega arith)) (one 2 (omega arith)) (one 3 (omega arith)) (one 4 (omega arith)) (one 5 (omega arith)) (one 6 (omega arith))
+  where
+    one : (k : ℕ) → k < 7 → read_back vs k ≡ f (9 + k)
+    one k less = to_z-of_z w32 (get_or vs k (pos 0)) (fits k less) ∙ are k less
+
+-- their entries lie in a table
+abbrev pub entry_back : List ℤ → ℕ → ℕ
+entry_back vs k = slot (neg_ℤ (pos 1024)) 2047 (read_back vs k)
+
+pub within-of-seven : (vs : List ℤ) (a b c d e f g : ℕ) → a ≡ entry_back vs 0 → b ≡ entry_back vs 1 → c ≡ entry_back vs 2 → d ≡ entry_back vs 3 → e ≡ entry_back vs 4 → f ≡ entry_back vs 5 → g ≡ entry_back vs 6 →
+    (k : ℕ) → k < 7 → slice_index (a ∷ b ∷ c ∷ d ∷ e ∷ f ∷ g ∷ []) k < 2048
+within-of-seven vs a b c d e f g ia ib ic id ie if_ ig =
+    each-of-seven (λ k. slice_index (a ∷ b ∷ c ∷ d ∷ e ∷ f ∷ g ∷ []) k < 2048) (one 0 a ia) (one 1 b ib) (one 2 c ic) (one 3 d id) (one 4 e ie) (one 5 f if_) (one 6 g ig)
+  where
+    one : (k n : ℕ) → n ≡ entry_back vs k → n < 2048
+    one k n is = let w = slot-within (read_back vs k) in omega (arith, is, w)
+
+-- and are those of the properties
+pub entries-of-seven : (vs : List ℤ) (h : ℕ → ℤ) (a b c d e f g : ℕ) → FitSeven vs → AreValuesOf vs h → a ≡ entry_back vs 0 → b ≡ entry_back vs 1 → c ≡ entry_back vs 2 → d ≡ entry_back vs 3 → e ≡ entry_back vs 4 →
+    f ≡ entry_back vs 5 → g ≡ entry_back vs 6 → AreEntriesOf (a ∷ b ∷ c ∷ d ∷ e ∷ f ∷ g ∷ []) h
+entries-of-seven vs h a b c d e f g fits are ia ib ic id ie if_ ig =
+    each-of-seven (λ k. slice_index (a ∷ b ∷ c ∷ d ∷ e ∷ f ∷ g ∷ []) k ≡ slot (neg_ℤ (pos 1024)) 2047 (h (9 + k)))
+    (one 0 a (omega arith) ia) (one 1 b (omega arith) ib) (one 2 c (omega arith) ic) (one 3 d (omega arith) id) (one 4 e (omega arith) ie) (one 5 f (omega arith) if_) (one 6 g (omega arith) ig)
+  where
+    one : (k n : ℕ) → k < 7 → n ≡ entry_back vs k → n ≡ slot (neg_ℤ (pos 1024)) 2047 (h (9 + k))
+    one k n less is = is ∙ ap (slot (neg_ℤ (pos 1024)) 2047) (to_z-of_z w32 (get_or vs k (pos 0)) (fits k less) ∙ are k less)
 
 -- a value that is near has this entry
 pub near-slot : (x : ℤ) (n : ℕ) → is_near x ≡ true → pos n ≡ x -ℤ neg_ℤ (pos 1024) → n ≡ slot (neg_ℤ (pos 1024)) 2047 x

@@ -4,21 +4,22 @@ use Rattle.std.specs.Prelude.{◌*◌, ◌&&◌, not, int_lt, neg_ℤ, IfSome}
 use Rattle.std.proofs.lemmas.Bool.{cases_lt, false≢true}
 use Rattle.std.proofs.lemmas.Bool.Decides.{nat_tests}
 use Rattle.std.proofs.lemmas.List.{length-append, get_or_append_left, get_or-append-add}
-use Rattle.jxlm_tree.specs.Tree.{AllLeaves, Shape, StandsAtLeaf, leaf, decision, depth, walk}
-use Rattle.jxlm_tree.specs.Inner.Pruned.{known, pruned, taken}
+use Rattle.jxlm_ma_tree.specs.Tree.{AllLeaves, Shape, StandsAtLeaf, leaf, decision, depth, walk}
+use Rattle.jxlm_ma_tree.specs.Pruned.{known, pruned, taken}
 use Rattle.jxlm_tree.specs.FlatTree.{HasMultiplier, flat_tree}
 use Rattle.std.specs.Int.{int_wrap}
+use Rattle.std.specs.List.{list_all, range_with_len}
 use Rattle.jxlm_tree.specs.Inner.Compiled.{known_at}
-use Rattle.jxlm_tree.specs.Inner.TreeShape.{shape_of}
-use Rattle.jxlm_tree.specs.declared.tree.MaTree.{MaTree}
+use Rattle.jxlm_ma_tree.specs.TreeShape.{shape_of}
+use Rattle.jxlm_ma_tree.specs.declared.tree.MaTree.{MaTree}
 use Rattle.jxlm_tree.proofs.FlatMade.{known_by}
 use Rattle.jxlm_tree.specs.Inner.LeafSets.{AreOf, has_table, is_in_range, is_within, leaves_of, rules_out}
 use Rattle.jxlm_tree.specs.LeafSets.{AreSetsOf, IsFirst, IsListed}
 use Rattle.jxlm_tree.specs.SmallTrees.{FitsSets, TakesSets}
-use Rattle.jxlm_tree.specs.SetTables.{has, set_for, stays, stays_from}
-use Rattle.jxlm_tree.specs.declared.flat.Leaf.{Leaf}
+use Rattle.jxlm_tree.specs.SetTables.{has, set_for, stays}
+use Rattle.jxlm_ma_tree.specs.declared.leaf.Leaf.{Leaf}
 use Rattle.jxlm_tree.specs.declared.leaf_sets.LeafSets.{LeafSets}
-use Rattle.jxlm_tree.specs.declared.marks.Known.{Known}
+use Rattle.jxlm_ma_tree.specs.declared.marks.Known.{Known}
 use Rattle.jxlm_tree.specs.ClusterTables.{slot}
 use Rattle.jxlm_tree.proofs.LeafBits.{AreTaken, table-kept, table-taken}
 use Rattle.jxlm_tree.proofs.FlatCounts.{undecided-is}
@@ -208,6 +209,10 @@ and-moves false y b = refl
 and-joins : (x y b : Bool) → (x && (y && b)) ≡ ((x && y) && b)
 and-joins true y b = refl
 and-joins false y b = refl
+
+-- n tables, from this one on, do not rule leaf i out
+abbrev stays_from : ℕ → ℕ → List ℕ → (ℕ → ℤ) → ℕ → Bool
+stays_from n table sets f i = list_all (λ k. has (set_for sets k (f (9 + k))) i) (range_with_len table n)
 
 -- tables that are as before leave over what they did
 stays-kept : (n table : ℕ) (old new : List ℕ) (f : ℕ → ℤ) (i : ℕ) → ((j : ℕ) → table ≤ j → j < table + n → has (set_for new j (f (9 + j))) i ≡ has (set_for old j (f (9 + j))) i) →

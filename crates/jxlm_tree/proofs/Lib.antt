@@ -1,16 +1,7 @@
-pub mod Accumulated
 pub mod FlatTrees
-pub mod Listing
-pub mod Memory
-pub mod Multipliers
-pub mod Queues
-pub mod Reading
-pub mod Shapes
-pub mod TreeStanding
 pub mod FlatWalks
 pub mod GradientTables
 pub mod FlatTables
-pub mod FlatCuts
 pub mod FlatCounts
 pub mod FlatNodes
 pub mod FlatCasts
@@ -28,7 +19,6 @@ pub mod FlatForced
 pub mod MostSteps
 pub mod PathSteps
 pub mod FewSteps
-pub mod StepErrors
 pub mod NextChannels
 pub mod OneNode
 pub mod SumTrees

@@ -11,13 +11,13 @@ use Rattle.std.specs.Prelude.{◌==◌, ◌&&◌, ◌||◌, int_lt, nat_lt, not}
 use Rattle.jxlm_tree.specs.ClusterTables.{in_cluster}
 use Rattle.jxlm_tree.specs.ShortTrees.{CutsWithin, EachCut, TestsOnly}
 use Rattle.jxlm_tree.specs.Steps.{are_alike, cuts_within, each_cut, each_leaf, is_tabular, leaves_within, leftmost, most_steps, plain_gradient, tests_only}
-use Rattle.jxlm_tree.specs.Tree.{AllLeaves, Shape, leaf, decision, depth}
-use Rattle.jxlm_tree.specs.Inner.Pruned.{cuts, greatest, least}
-use Rattle.jxlm_tree.specs.declared.flat.Leaf.{Leaf}
+use Rattle.jxlm_ma_tree.specs.Tree.{AllLeaves, Shape, leaf, decision, depth}
+use Rattle.jxlm_ma_tree.specs.Cuts.{cuts, greatest, least}
+use Rattle.jxlm_ma_tree.specs.declared.leaf.Leaf.{Leaf}
 use Rattle.jxlm_tree.proofs.FlatForced.{Tabular}
-use Rattle.jxlm_tree.proofs.FlatTables.{cuts_above, cuts_below, cuts_between}
+use Rattle.jxlm_ma_tree.proofs.CutLists.{cuts_above, cuts_below, cuts_between}
 use Rattle.jxlm_tree.proofs.FlatTwo.{cuts-table}
-use Rattle.jxlm_tree.proofs.FlatWalks.{above, int_lt-tells, not_above}
+use Rattle.jxlm_ma_tree.proofs.Comparing.{above, int_lt-tells, not_above}
 use Rattle.jxlm_predictor.specs.Predictions.{number_of, predictors}
 use Rattle.jxlm_predictor.specs.declared.predictor.Predictor.{Predictor}
 use Rattle.jxlm_predictor.specs.declared.predictor.Predictor.TheVariants.{Zero}

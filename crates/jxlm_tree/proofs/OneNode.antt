@@ -3,8 +3,8 @@ use Rattle.std.proofs.Common.{◌≡◌, pos, Bool, true, false, cond, refl, sym
 use Rattle.std.specs.Prelude.{int_lt}
 use Rattle.jxlm_tree.specs.CompiledNodes.{AsksKnown, flat_nodes, takes, prune}
 use Rattle.jxlm_tree.specs.FlatTree.{FlatTree, property_of}
-use Rattle.jxlm_tree.specs.Tree.{Shape, leaf, decision}
-use Rattle.jxlm_tree.specs.declared.flat.Leaf.{Leaf}
+use Rattle.jxlm_ma_tree.specs.Tree.{Shape, leaf, decision}
+use Rattle.jxlm_ma_tree.specs.declared.leaf.Leaf.{Leaf}
 
 pub one-left : (t : FlatTree) (l : Leaf) → prune t t.tree ≡ leaf l → flat_nodes t ≡ 1
 one-left t l e = ap (λ u. (takes u).own) e

@@ -8,11 +8,11 @@ use Rattle.jxlm_tree.specs.FlatTree.{FlatTree, flat_tree}
 use Rattle.jxlm_tree.specs.ClusterTables.{Clusters}
 use Rattle.jxlm_tree.specs.Paths.{steps_on}
 use Rattle.jxlm_tree.specs.Steps.{most_steps, plain_gradient}
-use Rattle.jxlm_tree.specs.Tree.{Shape, StandsAtLeaf, leaf, decision, depth}
+use Rattle.jxlm_ma_tree.specs.Tree.{Shape, StandsAtLeaf, leaf, decision, depth}
 use Rattle.jxlm_tree.specs.Inner.Compiled.{IsCompiledFor}
 use Rattle.jxlm_tree.specs.Inner.Tables.{IsPathOfLeaf, IsPathOfTable, TableAt}
 use Rattle.jxlm_tree.specs.declared.flat.CompiledTree.{CompiledTree}
-use Rattle.jxlm_tree.specs.declared.flat.Leaf.{Leaf}
+use Rattle.jxlm_ma_tree.specs.declared.leaf.Leaf.{Leaf}
 use Rattle.jxlm_tree.specs.declared.flat.FlatNode.{FlatNode}
 use Rattle.jxlm_tree.specs.declared.flat.FlatNode.TheVariants as node
 use Rattle.jxlm_tree.specs.declared.paths.Path.{Path}

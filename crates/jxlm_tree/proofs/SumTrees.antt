@@ -5,8 +5,8 @@ use Rattle.std.proofs.lemmas.Bool.{eqb-true}
 use Rattle.std.proofs.lemmas.Bool.Decides.{nat_tests}
 use Rattle.jxlm_tree.specs.FlatTree.{FlatTree, property_of}
 use Rattle.jxlm_tree.specs.SumTrees.{GoesBySum, is_near, takes_sums, takes_sums_at}
-use Rattle.jxlm_tree.specs.Tree.{Shape, leaf, decision, walk}
-use Rattle.jxlm_tree.specs.declared.flat.Leaf.{Leaf}
+use Rattle.jxlm_ma_tree.specs.Tree.{Shape, leaf, decision, walk}
+use Rattle.jxlm_ma_tree.specs.declared.leaf.Leaf.{Leaf}
 
 -- both of two are true
 first_of : (p q : Bool) → (p && q) ≡ true → p ≡ true

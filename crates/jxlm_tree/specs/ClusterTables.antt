@@ -3,8 +3,8 @@ use Rattle.std.specs.Coded.{Coded, code_by, coded×, coded_list, coded_ℕ, code
 use Rattle.std.specs.Prelude.{◌≡◌, ℕ, ◌-◌, min, ℤ, ◌-ℤ◌, int_lt, unsigned_abs, if◌then◌else◌, List, length, slice_index, refl}
 use Rattle.jxlm_tree.specs.FlatTree.{FlatTree, HasMultiplier, leaf_reached}
 use Rattle.jxlm_tree.specs.ShortTrees.{Fits}
-use Rattle.jxlm_tree.specs.Tree.{AllLeaves, Shape, StandsAtLeaf}
-use Rattle.jxlm_tree.specs.declared.flat.Leaf.{Leaf}
+use Rattle.jxlm_ma_tree.specs.Tree.{AllLeaves, Shape, StandsAtLeaf}
+use Rattle.jxlm_ma_tree.specs.declared.leaf.Leaf.{Leaf}
 
 -- a table of clusters by a property: its base, the clusters of its entries, and what all leaves agree in
 pub record Clusters : Type 0 where

@@ -1,9 +1,10 @@
 -- How many nodes a tree is compiled to for the samples of a channel.
-use Rattle.std.specs.Prelude.{◌≡◌, ℕ, ◌+◌, ◌*◌, ◌==◌, ◌&&◌, ◌||◌, not, nat_lt, Bool, true, false, ℤ, pos, neg_ℤ, ◌+ℤ◌, int_lt, if◌then◌else◌, List, [], ◌∷◌, ◌++◌, length, fold, ◌^◌}
+use Rattle.std.specs.Prelude.{◌≡◌, ℕ, ◌+◌, ◌*◌, ◌==◌, ◌&&◌, ◌||◌, not, nat_lt, Bool, true, false, ℤ, pos, ◌+ℤ◌, int_lt, if◌then◌else◌, List, length, fold}
 use Rattle.std.specs.Int.{int_min, int_max}
 use Rattle.jxlm_tree.specs.FlatTree.{FlatTree, property_of}
-use Rattle.jxlm_tree.specs.Tree.{Shape, leaf, decision}
-use Rattle.jxlm_tree.specs.declared.flat.Leaf.{Leaf}
+use Rattle.jxlm_ma_tree.specs.Tree.{Shape, leaf, decision}
+use Rattle.jxlm_ma_tree.specs.declared.leaf.Leaf.{Leaf}
+use Rattle.jxlm_ma_tree.specs.Cuts.{cuts, least, greatest}
 
 -- a property is known beforehand: the channel, the stream, or one of an earlier channel that there is none of
 abbrev pub is_known : FlatTree → ℕ → Bool
@@ -16,22 +17,6 @@ prune t (decision k value left right) =
     if is_known t k
     then (if int_lt value (property_of t (λ _. pos 0) k) then prune t left else prune t right)
     else decision k value (prune t left) (prune t right)
-
--- the least and the greatest value of a property
-abbrev pub least : ℤ
-least = neg_ℤ (pos (2 ^ 31))
-
-abbrev pub greatest : ℤ
-greatest = pos 2147483647
-
--- the cuts that the decisions on property p that hang together from the root make in low..=high, in ascending order;
--- one that splits nothing is not counted
-abbrev pub cuts : ℕ → ℤ → ℤ → Shape Leaf → List ℤ
-cuts p low high (leaf l) = []
-cuts p low high (decision q v left right) =
-    if q == p
-    then (if int_lt v low then cuts p low high left else (if int_lt v high then cuts p low v right ++ v ∷ cuts p (v +ℤ pos 1) high left else cuts p low high right))
-    else []
 
 -- cuts make a table: of four ranges or more, and the greatest less the least is at most 1022
 abbrev pub make_table : List ℤ → Bool

@@ -7,7 +7,7 @@ use Rattle.jxlm_bits.specs.declared.decoder.DecoderError.{DecoderError}
 use Rattle.jxlm_bits.specs.declared.error.Error.{Error}
 use Rattle.jxlm_bits.specs.declared.error.Error.TheVariants.{Decoder}
 use Rattle.jxlm_tree.specs.FlatTree.{residual_of}
-use Rattle.jxlm_tree.specs.declared.flat.Leaf.{Leaf}
+use Rattle.jxlm_ma_tree.specs.declared.leaf.Leaf.{Leaf}
 use Rattle.jxlm_predictor.specs.declared.predictor.Predictor.{Predictor}
 
 -- the token that reading gave, and the state t and the position q after it

@@ -1,12 +1,13 @@
 -- A tree as the samples of one channel walk it (ISO/IEC 18181-1, Modular: meta-adaptive trees, properties).
-use Rattle.std.specs.Prelude.{◌≡◌, ◌≢◌, ◌⊎◌, ℕ, ◌+◌, ◌-◌, ◌*◌, ◌/◌, ◌<◌, ◌^◌, ◌≤◌, ◌==◌, ◌||◌, nat_lt, if◌then◌else◌, ℤ, pos, ◌+ℤ◌, ◌*ℤ◌, Bool, List, Contains}
+use Rattle.std.specs.Prelude.{◌≡◌, ◌≢◌, ◌⊎◌, ℕ, ◌+◌, ◌*◌, ◌<◌, ◌^◌, ◌≤◌, ◌==◌, ◌||◌, nat_lt, if◌then◌else◌, ℤ, pos, ◌+ℤ◌, ◌*ℤ◌, Bool, List, Contains}
 use Rattle.std.specs.Int.{w32, int_wrap}
 use Rattle.jxlm_bits.specs.Numbers.{unpack}
 use Rattle.jxlm_tree.specs.ShortTrees.{Fits}
-use Rattle.jxlm_tree.specs.Tree.{AllLeaves, Shape, leaf, decision, walk}
-use Rattle.jxlm_tree.specs.declared.flat.Leaf.{Leaf}
+use Rattle.jxlm_ma_tree.specs.Tree.{AllLeaves, Shape, leaf, decision, walk}
+use Rattle.jxlm_ma_tree.specs.declared.leaf.Leaf.{Leaf}
 use Rattle.jxlm_predictor.specs.Predictions.{is_self_correcting}
 use Rattle.jxlm_predictor.specs.declared.predictor.Predictor.TheVariants.{SelfCorrecting}
+use Rattle.jxlm_ma_tree.specs.EarlierChannels.{earlier_of}
 
 -- a tree, the channel's index in its part, the stream's index, and how many earlier channels there are
 pub record FlatTree : Type 0 where
@@ -43,10 +44,6 @@ residual_of l token = int_wrap w32 (unpack token *ℤ pos l.multiplier +ℤ l.of
 abbrev pub needs_weights : Shape Leaf → Bool
 needs_weights (leaf l) = is_self_correcting l.predictor
 needs_weights (decision k value left right) = (k == 15) || needs_weights left || needs_weights right
-
--- which earlier channel a property is of, counted from 1; 0 where it is of none
-abbrev pub earlier_of : ℕ → ℕ
-earlier_of k = if nat_lt k 16 then 0 else (k - 16) / 4 + 1
 
 -- a decision on a property of this earlier channel, counted from 1, is somewhere in the tree
 abbrev pub NamesEarlier : ℕ → Shape Leaf → Type 0

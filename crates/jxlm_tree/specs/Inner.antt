@@ -1,14 +1,9 @@
-pub mod Building
-pub mod DraftReading
 pub mod Kept
 pub mod LeafSets
-pub mod Queue
-pub mod TreeShape
 pub mod Walking
 pub mod Compiled
 pub mod FlatNodes
 pub mod FlatShapes
-pub mod Marked
-pub mod Pruned
+pub mod Chosen
 pub mod SoundNodes
 pub mod Tables

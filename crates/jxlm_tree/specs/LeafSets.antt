@@ -2,8 +2,8 @@
 use Rattle.std.specs.Prelude.{◌≡◌, ℕ, ◌<◌, ◌≤◌, true, false, ℤ, pos, List, length, get_or, slice_index_or}
 use Rattle.jxlm_tree.specs.FlatTree.{FlatTree, HasMultiplier, leaf_reached}
 use Rattle.jxlm_tree.specs.SetTables.{stays}
-use Rattle.jxlm_tree.specs.Tree.{StandsAtLeaf, depth}
-use Rattle.jxlm_tree.specs.declared.flat.Leaf.{Leaf}
+use Rattle.jxlm_ma_tree.specs.Tree.{StandsAtLeaf, depth}
+use Rattle.jxlm_ma_tree.specs.declared.leaf.Leaf.{Leaf}
 use Rattle.jxlm_tree.specs.declared.leaf_sets.LeafSets.{LeafSets}
 
 -- these are properties 0 to 15 of f

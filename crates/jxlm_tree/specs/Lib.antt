@@ -1,9 +1,6 @@
 pub mod DecodingSamples
+pub mod EntriesOf
 pub mod FlatTree
-pub mod Tree
-pub mod TreeCode
-pub mod TreeReading
-pub mod TreeStands
 pub mod Inner
 pub mod ShortTrees
 pub mod ClusterTables
@@ -15,3 +12,9 @@ pub mod Steps
 pub mod SumTrees
 pub mod CompiledNodes
 pub mod NextChannel
+pub mod FlatCode
+-- what public contracts cite of the crate below
+pub use Rattle.jxlm_ma_tree.specs.Tree
+pub use Rattle.jxlm_ma_tree.specs.TreeCode
+pub use Rattle.jxlm_ma_tree.specs.TreeReading
+pub use Rattle.jxlm_ma_tree.specs.TreeStands

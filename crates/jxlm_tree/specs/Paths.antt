@@ -4,8 +4,8 @@ use Rattle.jxlm_bits.specs.Decoding.{Meaning}
 use Rattle.jxlm_tree.specs.ClusterTables.{Clusters, IsTableOf}
 use Rattle.jxlm_tree.specs.FlatTree.{FlatTree, HasMultiplier, leaf_reached}
 use Rattle.jxlm_tree.specs.Steps.{is_tabular, leftmost, most_steps}
-use Rattle.jxlm_tree.specs.Tree.{Shape, StandsAtLeaf, depth}
-use Rattle.jxlm_tree.specs.declared.flat.Leaf.{Leaf}
+use Rattle.jxlm_ma_tree.specs.Tree.{Shape, StandsAtLeaf, depth}
+use Rattle.jxlm_ma_tree.specs.declared.leaf.Leaf.{Leaf}
 use Rattle.jxlm_tree.specs.declared.paths.Path.{Path}
 use Rattle.jxlm_tree.specs.declared.paths.Path.TheVariants as path
 use Rattle.jxlm_predictor.specs.declared.predictor.Predictor.TheVariants as predictor

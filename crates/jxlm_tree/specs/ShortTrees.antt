@@ -1,7 +1,7 @@
 -- What is asked of trees so that few flat nodes are read.
 use Rattle.std.specs.Prelude.{◌≡◌, ℕ, ◌<◌, ℤ, pos, int_lt, ◌≤ℤ◌, ◌<ℤ◌, neg_ℤ, ◌+ℤ◌, if◌then◌else◌, ◌^◌, Bool, true, false, List, [], ◌∷◌}
-use Rattle.jxlm_tree.specs.Tree.{Shape, leaf, decision}
-use Rattle.jxlm_tree.specs.declared.flat.Leaf.{Leaf}
+use Rattle.jxlm_ma_tree.specs.Tree.{Shape, leaf, decision}
+use Rattle.jxlm_ma_tree.specs.declared.leaf.Leaf.{Leaf}
 
 -- no decision tests the property
 abbrev pub Avoids : ℕ → Shape Leaf → Type 0

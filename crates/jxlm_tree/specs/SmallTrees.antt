@@ -2,8 +2,8 @@
 use Rattle.std.specs.Prelude.{◌≡◌, ℕ, ◌≤◌, ◌&&◌, not, nat_lt, Bool, true, ℤ, pos, neg_ℤ, int_lt, List, [], ◌∷◌, ◌++◌, length}
 use Rattle.jxlm_tree.specs.CompiledNodes.{prune}
 use Rattle.jxlm_tree.specs.FlatTree.{FlatTree}
-use Rattle.jxlm_tree.specs.Tree.{Shape, decision, depth, leaf}
-use Rattle.jxlm_tree.specs.declared.flat.Leaf.{Leaf}
+use Rattle.jxlm_ma_tree.specs.Tree.{Shape, decision, depth, leaf}
+use Rattle.jxlm_ma_tree.specs.declared.leaf.Leaf.{Leaf}
 
 -- a property that has a table
 abbrev pub has_table : ℕ → Bool

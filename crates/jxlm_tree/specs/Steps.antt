@@ -2,8 +2,8 @@
 use Rattle.std.specs.Prelude.{ℕ, ◌+◌, ◌==◌, ◌&&◌, ◌||◌, not, nat_lt, Bool, true, ℤ, pos, neg_ℤ, ◌+ℤ◌, int_lt, if◌then◌else◌, ◌^◌}
 use Rattle.std.specs.Int.{int_min, int_max}
 use Rattle.std.specs.Ordering.{int_eq}
-use Rattle.jxlm_tree.specs.Tree.{Shape, leaf, decision, depth}
-use Rattle.jxlm_tree.specs.declared.flat.Leaf.{Leaf}
+use Rattle.jxlm_ma_tree.specs.Tree.{Shape, leaf, decision, depth}
+use Rattle.jxlm_ma_tree.specs.declared.leaf.Leaf.{Leaf}
 use Rattle.jxlm_predictor.specs.Predictions.{number_of}
 
 -- the leaves agree in all but the cluster

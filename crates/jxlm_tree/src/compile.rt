@@ -4,12 +4,12 @@ ghost use Rattle.std.specs.Prelude.{◌≡◌, ℕ, ℤ, pos, ◌+◌, ◌<◌, 
 ghost use Rattle.std.proofs.Common.{reverse};
 ghost use Rattle.jxlm_tree.specs.Inner.FlatNodes.{Compiles, CompilesSide, Fills};
 ghost use Rattle.jxlm_tree.specs.Inner.FlatShapes.{size};
-ghost use Rattle.jxlm_tree.specs.Inner.Marked.{IsMarked, marked_shape};
+ghost use Rattle.jxlm_ma_tree.specs.Marked.{IsMarked, marked_shape};
 ghost use Rattle.jxlm_tree.specs.declared.flat.FlatNode.TheVariants.{Fused, Table};
-ghost use Rattle.jxlm_tree.specs.Inner.Pruned.{least, greatest};
+ghost use Rattle.jxlm_ma_tree.specs.Cuts.{least, greatest};
 
 use crate::flat::{FlatNode, Leaf, Side};
-use crate::marks::Marked;
+use jxlm_ma_tree::marks::Marked;
 use jxlm_predictor::place::AskedProperty;
 use std::alloc::{AllocError, Global};
 

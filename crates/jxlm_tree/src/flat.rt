@@ -1,4 +1,4 @@
-//! Trees as the samples of one channel walk them, and what a leaf says.
+//! Trees as the samples of one channel walk them.
 
 ghost use Rattle.std.specs.Prelude.{◌≡◌, ◌≢◌, ◌≤◌, ◌<◌, ◌+◌, ◌^◌, ℕ, ℤ, pos, false, length, true, ◌/◌, ◌⊎◌, IfOk, IfErr, IfSome, None, if◌then◌else◌};
 ghost use Rattle.std.proofs.Common.{reverse};
@@ -12,59 +12,34 @@ ghost use Rattle.jxlm_predictor.specs.Properties.{Surroundings, place_property, 
 ghost use Rattle.jxlm_tree.specs.ClusterTables.{LeavesAgree};
 ghost use Rattle.jxlm_tree.specs.Paths.{IsLeafOf, IsPlainGradient};
 ghost use Rattle.jxlm_tree.specs.Steps.{most_steps};
-ghost use Rattle.jxlm_tree.specs.Tree.{AllLeaves, Shape, StandsAtLeaf, depth, leaf, node_count, walk};
-ghost use Rattle.jxlm_tree.specs.declared.flat.Leaf.{Leaf};
+ghost use Rattle.jxlm_ma_tree.specs.Tree.{AllLeaves, Shape, StandsAtLeaf, depth, leaf, node_count, walk};
+ghost use Rattle.jxlm_ma_tree.specs.declared.leaf.Leaf.{Leaf};
 ghost use Rattle.jxlm_predictor.specs.declared.predictor.Predictor.TheVariants.{Zero};
 ghost use Rattle.jxlm_tree.specs.ShortTrees.{CutsWithin, MeetsOnce, Reaches, TestsOnly};
 ghost use Rattle.jxlm_tree.specs.Inner.FlatNodes.{IsSound, channels_of, node_channels, sees_error, slot};
 ghost use Rattle.jxlm_tree.specs.Inner.Compiled.{IsCompiledFor, ServesAnywhere};
-ghost use Rattle.jxlm_tree.specs.Inner.Pruned.{tests_place};
+ghost use Rattle.jxlm_ma_tree.specs.Pruned.{tests_place};
 ghost use Rattle.jxlm_tree.specs.Inner.Walking.{Ended, EndsAt};
 ghost use Rattle.jxlm_bits.specs.ErrorKind.{NoMemory, kind_of};
-ghost use Rattle.jxlm_tree.specs.Inner.TreeShape.{shape_of};
+ghost use Rattle.jxlm_ma_tree.specs.TreeShape.{shape_of};
 
-use crate::alike::channels_alike;
 use crate::compile::compile;
-use crate::marks::{Known, mark};
 use crate::paths::ClusterTable;
 pub use crate::steps::Steps;
-use crate::tree::{MaTree, MaTreeNode};
 use jxlm_base::sample::Sealed;
 use jxlm_bits::bits::Bitstream;
 use jxlm_bits::decoder::Decoder;
 use jxlm_bits::error::Result;
+use jxlm_ma_tree::alike::channels_alike;
+pub use jxlm_ma_tree::leaf::Leaf;
+use jxlm_ma_tree::marks::{Known, mark};
+use jxlm_ma_tree::tree::MaTree;
 pub use jxlm_predictor::place::{AskedProperty, PlaceProperties};
 use jxlm_predictor::predictor::Predictor;
 use jxlm_weighted::reduced::read_as_signed;
 use std::alloc::Global;
 use std::marker::Model;
 use std::rc::Rc;
-
-/// What a leaf of a tree says: how each sample that the tree leads there is decoded.
-///
-/// The sample is the signed number of its token times `multiplier`, plus `offset`, plus what
-/// `predictor` makes of the samples before it.
-#[derive(Clone, Copy, PartialEq, Eq)]
-pub struct Leaf {
-    /// The cluster of the entropy decoder from which the token is read.
-    pub cluster: u8,
-    /// How the sample is predicted.
-    pub predictor: Predictor,
-    /// What is added to each sample.
-    pub offset: i32,
-    /// By what a token's signed number is multiplied: from 1, below 2^31.
-    pub multiplier: u32,
-}
-
-impl Leaf {
-    // The sample that a token stands for, before its prediction, in 32 bits.
-    fn residual(&self, token: u32) -> i32
-        requires { self.now.multiplier < 2 ^ 31 }
-        ensures { result ≡ residual_of self.now token }
-    {
-        i32::unpack_signed_u32(token).wrapping_muladd_i32(self.multiplier as i32, self.offset)
-    }
-}
 
 /// One side of a fused node: the test of a property, and where the walk goes on.
 #[derive(Drop)]
@@ -131,9 +106,9 @@ pub struct FlatMaTree {
 impl Model for FlatMaTree {
     ghost use Rattle.jxlm_tree.specs.FlatTree.{FlatTree, flat_tree};
     ghost use Rattle.jxlm_tree.specs.Inner.Compiled.{IsCompiledFor};
-    ghost use Rattle.jxlm_tree.specs.TreeCode.{coded_flat};
-    ghost use Rattle.jxlm_tree.specs.Inner.TreeShape.{shape_of};
-    ghost use Rattle.jxlm_tree.specs.contracts.flat.Leaf as leaves;
+    ghost use Rattle.jxlm_tree.specs.FlatCode.{coded_flat};
+    ghost use Rattle.jxlm_ma_tree.specs.TreeShape.{shape_of};
+    ghost use Rattle.jxlm_ma_tree.specs.contracts.leaf.Leaf as leaves;
 
     ghost Value = { FlatTree };
 
@@ -143,6 +118,14 @@ impl Model for FlatMaTree {
 
     ghost invariant = { λ t. IsCompiledFor (shape_of t.tree.value.root) t.channel t.stream_idx t.prev_channels
         t.compiled.value };
+}
+
+// The sample that a token stands for at a leaf, before its prediction, in 32 bits.
+fn residual(leaf: &Leaf, token: u32) -> i32
+    requires { leaf.now.multiplier < 2 ^ 31 }
+    ensures { result ≡ residual_of leaf.now token }
+{
+    i32::unpack_signed_u32(token).wrapping_muladd_i32(leaf.multiplier as i32, leaf.offset)
 }
 
 // The entry of a table that serves a value.
@@ -453,7 +436,7 @@ impl FlatMaTree {
             leaf.cluster,
             dist_multiplier,
         )?;
-        Ok((leaf.residual(token), leaf.predictor))
+        Ok((residual(leaf, token), leaf.predictor))
     }
 }
 

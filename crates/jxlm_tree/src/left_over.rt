@@ -1,12 +1,12 @@
 //! The leaf that the sets of leaves of a small tree leave over.
 
-ghost use Rattle.std.specs.Prelude.{◌≡◌, ℕ, ℤ, ◌+◌, ◌*◌, ◌<◌, ◌≤◌, true, List, [], ◌∷◌, slice_index, slice_index_or, pos, neg_ℤ};
+ghost use Rattle.std.specs.Prelude.{◌≡◌, ◌↔◌, ℕ, ℤ, ◌+◌, ◌*◌, ◌<◌, ◌≤◌, IsTrue, true, List, [], ◌∷◌, slice_index, slice_index_or, pos, neg_ℤ};
 ghost use Rattle.jxlm_tree.specs.FlatTree.{FlatTree, HasMultiplier, leaf_reached};
 ghost use Rattle.jxlm_tree.specs.LeafSets.{AreOwnOf, AreSetsOf, IsFirst, IsListed};
 ghost use Rattle.jxlm_tree.specs.SetTables.{has, stays};
 ghost use Rattle.jxlm_tree.specs.ClusterTables.{slot};
 ghost use Rattle.jxlm_tree.specs.Inner.LeafSets.{AreEntriesOf, AreValuesOf, is_near};
-ghost use Rattle.jxlm_tree.specs.Tree.{StandsAtLeaf, depth};
+ghost use Rattle.jxlm_ma_tree.specs.Tree.{StandsAtLeaf, depth};
 
 use crate::flat::{Leaf, entry_of};
 use crate::leaf_sets::LeafSets;
@@ -16,7 +16,7 @@ use crate::steps::Steps;
 // Whether each of these values has an entry of its own.
 #[inline(always)]
 fn are_near(values: &[i32; 7]) -> bool
-    ensures { result ≡ true → (k : ℕ) → k < 7 → is_near (slice_index_or values.now k (pos 0)) ≡ true }
+    ensures { IsTrue result ↔ ((k : ℕ) → k < 7 → is_near (slice_index_or values.now k (pos 0)) ≡ true) }
 {
     is_near(values[0])
         & is_near(values[1])

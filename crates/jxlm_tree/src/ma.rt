@@ -1,24 +1,23 @@
-//! Meta-adaptive trees: how a tree is read, and what it is kept with.
+//! Meta-adaptive trees with the decoders of their leaves.
 
-ghost use Rattle.std.specs.Prelude.{◌≡◌, ◌≢◌, ◌≤◌, ◌^◌, length, map, IfOk, IfErr};
+ghost use Rattle.std.specs.Prelude.{◌≡◌, ◌≤◌, ◌^◌, IfOk, IfErr};
 ghost use Rattle.jxlm_bits.specs.Bits.{bytes_of, position_of};
 ghost use Rattle.jxlm_bits.specs.ErrorKind.{NoMemory, kind_of};
-ghost use Rattle.jxlm_tree.specs.Inner.DraftReading.{DecoderGives, ListsTrees, node_of};
 ghost use Rattle.jxlm_tree.specs.FlatTree.{ClustersStandIn, flat_tree};
 ghost use Rattle.jxlm_tree.specs.Inner.Compiled.{IsCompiledFor};
-ghost use Rattle.jxlm_tree.specs.Tree.{AllLeaves, Shape, levels, node_count, depth};
-ghost use Rattle.jxlm_tree.specs.TreeReading.{IsLeafOf, IsOutOfMemory, MemoryGives, TreeGives, leaf_count, listing_at};
-ghost use Rattle.jxlm_tree.specs.TreeStands.{EachListingIsOfATree, OneTreeStands, TreesAreReadExactly};
-ghost use Rattle.jxlm_tree.specs.declared.flat.Leaf.{Leaf};
+ghost use Rattle.jxlm_ma_tree.specs.Tree.{AllLeaves, node_count, depth};
+ghost use Rattle.jxlm_ma_tree.specs.TreeReading.{IsLeafOf, IsOutOfMemory, MemoryGives, TreeGives};
 
-use crate::build::build;
 use crate::flat::{CompiledTree, FlatMaTree};
-use crate::nodes::{DraftNode, read_tree};
-use crate::tree::MaTree;
 use jxlm_base::grid::OutOfMemory;
 use jxlm_bits::bits::Bitstream;
 use jxlm_bits::decoder::Decoder;
 use jxlm_bits::error::Result;
+pub use jxlm_ma_tree::read::{
+    each_listing_is_of_a_tree, each_tree_is_read_exactly, no_two_trees_share_a_listing,
+};
+use jxlm_ma_tree::read::{ParsedTree, parse_tree};
+use jxlm_ma_tree::tree::MaTree;
 use std::alloc::Global;
 use std::marker::Model;
 use std::rc::Rc;
@@ -46,11 +45,11 @@ pub struct MaConfig<D: Decoder> {
 
 impl<D: Decoder> Model for MaConfig<D> {
     ghost use Rattle.std.specs.Rc.{rc_value};
-    ghost use Rattle.jxlm_tree.specs.Tree.{Config, config_of};
-    ghost use Rattle.jxlm_tree.specs.TreeCode.{coded_config};
+    ghost use Rattle.jxlm_ma_tree.specs.Tree.{Config, config_of};
+    ghost use Rattle.jxlm_ma_tree.specs.TreeCode.{coded_config};
     ghost use Rattle.jxlm_tree.specs.Inner.Kept.{IsKept};
-    ghost use Rattle.jxlm_tree.specs.Inner.TreeShape.{shape_of};
-    ghost use Rattle.jxlm_tree.specs.contracts.flat.Leaf as leaves;
+    ghost use Rattle.jxlm_ma_tree.specs.TreeShape.{shape_of};
+    ghost use Rattle.jxlm_ma_tree.specs.contracts.leaf.Leaf as leaves;
 
     ghost Value = { Config D };
 
@@ -77,7 +76,6 @@ impl<D: Decoder> MaConfig<D> {
     /// Out of memory is `Buffer` where the tree itself or its compiled nodes need it, which is only after the decoder
     /// of its nodes was read, and `Decoder(OutOfMemory)` where a decoder does. No tree deeper than the limit is ever
     /// held.
-    #[tactic(auto, unfolding(crate::specs::TreeReading::listing_at))]
     pub fn parse(alloc: Global, bits: &mut Bitstream<'_>, params: MaConfigParams) -> Result<Self>
         requires nodes { params.node_limit ≤ 2 ^ 26 }
         requires depth { params.depth_limit ≤ 2048 }
@@ -86,18 +84,19 @@ impl<D: Decoder> MaConfig<D> {
         ensures memory { MemoryGives D.meaning (bytes_of bits.old) (position_of bits.old) result }
         ensures bytes { bytes_of bits.new ≡ bytes_of bits.old }
     {
-        let mut first: D = parse_decoder(alloc, bits, 6)?;
-        let nodes = read_tree(alloc, &mut first, bits, params.node_limit)?;
-        let num_tree_nodes = nodes.len();
-        let decoder: D = parse_decoder(alloc, bits, count_leaves(&nodes))?;
-        let tree = build(alloc, nodes, decoder.cluster_map(), params.depth_limit)?;
+        let parsed = parse_tree(alloc, bits, params.node_limit, params.depth_limit)?;
+        let ParsedTree {
+            tree,
+            decoder,
+            num_nodes,
+        } = parsed;
         let anywhere = CompiledTree::anywhere(alloc, &tree)?;
         let tree = Rc::new(alloc, tree)?;
         Ok(MaConfig {
             tree,
             anywhere,
             decoder,
-            num_tree_nodes,
+            num_tree_nodes: num_nodes,
         })
     }
 
@@ -200,38 +199,3 @@ impl<D: Decoder> MaConfig<D> {
         self.tree.depth
     }
 }
-
-fn parse_decoder<D: Decoder>(alloc: Global, bits: &mut Bitstream<'_>, contexts: u32) -> Result<D>
-    ensures gives { DecoderGives D.meaning contexts result bits.old bits.new }
-    ensures contexts { IfOk result (λ d. length (D.meaning.cluster_map d) ≡ contexts) }
-    ensures memory { IfErr result (λ e. kind_of e ≢ NoMemory) }
-    ensures bytes { bytes_of bits.new ≡ bytes_of bits.old }
-{
-    Ok(D::parse(alloc, bits, contexts)?)
-}
-
-// There is one leaf more than there are decisions.
-fn count_leaves(nodes: &[DraftNode]) -> u32
-    requires listing { ListsTrees 1 (map node_of nodes.now) }
-    requires count { length nodes.now ≤ 2 ^ 26 }
-    ensures { result ≡ leaf_count (map node_of nodes.now) }
-{
-    nodes.len() as u32 / 2 + 1
-}
-
-/// What is read as the nodes of a tree is the listing of a tree.
-pub fn each_listing_is_of_a_tree<D: Decoder>()
-    ensures { EachListingIsOfATree D.meaning }
-{}
-
-/// No two trees have one listing.
-pub fn no_two_trees_share_a_listing()
-    ensures { (t u : Shape Leaf) → levels t ≡ levels u → t ≡ u }
-{}
-
-/// A tree that is read stands in the bits token after token, a tree whose bits are at the reader's position is read,
-/// and no two trees stand at one bit position.
-pub fn each_tree_is_read_exactly<D: Decoder>()
-    ensures exactly { TreesAreReadExactly D.meaning }
-    ensures one { OneTreeStands D.meaning }
-{}

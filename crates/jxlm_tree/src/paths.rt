@@ -3,6 +3,9 @@
 ghost use Rattle.std.specs.Prelude.{◌≡◌, ◌≤◌, ◌<◌, ◌+◌, ◌↔◌, ℕ, ℤ, length, slice_index, Contains, IfErr, IfOk, IfSome, IsTrue, None};
 ghost use Rattle.std.specs.Option.{option_map};
 ghost use Rattle.std.specs.Rc.{rc_value};
+ghost use Rattle.jxlm_tree.specs.ClusterTables.{in_cluster};
+ghost use Rattle.jxlm_tree.specs.Paths.{IsNamed, IsPlainGradient};
+ghost use Rattle.jxlm_tree.specs.Inner.Tables.{IsPathOfLeaf};
 
 use crate::flat::{FlatMaTree, FlatNode, Leaf, entry_of};
 use crate::steps::Steps;
@@ -30,7 +33,7 @@ pub struct ClusterTable {
 impl Model for ClusterTable {
     ghost use Rattle.std.specs.Prelude.{◌<◌, length};
     ghost use Rattle.jxlm_tree.specs.ClusterTables.{Clusters, clusters_of, coded_clusters};
-    ghost use Rattle.jxlm_tree.specs.contracts.flat.Leaf as leaves;
+    ghost use Rattle.jxlm_ma_tree.specs.contracts.leaf.Leaf as leaves;
 
     ghost Value = { Clusters };
 
@@ -39,6 +42,15 @@ impl Model for ClusterTable {
     ghost view = { λ t. clusters_of t.property t.base t.clusters.items t.leaf };
 
     ghost invariant = { λ t. 0 < length t.clusters.items };
+}
+
+/// What a loop keeps of a table of clusters in local variables.
+#[derive(Clone, Copy)]
+pub struct ClusterEntries<'t> {
+    clusters: &'t [u8],
+    base: i32,
+    first: u8,
+    last: u8,
 }
 
 /// What the samples of one channel are decoded by.
@@ -60,45 +72,39 @@ pub enum Path<'t> {
     Tree,
 }
 
-impl Leaf {
-    ghost use Rattle.jxlm_tree.specs.ClusterTables.{in_cluster};
-    ghost use Rattle.jxlm_tree.specs.Paths.{IsNamed, IsPlainGradient};
-    ghost use Rattle.jxlm_tree.specs.Inner.Tables.{IsPathOfLeaf};
+// Whether two leaves agree in all but the cluster.
+fn agree(leaf: &Leaf, other: &Leaf) -> bool
+    ensures { IsTrue result ↔ other.now ≡ in_cluster other.now.cluster leaf.now }
+{
+    leaf.predictor == other.predictor
+        && leaf.offset == other.offset
+        && leaf.multiplier == other.multiplier
+}
 
-    // Whether the other leaf is this one but for the cluster.
-    fn agrees(&self, other: &Leaf) -> bool
-        ensures { IsTrue result ↔ other.now ≡ in_cluster other.now.cluster self.now }
-    {
-        self.predictor == other.predictor
-            && self.offset == other.offset
-            && self.multiplier == other.multiplier
-    }
+// Whether a leaf predicts by the gradient, with nothing to add and nothing to multiply by.
+fn is_plain_gradient(leaf: &Leaf) -> bool
+    ensures { IsTrue result ↔ IsPlainGradient leaf.now }
+{
+    leaf.predictor == Predictor::Gradient && leaf.offset == 0 && leaf.multiplier == 1
+}
 
-    // Whether it predicts by the gradient, with nothing to add and nothing to multiply by.
-    fn is_plain_gradient(&self) -> bool
-        ensures { IsTrue result ↔ IsPlainGradient self.now }
-    {
-        self.predictor == Predictor::Gradient && self.offset == 0 && self.multiplier == 1
-    }
-
-    // The path of a channel that has this leaf only.
-    fn path<'t, D: Decoder>(self, decoder: &D) -> Path<'t>
-        requires cluster { Contains (D.meaning.cluster_map decoder.now) self.cluster }
-        ensures leaf { IsPathOfLeaf self result }
-        ensures named { IsNamed D.meaning decoder.now result }
-    {
-        if self.predictor == Predictor::Zero {
-            match decoder.single_token(self.cluster) {
-                Some(_) => Path::Constant(self),
-                None => Path::Zero(self),
-            }
-        } else if !self.is_plain_gradient() {
-            Path::Tree
-        } else if decoder.as_rle() {
-            Path::Runs(self)
-        } else {
-            Path::Gradient(self)
+// The path of a channel that has this leaf only.
+fn path_of_leaf<'t, D: Decoder>(leaf: Leaf, decoder: &D) -> Path<'t>
+    requires cluster { Contains (D.meaning.cluster_map decoder.now) leaf.cluster }
+    ensures leaf { IsPathOfLeaf leaf result }
+    ensures named { IsNamed D.meaning decoder.now result }
+{
+    if leaf.predictor == Predictor::Zero {
+        match decoder.single_token(leaf.cluster) {
+            Some(_) => Path::Constant(leaf),
+            None => Path::Zero(leaf),
         }
+    } else if !is_plain_gradient(&leaf) {
+        Path::Tree
+    } else if decoder.as_rle() {
+        Path::Runs(leaf)
+    } else {
+        Path::Gradient(leaf)
     }
 }
 
@@ -107,8 +113,9 @@ impl ClusterTable {
     ghost use Rattle.jxlm_tree.specs.FlatTree.{FlatTree, HasMultiplier, PropertiesAre, leaf_reached};
     ghost use Rattle.jxlm_tree.specs.ClusterTables.{IsTableOf, table_leaf};
     ghost use Rattle.jxlm_tree.specs.Paths.{IsNamed, IsOnGradient};
-    ghost use Rattle.jxlm_tree.specs.Tree.{StandsAtLeaf};
+    ghost use Rattle.jxlm_ma_tree.specs.Tree.{StandsAtLeaf};
     ghost use Rattle.jxlm_tree.specs.Inner.FlatNodes.{IsSound};
+    ghost use Rattle.jxlm_tree.specs.EntriesOf.{AreEntriesOf};
     ghost use Rattle.jxlm_tree.specs.Inner.Tables.{AreClusters, IsPathOfTable, TableAt};
 
     // The clusters of the leaves to which the entries of a table lead, where they all agree with this one.
@@ -124,7 +131,7 @@ impl ClusterTable {
         let mut clusters = Vec::new(alloc);
         for place in entries {
             match &nodes[*place as usize] {
-                FlatNode::Leaf(leaf) if first.agrees(leaf) => clusters.push(leaf.cluster)?,
+                FlatNode::Leaf(leaf) if agree(first, leaf) => clusters.push(leaf.cluster)?,
                 _ => return Ok(None),
             }
         }
@@ -180,7 +187,7 @@ impl ClusterTable {
     fn is_on_gradient(&self) -> bool
         ensures { IsTrue result ↔ IsOnGradient self.now }
     {
-        self.property.number() == 9 && self.leaf.is_plain_gradient()
+        self.property.number() == 9 && is_plain_gradient(&self.leaf)
     }
 
     /// The property that tells which leaf is reached.
@@ -205,6 +212,20 @@ impl ClusterTable {
     {
         steps.tick();
         self.clusters[entry_of(self.base, self.clusters.len() - 1, value)]
+    }
+
+    /// What a loop keeps of the table.
+    #[inline(always)]
+    pub fn entries(&self) -> ClusterEntries<'_>
+        ensures { AreEntriesOf self.now result }
+    {
+        let clusters = self.clusters.as_slice();
+        ClusterEntries {
+            clusters,
+            base: self.base,
+            first: clusters[0],
+            last: clusters[clusters.len() - 1],
+        }
     }
 
     /// The leaf to which these properties lead in the trees that this table is of, looked up in one step.
@@ -233,6 +254,30 @@ impl ClusterTable {
             Path::GradientClusters(self)
         } else {
             Path::Clusters(self)
+        }
+    }
+}
+
+impl ClusterEntries<'_> {
+    ghost use Rattle.jxlm_tree.specs.ClusterTables.{Clusters, table_leaf};
+    ghost use Rattle.jxlm_tree.specs.EntriesOf.{AreEntriesOf};
+
+    /// The cluster of the leaf that is reached where the property has this value, looked up in one step. It branches on
+    /// the value, so that what follows need not wait for it.
+    #[inline(always)]
+    pub fn cluster(&self, value: i32, steps: &mut Steps) -> u8
+        ensures cluster { (t : Clusters) → AreEntriesOf t self.now → result ≡ (table_leaf t value).cluster }
+        ensures cost { steps.new ≡ steps.old + 1 }
+    {
+        steps.tick();
+        if value <= self.base {
+            return self.first;
+        }
+        let above = (i64::from(value) - i64::from(self.base)) as usize;
+        if above < self.clusters.len() {
+            self.clusters[above]
+        } else {
+            self.last
         }
     }
 }
@@ -274,7 +319,7 @@ impl FlatMaTree {
         ensures steps { steps_on result self.now.tree ≤ most_steps self.now.tree }
     {
         if let FlatNode::Leaf(only) = &self.compiled.nodes[self.compiled.root as usize] {
-            return only.path(decoder);
+            return path_of_leaf(*only, decoder);
         }
         match &self.compiled.table {
             Some(table) => table.path(decoder),

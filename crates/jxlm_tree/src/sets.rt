@@ -9,15 +9,15 @@ ghost use Rattle.jxlm_tree.specs.LeafSets.{AreSetsOf};
 ghost use Rattle.jxlm_tree.specs.SmallTrees.{FitsSets, TakesSets, has_table, is_in_range, is_served, leaves_of};
 ghost use Rattle.jxlm_tree.specs.SetTables.{has, stays};
 ghost use Rattle.jxlm_tree.specs.Inner.LeafSets.{AreOf, is_within, rules_out};
-ghost use Rattle.jxlm_tree.specs.Inner.Pruned.{pruned};
-ghost use Rattle.jxlm_tree.specs.Inner.TreeShape.{shape_of};
+ghost use Rattle.jxlm_ma_tree.specs.Pruned.{pruned};
+ghost use Rattle.jxlm_ma_tree.specs.TreeShape.{shape_of};
 
 use crate::flat::{FlatMaTree, Leaf, entry_of};
 use crate::leaf_sets::LeafSets;
-use crate::marks::{Known, known_value};
 use crate::steps::Steps;
-use crate::tree::MaTreeNode;
 use jxlm_bits::error::Result;
+use jxlm_ma_tree::marks::{Known, known_value};
+use jxlm_ma_tree::tree::MaTreeNode;
 use jxlm_weighted::reduced::read_as_signed;
 use std::alloc::{AllocError, Global};
 

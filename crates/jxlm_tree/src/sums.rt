@@ -2,23 +2,21 @@
 
 ghost use Rattle.std.specs.Prelude.{◌≡◌, ℤ, true};
 ghost use Rattle.jxlm_tree.specs.SumTrees.{GoesBySum, is_near as near, is_small_gradient as small_gradient, takes_sums as sums_taken, takes_sums_at};
-ghost use Rattle.jxlm_tree.specs.Inner.TreeShape.{shape_of};
+ghost use Rattle.jxlm_ma_tree.specs.TreeShape.{shape_of};
 
 use crate::flat::{FlatMaTree, Leaf};
-use crate::tree::MaTreeNode;
+use jxlm_ma_tree::tree::MaTreeNode;
 use jxlm_predictor::predictor::Predictor;
 use jxlm_weighted::reduced::read_as_signed;
 
-impl Leaf {
-    // Whether it predicts by the gradient, with an offset and a multiplier of 8 bits.
-    fn is_small_gradient(&self) -> bool
-        ensures { result ≡ small_gradient self.now }
-    {
-        self.predictor == Predictor::Gradient
-            && self.offset >= -128
-            && self.offset <= 127
-            && self.multiplier <= 127
-    }
+// Whether a leaf predicts by the gradient, with an offset and a multiplier of 8 bits.
+fn is_small_gradient(leaf: &Leaf) -> bool
+    ensures { result ≡ small_gradient leaf.now }
+{
+    leaf.predictor == Predictor::Gradient
+        && leaf.offset >= -128
+        && leaf.offset <= 127
+        && leaf.multiplier <= 127
 }
 
 // Whether a table of clamped sums can make this cut.
@@ -33,7 +31,7 @@ fn takes_sums(tree: &MaTreeNode, channel: i32, stream: i32) -> bool
     ensures { result ≡ sums_taken channel stream (shape_of tree.now) }
 {
     match tree {
-        MaTreeNode::Leaf(leaf) => leaf.is_small_gradient(),
+        MaTreeNode::Leaf(leaf) => is_small_gradient(leaf),
         MaTreeNode::Decision {
             property,
             value,

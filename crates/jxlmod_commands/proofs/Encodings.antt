@@ -8,8 +8,8 @@ use Rattle.jxlm_encode.specs.Encoded.{IsSmall, given_list}
 use Rattle.jxlm_header.specs.Opening.{Opening, opening_of}
 use Rattle.jxlm_tree.specs.Tree.{Shape, leaf}
 use Rattle.jxlm_tree.specs.TreeStands.{TreesAreReadExactly}
-use Rattle.jxlm_tree.specs.declared.flat.Leaf.{Leaf}
-use Rattle.jxlm_tree.proofs.Listing.{levels-injective}
+use Rattle.jxlm_ma_tree.specs.declared.leaf.Leaf.{Leaf}
+use Rattle.jxlm_ma_tree.proofs.Listing.{levels-injective}
 use Rattle.jxlm_plain.specs.Plain.{plain, plain2}
 use Rattle.jxl_modular.specs.Picture.{IsPicture}
 use Rattle.jxlmod_commands.specs.Channels.{channels_of, plain_channel}

@@ -8,7 +8,7 @@ use Rattle.jxlm_groups.specs.declared.part.SectionPart.TheVariants as parts
 use Rattle.jxlm_section_split.specs.CutPicture.{one_pass}
 use Rattle.jxlm_transform.specs.Transforms.{Transform}
 use Rattle.jxlm_tree.specs.Tree.{Shape}
-use Rattle.jxlm_tree.specs.declared.flat.Leaf.{Leaf}
+use Rattle.jxlm_ma_tree.specs.declared.leaf.Leaf.{Leaf}
 use Rattle.jxlm_tree.specs.declared.ma.MaConfigParams.{MaConfigParams}
 use Rattle.jxl_codestream.specs.Layouts.{Layout, section_count_of}
 use Rattle.jxl_coding.specs.Symbols.{Codes}

@@ -13,7 +13,7 @@ use Rattle.jxlm_groups.specs.declared.pass.Pass.{Pass}
 use Rattle.jxlm_samples.specs.Part.{Part, cell_count, cells_of}
 use Rattle.jxlm_transform.specs.Channels.{ChannelList}
 use Rattle.jxlm_tree.specs.Tree.{Shape}
-use Rattle.jxlm_tree.specs.declared.flat.Leaf.{Leaf}
+use Rattle.jxlm_ma_tree.specs.declared.leaf.Leaf.{Leaf}
 use Rattle.jxlm_weighted.specs.WeightsHeader.{default_weights}
 use Rattle.jxl_encode_sections.specs.declared.parts.PartTokens.{PartTokens}
 

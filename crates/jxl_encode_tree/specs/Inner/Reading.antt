@@ -1,7 +1,7 @@
 -- The tree of nodes and clusters, read back or not.
 use Rattle.std.specs.Prelude.{◌≡◌, ℕ, ◌≤◌, List}
 use Rattle.jxlm_tree.specs.Tree.{Shape, levels, depth}
-use Rattle.jxlm_tree.specs.declared.flat.Leaf.{Leaf}
+use Rattle.jxlm_ma_tree.specs.declared.leaf.Leaf.{Leaf}
 use Rattle.jxlm_encode_write.specs.declared.tree.EncodeNode.{EncodeNode}
 use Rattle.jxlm_encode_streams.specs.TreeStreams.{clustered_nodes}
 use Rattle.jxlm_encode.specs.declared.error.EncodeError.{EncodeError}

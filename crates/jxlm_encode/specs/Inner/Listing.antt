@@ -2,7 +2,7 @@
 use Rattle.std.specs.Prelude.{◌≡◌, ℕ, zero, suc, [], ◌∷◌, ◌+◌, ◌-◌, ◌≤◌, List, map}
 use Rattle.jxlm_header.specs.Opening.{depth_limit}
 use Rattle.jxlm_tree.specs.Tree.{Shape, levels, node_count, depth}
-use Rattle.jxlm_tree.specs.declared.flat.Leaf.{Leaf}
+use Rattle.jxlm_ma_tree.specs.declared.leaf.Leaf.{Leaf}
 use Rattle.jxlm_transform.specs.Channels.{Channel}
 use Rattle.jxlm_encode_write.specs.Nodes.{node_of}
 use Rattle.jxlm_encode_write.specs.declared.tree.EncodeNode.{EncodeNode}

@@ -7,7 +7,7 @@ use Rattle.jxlm_base.specs.Regions.{AllLie, LieApart}
 use Rattle.jxlm_chain.specs.declared.placed.PlacedChannels.{PlacedChannels}
 use Rattle.jxlm_transform.specs.Channels.{AreRegionsOf, IsNarrow}
 use Rattle.jxlm_tree.specs.Tree.{Shape}
-use Rattle.jxlm_tree.specs.declared.flat.Leaf.{Leaf}
+use Rattle.jxlm_ma_tree.specs.declared.leaf.Leaf.{Leaf}
 use Rattle.jxlm_samples.specs.Part.{Part}
 use Rattle.jxlm_weighted.specs.WeightsHeader.{default_weights}
 

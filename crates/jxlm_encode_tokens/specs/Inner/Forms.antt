@@ -2,7 +2,7 @@
 use Rattle.std.specs.Prelude.{◌≡◌, ℕ, ◌<◌, ℤ, pos, Bool, true, false, List, length, take, get_or}
 use Rattle.std.specs.Int.{Width}
 use Rattle.jxlm_bit_writer.specs.declared.token.Token.{Token}
-use Rattle.jxlm_tree.specs.declared.flat.Leaf.{Leaf}
+use Rattle.jxlm_ma_tree.specs.declared.leaf.Leaf.{Leaf}
 use Rattle.jxlm_samples.specs.Coded.{next_prediction}
 use Rattle.jxlm_samples.specs.Part.{Part, next_leaf}
 use Rattle.jxlm_encode_tokens.specs.Tokens.{IsSampleToken}

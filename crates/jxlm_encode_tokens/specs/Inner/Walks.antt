@@ -7,7 +7,7 @@ use Rattle.jxlm_tree.specs.FlatTree.{FlatTree, leaf_reached}
 use Rattle.jxlm_tree.specs.Paths.{Gives, IsGradientTable}
 use Rattle.jxlm_tree.specs.ShortTrees.{Fits}
 use Rattle.jxlm_tree.specs.Tree.{AllLeaves}
-use Rattle.jxlm_tree.specs.declared.flat.Leaf.{Leaf}
+use Rattle.jxlm_ma_tree.specs.declared.leaf.Leaf.{Leaf}
 use Rattle.jxlm_predictor.specs.EarlierRows.{AreRowsOf}
 use Rattle.jxlm_predictor.specs.Holding.{surroundings}
 use Rattle.jxlm_predictor.specs.Predictions.{prediction}

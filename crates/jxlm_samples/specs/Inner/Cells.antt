@@ -12,7 +12,7 @@ use Rattle.jxlm_tree.specs.FlatTree.{FlatTree}
 use Rattle.jxlm_predictor.specs.Holding.{state_of, store_of}
 use Rattle.jxlm_predictor.specs.Predictions.{prediction}
 use Rattle.jxlm_predictor.specs.Standing.{Setting, StandsAt}
-use Rattle.jxlm_tree.specs.declared.flat.Leaf.{Leaf}
+use Rattle.jxlm_ma_tree.specs.declared.leaf.Leaf.{Leaf}
 use Rattle.jxlm_predictor.specs.declared.properties.Properties.{Properties}
 use Rattle.jxlm_samples.specs.CellLeaves.{leaf_at}
 use Rattle.jxlm_samples.specs.Coded.{sample_of}

@@ -6,7 +6,7 @@ use Rattle.jxlm_bits.specs.Decoding.{Meaning}
 use Rattle.jxlm_base.specs.Grid.{Grid, row as grid_row}
 use Rattle.jxlm_tree.specs.FlatTree.{FlatTree}
 use Rattle.jxlm_tree.specs.Paths.{IsLeafOf}
-use Rattle.jxlm_tree.specs.declared.flat.Leaf.{Leaf}
+use Rattle.jxlm_ma_tree.specs.declared.leaf.Leaf.{Leaf}
 use Rattle.jxlm_weighted.specs.Neighbours.{Neighbours}
 use Rattle.jxlm_predictor.specs.Predictions.{prediction_from}
 use Rattle.jxlm_predictor.specs.declared.predictor.Predictor.TheVariants as predictor

@@ -8,7 +8,7 @@ use Rattle.jxlm_tree.specs.FlatTree.{FlatTree, HasMultiplier}
 use Rattle.jxlm_tree.specs.Paths.{Gives, IsLeafOf, IsOnGradient, IsPlainGradient, steps_on}
 use Rattle.jxlm_tree.specs.Steps.{most_steps}
 use Rattle.jxlm_tree.specs.Tree.{Shape}
-use Rattle.jxlm_tree.specs.declared.flat.Leaf.{Leaf}
+use Rattle.jxlm_ma_tree.specs.declared.leaf.Leaf.{Leaf}
 use Rattle.jxlm_tree.specs.declared.paths.Path.{Path}
 use Rattle.jxlm_tree.specs.declared.paths.Path.TheVariants as path
 use Rattle.jxlm_predictor.specs.declared.predictor.Predictor.TheVariants as predictor

@@ -11,7 +11,7 @@ use Rattle.jxlm_bits.specs.declared.decoder.DecoderError.{DecoderError}
 use Rattle.jxlm_bits.specs.declared.decoder.DecoderError.TheVariants.{OutOfMemory}
 use Rattle.jxlm_base.specs.declared.subgrid.Region.{Region}
 use Rattle.jxlm_tree.specs.Paths.{Gives, steps_on}
-use Rattle.jxlm_tree.specs.declared.flat.Leaf.{Leaf}
+use Rattle.jxlm_ma_tree.specs.declared.leaf.Leaf.{Leaf}
 use Rattle.jxlm_tree.specs.declared.paths.Path.{Path}
 use Rattle.jxlm_tree.specs.declared.paths.Path.TheVariants as path
 use Rattle.jxlm_predictor.specs.EarlierRows.{AreRowsOf}

@@ -7,16 +7,17 @@ use Rattle.std.specs.Rc.{rc_value}
 use Rattle.std.proofs.Common.{reverse}
 use Rattle.jxlm_tree.specs.CompiledNodes.{takes}
 use Rattle.jxlm_tree.specs.FlatTree.{HasMultiplier}
-use Rattle.jxlm_tree.specs.Inner.FlatShapes.{earlier_named, size}
+use Rattle.jxlm_ma_tree.specs.EarlierChannels.{earlier_named}
+use Rattle.jxlm_tree.specs.Inner.FlatShapes.{size}
 use Rattle.jxlm_tree.specs.Inner.FlatNodes.{IsSound, Keeps, Tops, Serves, most_channels, sees_error}
-use Rattle.jxlm_tree.specs.Inner.Pruned.{known_side, pruned, tests_place}
-use Rattle.jxlm_tree.specs.NextChannel.{taken_alike}
+use Rattle.jxlm_ma_tree.specs.Pruned.{known_side, pruned, tests_place}
+use Rattle.jxlm_ma_tree.specs.TakenAlike.{taken_alike}
 use Rattle.jxlm_tree.specs.Inner.Tables.{TableAt}
-use Rattle.jxlm_tree.specs.Tree.{AllLeaves, Shape}
-use Rattle.jxlm_tree.specs.declared.marks.Known.{Known}
+use Rattle.jxlm_ma_tree.specs.Tree.{AllLeaves, Shape}
+use Rattle.jxlm_ma_tree.specs.declared.marks.Known.{Known}
 use Rattle.jxlm_tree.specs.declared.flat.CompiledTree.{CompiledTree}
 use Rattle.jxlm_tree.specs.declared.flat.FlatNode.{FlatNode}
-use Rattle.jxlm_tree.specs.declared.flat.Leaf.{Leaf}
+use Rattle.jxlm_ma_tree.specs.declared.leaf.Leaf.{Leaf}
 
 -- what is known of the properties of a channel's samples beforehand
 abbrev pub known_at : ℕ → ℕ → ℕ → Known

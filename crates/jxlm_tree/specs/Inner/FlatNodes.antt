@@ -1,6 +1,6 @@
 -- Lists of flat nodes, and the walk over them.
 use Rattle.std.specs.Prelude.{◌≡◌, ℕ, ◌+◌, ◌-◌, ◌*◌, ◌<◌, ◌≤◌, ◌==◌, nat_lt, ℤ, pos, ◌+ℤ◌, ◌-ℤ◌, ◌≤ℤ◌, int_lt, if◌then◌else◌, List, [], ◌∷◌, ◌++◌, length, slice_index, IsSome, Bool, true, false, ◌||◌, max, fold, ◌/◌}
-use Rattle.jxlm_tree.specs.declared.flat.Leaf.{Leaf}
+use Rattle.jxlm_ma_tree.specs.declared.leaf.Leaf.{Leaf}
 use Rattle.jxlm_tree.specs.declared.flat.Side.{Side}
 use Rattle.jxlm_tree.specs.declared.flat.FlatNode.{FlatNode}
 use Rattle.jxlm_tree.specs.declared.flat.FlatNode.TheVariants as node
@@ -8,11 +8,12 @@ use Rattle.jxlm_predictor.specs.declared.predictor.Predictor.TheVariants.{Zero}
 use Rattle.jxlm_predictor.specs.Predictions.{is_self_correcting}
 use Rattle.jxlm_tree.specs.CompiledNodes.{takes}
 pub use Rattle.jxlm_tree.specs.ClusterTables.{slot}
-use Rattle.jxlm_tree.specs.Tree.{Shape, StandsAtLeaf, walk, depth}
+use Rattle.jxlm_ma_tree.specs.Tree.{Shape, StandsAtLeaf, walk, depth}
 use Rattle.jxlm_tree.specs.Inner.FlatShapes.{size, Lacks}
 use Rattle.jxlm_tree.specs.ShortTrees.{MeetsOnce, TestsOnly, Fits}
-use Rattle.jxlm_tree.specs.Inner.Marked.{asks_for}
-use Rattle.jxlm_tree.specs.Inner.Pruned.{chosen, tabled, hanging}
+use Rattle.jxlm_ma_tree.specs.Marked.{asks_for}
+use Rattle.jxlm_tree.specs.Inner.Chosen.{chosen, hanging}
+use Rattle.jxlm_ma_tree.specs.Cuts.{tabled}
 
 -- the end of a side, where y answers its question
 abbrev pub side_end : Side → ℤ → ℕ

@@ -1,8 +1,7 @@
 -- What stands in a tree, counted and named from below.
-use Rattle.std.specs.Prelude.{◌≡◌, ℕ, ◌+◌, max, Bool, false}
-use Rattle.jxlm_tree.specs.FlatTree.{earlier_of}
-use Rattle.jxlm_tree.specs.Tree.{Shape, leaf, decision}
-use Rattle.jxlm_tree.specs.declared.flat.Leaf.{Leaf}
+use Rattle.std.specs.Prelude.{◌≡◌, ℕ, ◌+◌, Bool, false}
+use Rattle.jxlm_ma_tree.specs.Tree.{Shape, leaf, decision}
+use Rattle.jxlm_ma_tree.specs.declared.leaf.Leaf.{Leaf}
 
 -- the number of nodes
 abbrev pub size : Shape Leaf → ℕ
@@ -13,8 +12,3 @@ size (decision property value left right) = size left + size right + 1
 abbrev pub Lacks : (ℕ → Bool) → (Leaf → Bool) → Shape Leaf → Type 0
 Lacks p q (leaf l) = q l ≡ false
 Lacks p q (decision k value left right) = (p k ≡ false) × (Lacks p q left × Lacks p q right)
-
--- how many earlier channels a walk can ask for: the farthest of which a property is somewhere in the tree
-abbrev pub earlier_named : Shape Leaf → ℕ
-earlier_named (leaf l) = 0
-earlier_named (decision k value left right) = max (earlier_of k) (max (earlier_named left) (earlier_named right))

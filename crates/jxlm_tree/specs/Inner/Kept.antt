@@ -1,11 +1,11 @@
 -- What is always true of a tree that is kept.
 use Rattle.std.specs.Prelude.{◌≡◌, ℕ, ◌≤◌, ◌^◌, List, Option, IfSome}
-use Rattle.jxlm_tree.specs.Tree.{AllLeaves, node_count}
-use Rattle.jxlm_tree.specs.TreeReading.{IsLeafOf}
-use Rattle.jxlm_tree.specs.Inner.TreeShape.{shape_of}
+use Rattle.jxlm_ma_tree.specs.Tree.{AllLeaves, node_count}
+use Rattle.jxlm_ma_tree.specs.TreeReading.{IsLeafOf}
+use Rattle.jxlm_ma_tree.specs.TreeShape.{shape_of}
 use Rattle.jxlm_tree.specs.Inner.Compiled.{ServesAnywhere}
 use Rattle.jxlm_tree.specs.declared.flat.CompiledTree.{CompiledTree}
-use Rattle.jxlm_tree.specs.declared.tree.MaTree.{MaTree}
+use Rattle.jxlm_ma_tree.specs.declared.tree.MaTree.{MaTree}
 
 -- it has n nodes, at most 2 ^ 26, no more than 2048 decisions above a leaf, and its leaves have these clusters; nodes
 -- that are kept with it serve every channel

@@ -3,8 +3,8 @@ use Rattle.std.specs.Prelude.{◌≡◌, ℕ, ◌+◌, ◌<◌, ◌≤◌, ◌&&
 use Rattle.jxlm_tree.specs.ClusterTables.{slot}
 pub use Rattle.jxlm_tree.specs.SmallTrees.{has_table, is_in_range, is_served, leaves_of}
 use Rattle.jxlm_tree.specs.SetTables.{stays}
-use Rattle.jxlm_tree.specs.Tree.{Shape, leaf, decision}
-use Rattle.jxlm_tree.specs.declared.flat.Leaf.{Leaf}
+use Rattle.jxlm_ma_tree.specs.Tree.{Shape, leaf, decision}
+use Rattle.jxlm_ma_tree.specs.declared.leaf.Leaf.{Leaf}
 use Rattle.jxlm_tree.specs.declared.leaf_sets.LeafSets.{LeafSets}
 
 -- leaf i is one of those from `first` to before `end`

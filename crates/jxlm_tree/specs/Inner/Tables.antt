@@ -2,7 +2,7 @@
 use Rattle.std.specs.Global.{Vec}
 use Rattle.std.specs.Prelude.{◌≡◌, ℕ, ◌<◌, ◌==◌, ◌||◌, false, ℤ, List, length, slice_get, slice_index, Option, Some, None}
 use Rattle.jxlm_tree.specs.ClusterTables.{Clusters, in_cluster}
-use Rattle.jxlm_tree.specs.declared.flat.Leaf.{Leaf}
+use Rattle.jxlm_ma_tree.specs.declared.leaf.Leaf.{Leaf}
 use Rattle.jxlm_tree.specs.declared.flat.FlatNode.{FlatNode}
 use Rattle.jxlm_tree.specs.declared.flat.FlatNode.TheVariants as node
 use Rattle.jxlm_tree.specs.Steps.{plain_gradient}

@@ -3,7 +3,7 @@ use Rattle.std.specs.Prelude.{◌≡◌, ℕ, ◌+◌, ◌<◌, ℤ, List, lengt
 use Rattle.jxlm_tree.specs.FlatTree.{PropertiesAre}
 use Rattle.jxlm_tree.specs.Inner.FlatNodes.{Answers, AreOf, FirstFit, reached, side_end}
 use Rattle.jxlm_tree.specs.declared.flat.FlatNode.{FlatNode}
-use Rattle.jxlm_tree.specs.declared.flat.Leaf.{Leaf}
+use Rattle.jxlm_ma_tree.specs.declared.leaf.Leaf.{Leaf}
 use Rattle.jxlm_tree.specs.declared.flat.Side.{Side}
 
 module _ {P : Type 0} (gives : P → ℕ → ℤ → Type 0) (properties : P) where

@@ -4,7 +4,7 @@ use Rattle.std.proofs.lemmas.Int.{to_z-of_z}
 use Rattle.jxlm_encode_tokens.specs.Inner.Forms.{IsLeafToken}
 use Rattle.jxlm_samples.specs.RowNeighbours.{gradient_in, north_west_in, property_9_in, sum_by, west_in}
 use Rattle.jxlm_tree.specs.ClusterTables.{table_leaf}
-use Rattle.jxlm_tree.specs.declared.flat.Leaf.{Leaf}
+use Rattle.jxlm_ma_tree.specs.declared.leaf.Leaf.{Leaf}
 use Rattle.jxlm_encode_tokens.proofs.GradientRows.{above_is, gradient_value, next_north_west, next_west}
 use Rattle.jxlm_encode_tokens.proofs.Lists.{mapped_at, written}
 use Rattle.jxlm_encode_tokens.proofs.leaf.table_row.Goals as goal

@@ -1,7 +1,7 @@
 use Rattle.std.proofs.Common.{rules, ◌≡◌, ◌∙◌, subst, w32, FitsSigned}
 use Rattle.std.proofs.lemmas.Int.{to_z-of_z}
 use Rattle.jxlm_base.specs.Regions.{store_meanings}
-use Rattle.jxlm_tree.specs.declared.flat.Leaf.{Leaf}
+use Rattle.jxlm_ma_tree.specs.declared.leaf.Leaf.{Leaf}
 use Rattle.jxlm_tree.proofs.FlatTrees.{standing_leaf}
 use Rattle.jxlm_predictor.specs.Holding.{state_of}
 use Rattle.jxlm_predictor.specs.Predictions.{prediction}

@@ -1,7 +1,7 @@
 use Rattle.std.proofs.Common.{Contains, ap, sym, ◌∙◌, rules}
 use Rattle.std.proofs.lemmas.Result.{err_from_is_err_and}
 use Rattle.jxlm_bits.specs.Bits.{bytes_of, position_of}
-use Rattle.jxlm_tree.specs.declared.flat.Leaf.{Leaf}
+use Rattle.jxlm_ma_tree.specs.declared.leaf.Leaf.{Leaf}
 use Rattle.jxlm_tree.proofs.FlatTrees.{standing_leaf}
 use Rattle.jxlm_samples.specs.Inner.Cells.{source_of}
 use Rattle.jxlm_samples.proofs.cell.next_sample.Goals as goal

@@ -3,7 +3,7 @@ use Rattle.std.specs.Int.{Width}
 use Rattle.jxlm_bits.specs.Decoding.{Meaning}
 use Rattle.jxlm_tree.specs.Paths.{steps_on}
 use Rattle.jxlm_tree.specs.Tree.{Shape}
-use Rattle.jxlm_tree.specs.declared.flat.Leaf.{Leaf}
+use Rattle.jxlm_ma_tree.specs.declared.leaf.Leaf.{Leaf}
 use Rattle.jxlm_tree.specs.declared.paths.Path.{Path}
 use Rattle.jxlm_tree.specs.declared.paths.Path.TheVariants as path
 use Rattle.jxlm_predictor.specs.EarlierRows.{HoldRows}

@@ -2,7 +2,7 @@ use Rattle.std.proofs.Common.{◌≡◌, ◌<◌, ◌∙◌, inr, ap, subst, sym
 use Rattle.jxlm_tree.specs.ClusterTables.{in_cluster}
 use Rattle.jxlm_tree.specs.Paths.{IsPlainGradient, TakesGradientTable}
 use Rattle.jxlm_tree.specs.Tree.{Shape, StandsAtLeaf, leaf, decision, depth}
-use Rattle.jxlm_tree.specs.declared.flat.Leaf.{Leaf}
+use Rattle.jxlm_ma_tree.specs.declared.leaf.Leaf.{Leaf}
 use Rattle.jxlm_tree.proofs.FlatTrees.{standing_leaf}
 use Rattle.jxlm_tree.proofs.MostSteps.{tabular, tabular-leaf}
 use Rattle.jxlm_samples.specs.Reading.{IsLone, ReadsAlone}

@@ -1,5 +1,5 @@
 use Rattle.std.proofs.Common.{Contains, ◌∙◌}
-use Rattle.jxlm_tree.specs.declared.flat.Leaf.{Leaf}
+use Rattle.jxlm_ma_tree.specs.declared.leaf.Leaf.{Leaf}
 use Rattle.jxlm_tree.proofs.FlatTrees.{standing_leaf}
 use Rattle.jxlm_samples.specs.Reading.{tree_of}
 use Rattle.jxlm_samples.proofs.Decoding.{is_line}

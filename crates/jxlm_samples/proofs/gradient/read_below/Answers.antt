@@ -1,6 +1,6 @@
 use Rattle.std.proofs.Common.{rules, ◌≡◌, map, length, arith, refl}
 use Rattle.std.proofs.lemmas.List.{length-map}
-use Rattle.jxlm_samples.proofs.GradientCells.{below_ends, below_more, known_now, left_first, zero_sample}
+use Rattle.jxlm_samples.proofs.GradientCells.{below_ends, below_more, by_table, known_now, left_first, step_by_table, zero_sample}
 use Rattle.jxlm_samples.proofs.RowReads.{none_read}
 use Rattle.jxlm_samples.proofs.gradient.read_below.Goals as goal
 
@@ -13,7 +13,7 @@ pub read_varint_with_multiplier_clustered-requires : goal.read_varint_with_multi
 read_varint_with_multiplier_clustered-requires g c =
     let h = c.loop-x.invariant in
     let same = h.len in
-    known_now g.met.D.Decoder.lawful c.requires.leaves (omega (arith, same, c.loop-x-test.true)) h.below _ c.sample_above-n.ensures _ c.cluster_of-cluster.ensures.cluster
+    known_now g.met.D.Decoder.lawful c.requires.leaves (omega (arith, same, c.loop-x-test.true)) h.below _ c.sample_above-n.ensures _ (by_table _ _ _ _ c.in-Table.is (c.cluster_of-cluster.ensures.cluster _ c.entries-kept.ensures))
 
 pub loop-x-preserved : goal.loop-x-preserved
 loop-x-preserved g c =
@@ -21,7 +21,7 @@ loop-x-preserved g c =
     let same = h.len in
     record {
       len = search rules;
-      below = below_more g.met.D.Decoder.lawful c.requires.leaves (omega (arith, same, c.loop-x-test.true)) h.below _ c.sample_above-n.ensures _ c.cluster_of-cluster.ensures.cluster _ c.in-Ok.ensures.bytes c.cluster_of-cluster.ensures.cost
+      below = below_more g.met.D.Decoder.lawful c.requires.leaves (omega (arith, same, c.loop-x-test.true)) h.below _ c.sample_above-n.ensures _ (by_table _ _ _ _ c.in-Table.is (c.cluster_of-cluster.ensures.cluster _ c.entries-kept.ensures)) _ c.in-Ok.ensures.bytes (step_by_table _ _ _ _ c.in-Table.is c.cluster_of-cluster.ensures.cost)
           g.S.Sealed.from_int g.met.S.Sealed.to_int_from_int g.met.S.Sealed.wraps_after_i32 c.in-Ok.token _ _ _ _ c.in-Ok.ensures.gives c.unpack_signed_u32.ensures c.grad_clamped.ensures c.add-value.ensures (c.sample_again-nw.ensures _ c.sample_above-n.ensures);
     }
 
@@ -30,7 +30,7 @@ returns-in-Err g c =
     let h = c.loop-x.invariant in
     let same = h.len in
     let gives = c.in-Err.ensures.gives in
-    below_ends g.met.D.Decoder.lawful c.requires.leaves (omega (arith, same, c.loop-x-test.true)) h.below _ c.sample_above-n.ensures _ c.cluster_of-cluster.ensures.cluster _ c.in-Err.ensures.bytes c.cluster_of-cluster.ensures.cost c.in-Err.error gives.0 gives.2
+    below_ends g.met.D.Decoder.lawful c.requires.leaves (omega (arith, same, c.loop-x-test.true)) h.below _ c.sample_above-n.ensures _ (by_table _ _ _ _ c.in-Table.is (c.cluster_of-cluster.ensures.cluster _ c.entries-kept.ensures)) _ c.in-Err.ensures.bytes (step_by_table _ _ _ _ c.in-Table.is c.cluster_of-cluster.ensures.cost) c.in-Err.error gives.0 gives.2
 
 pub returns : goal.returns
 returns g c =

@@ -1,7 +1,7 @@
 use Rattle.std.proofs.Common.{◌∙◌, Contains, List, ℤ, arith, map, subst}
 use Rattle.jxlm_bits.specs.Bits.{bytes_of}
 use Rattle.jxlm_base.specs.Regions.{grid_of, store_meanings}
-use Rattle.jxlm_tree.specs.declared.flat.Leaf.{Leaf}
+use Rattle.jxlm_ma_tree.specs.declared.leaf.Leaf.{Leaf}
 use Rattle.jxlm_tree.proofs.FlatTrees.{standing_leaf}
 use Rattle.jxlm_samples.specs.Inner.LeafRows.{leaf_row_rule}
 use Rattle.jxlm_samples.specs.Inner.Paths.{row_above}

@@ -3,15 +3,16 @@ use Rattle.std.specs.Prelude.{is_some}
 use Rattle.std.specs.Prelude.{not}
 use Rattle.std.proofs.lemmas.Bool.{false≢true}
 use Rattle.std.proofs.lemmas.Int.{ints, to_z-of_z}
-use Rattle.jxlm_tree.specs.Tree.{decision, depth}
-use Rattle.jxlm_tree.specs.Inner.Marked.{IsMarked, marked_shape}
-use Rattle.jxlm_tree.specs.Inner.Pruned.{tabled, chosen, hanging}
+use Rattle.jxlm_ma_tree.specs.Tree.{decision, depth}
+use Rattle.jxlm_ma_tree.specs.Marked.{IsMarked, marked_shape}
+use Rattle.jxlm_ma_tree.specs.Cuts.{tabled}
+use Rattle.jxlm_tree.specs.Inner.Chosen.{chosen, hanging}
 use Rattle.jxlm_tree.specs.Inner.FlatNodes.{Compiles, IsTable}
 use Rattle.jxlm_tree.specs.declared.flat.FlatNode.TheVariants as node
-use Rattle.jxlm_tree.proofs.FlatCuts.{size_of}
 use Rattle.jxlm_tree.proofs.FlatWalks.{chosen-other}
 use Rattle.jxlm_tree.proofs.FlatNodes.{fill-end, compiles-table, compiles-fused, side-shared, hanging-other, table-facts, TableFacts}
-use Rattle.jxlm_tree.proofs.FlatCasts.{on_ok, less, not_less, splits-at, fills-left, fills-right, fills-both, side-named, side-split-at, fills-table, no_table, added, on_ok3}
+use Rattle.jxlm_tree.proofs.FlatCasts.{size_of, on_ok, splits-at, fills-left, fills-right, fills-both, side-named, side-split-at, fills-table, no_table, added, on_ok3}
+use Rattle.jxlm_ma_tree.proofs.Comparing.{less, not_less}
 use Rattle.jxlm_tree.proofs.compile.+compile.Goals.{fill-in-Leaf, fill-in-Decision+else-tested-property, compile_side-in-Leaf, compile_side-in-Decision+else-is_none}
 use Rattle.jxlm_tree.proofs.compile.+compile.Goals as goal
 

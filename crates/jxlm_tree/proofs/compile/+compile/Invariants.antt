@@ -1,7 +1,7 @@
 use Rattle.std.proofs.Common.{◌+◌, ◌*◌}
 use Rattle.jxlm_tree.specs.Inner.FlatShapes.{size}
-use Rattle.jxlm_tree.specs.Inner.Marked.{marked_shape}
-use Rattle.jxlm_tree.specs.Inner.Pruned.{hanging}
+use Rattle.jxlm_ma_tree.specs.Marked.{marked_shape}
+use Rattle.jxlm_tree.specs.Inner.Chosen.{hanging}
 use Rattle.jxlm_tree.proofs.compile.+compile.Given as goal
 
 abbrev pub decreases-compile : goal.decreases-compile

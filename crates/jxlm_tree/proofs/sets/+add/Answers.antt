@@ -1,11 +1,11 @@
 use Rattle.std.proofs.Common.{◌≡◌, ◌∙◌, ◌+◌, length, rules, ap, ap₂, sym, SFits, w32, to_z, of_z}
 use Rattle.std.proofs.lemmas.Int.{to_z-of_z}
 use Rattle.std.proofs.lemmas.List.{length-append}
-use Rattle.jxlm_tree.specs.Tree.{decision}
+use Rattle.jxlm_ma_tree.specs.Tree.{decision}
 use Rattle.jxlm_tree.specs.Inner.LeafSets.{leaves_of}
-use Rattle.jxlm_tree.specs.Inner.Pruned.{pruned}
-use Rattle.jxlm_tree.specs.Inner.TreeShape.{shape_of}
-use Rattle.jxlm_tree.specs.declared.tree.MaTreeNode.{MaTreeNode}
+use Rattle.jxlm_ma_tree.specs.Pruned.{pruned}
+use Rattle.jxlm_ma_tree.specs.TreeShape.{shape_of}
+use Rattle.jxlm_ma_tree.specs.declared.tree.MaTreeNode.{MaTreeNode}
 use Rattle.jxlm_tree.proofs.LeafSets.{add-both, here-is, room-left}
 use Rattle.jxlm_tree.proofs.sets.+add.Goals as goal
 

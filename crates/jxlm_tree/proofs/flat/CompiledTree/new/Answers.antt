@@ -6,7 +6,7 @@ use Rattle.std.proofs.lemmas.Iterator.{YieldsList-from_slice}
 use Rattle.std.proofs.lemmas.Iterator.Search.{any_from_yields_List}
 use Rattle.jxlm_tree.specs.Inner.FlatNodes.{most_channels, sees_error}
 use Rattle.jxlm_tree.specs.Inner.Tables.{TableAt}
-use Rattle.jxlm_tree.specs.Inner.TreeShape.{shape_of}
+use Rattle.jxlm_ma_tree.specs.TreeShape.{shape_of}
 use Rattle.jxlm_tree.specs.declared.flat.FlatNode.{FlatNode}
 use Rattle.jxlm_tree.proofs.FlatMade.{alike-up-to, known_by, marked-room, marked-of, compiles-as, ok_at, made_of, is_compiled}
 use Rattle.jxlm_tree.proofs.NextChannels.{ends-by}

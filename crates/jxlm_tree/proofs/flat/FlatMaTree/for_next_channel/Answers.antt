@@ -2,9 +2,9 @@ use Rattle.std.proofs.Common.{◌≡◌, ◌∙◌, ◌+◌, ◌<◌, ◌≤◌,
 use Rattle.jxlm_tree.specs.FlatTree.{FlatTree}
 use Rattle.jxlm_tree.specs.NextChannel.{next_alike}
 use Rattle.jxlm_tree.specs.Inner.Compiled.{IsCompiledFor}
-use Rattle.jxlm_tree.specs.Inner.TreeShape.{shape_of}
+use Rattle.jxlm_ma_tree.specs.TreeShape.{shape_of}
 use Rattle.jxlm_tree.specs.declared.flat.CompiledTree.{CompiledTree}
-use Rattle.jxlm_tree.specs.declared.tree.MaTree.{MaTree}
+use Rattle.jxlm_ma_tree.specs.declared.tree.MaTree.{MaTree}
 use Rattle.jxlm_tree.proofs.FlatShared.{serves-next}
 use Rattle.jxlm_tree.proofs.NextChannels.{goes-on}
 use Rattle.jxlm_tree.proofs.flat.FlatMaTree.for_next_channel.Goals.{then-self-deref-via-then-self-deref, then-self-deref-via-else-self-deref+then-self}

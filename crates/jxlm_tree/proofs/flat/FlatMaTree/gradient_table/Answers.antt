@@ -2,7 +2,7 @@ use Rattle.std.proofs.Common.{◌≡◌, ◌∙◌, Some, sym, ap, subst, rules}
 use Rattle.std.specs.Option.{option_map}
 use Rattle.std.specs.Rc.{rc_value}
 use Rattle.jxlm_tree.specs.Paths.{IsGradientTable, IsOnGradient}
-use Rattle.jxlm_tree.specs.Inner.TreeShape.{shape_of}
+use Rattle.jxlm_ma_tree.specs.TreeShape.{shape_of}
 use Rattle.jxlm_tree.proofs.FlatPaths.{table-here}
 use Rattle.jxlm_tree.proofs.GradientTables.{kept-table, table-step}
 use Rattle.jxlm_tree.proofs.flat.FlatMaTree.gradient_table.Goals as goal

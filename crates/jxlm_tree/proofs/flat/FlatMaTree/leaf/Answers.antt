@@ -1,6 +1,6 @@
 use Rattle.std.proofs.Common.{subst}
 use Rattle.jxlm_tree.specs.FlatTree.{FlatTree}
-use Rattle.jxlm_tree.specs.Inner.TreeShape.{shape_of}
+use Rattle.jxlm_ma_tree.specs.TreeShape.{shape_of}
 use Rattle.jxlm_tree.proofs.FlatSteps.{Went, went}
 use Rattle.jxlm_tree.proofs.flat.FlatMaTree.leaf.Goals as goal
 

@@ -1,7 +1,7 @@
 use Rattle.std.proofs.Common.{◌≤◌, subst, sym}
 use Rattle.jxlm_tree.specs.FlatTree.{FlatTree, NamesEarlier, ReadsEarlierBelow}
 use Rattle.jxlm_tree.specs.Inner.Compiled.{IsCompiledFor}
-use Rattle.jxlm_tree.specs.Inner.TreeShape.{shape_of}
+use Rattle.jxlm_ma_tree.specs.TreeShape.{shape_of}
 use Rattle.jxlm_tree.proofs.FlatAsks.{names, reads_below, there}
 use Rattle.jxlm_tree.proofs.flat.FlatMaTree.max_prev_channel_depth.Goals as goal
 

@@ -1,7 +1,7 @@
 use Rattle.std.proofs.Common.{◌≡◌, true, subst, sym}
 use Rattle.jxlm_tree.specs.FlatTree.{FlatTree, GoesWithoutWeights, needs_weights}
 use Rattle.jxlm_tree.specs.Inner.Compiled.{IsCompiledFor}
-use Rattle.jxlm_tree.specs.Inner.TreeShape.{shape_of}
+use Rattle.jxlm_ma_tree.specs.TreeShape.{shape_of}
 use Rattle.jxlm_tree.proofs.FlatAsks.{goes_without, needs_only}
 use Rattle.jxlm_tree.proofs.flat.FlatMaTree.need_self_correcting.Goals as goal
 

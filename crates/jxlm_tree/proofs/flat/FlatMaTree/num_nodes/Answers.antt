@@ -1,8 +1,8 @@
 use Rattle.std.proofs.Common.{ap, arith, vec_len}
 use Rattle.jxlm_tree.specs.CompiledNodes.{flat_nodes, takes}
 use Rattle.jxlm_tree.specs.FlatTree.{FlatTree, flat_tree}
-use Rattle.jxlm_tree.specs.Tree.{node_count}
-use Rattle.jxlm_tree.specs.Inner.TreeShape.{shape_of}
+use Rattle.jxlm_ma_tree.specs.Tree.{node_count}
+use Rattle.jxlm_ma_tree.specs.TreeShape.{shape_of}
 use Rattle.jxlm_tree.specs.declared.flat.CompiledTree.{CompiledTree}
 use Rattle.jxlm_tree.proofs.FlatCounts.{undecided-is}
 use Rattle.jxlm_tree.proofs.FlatMade.{size-is}

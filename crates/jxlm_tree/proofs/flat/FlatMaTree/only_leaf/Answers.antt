@@ -1,4 +1,4 @@
-use Rattle.jxlm_tree.specs.Inner.TreeShape.{shape_of}
+use Rattle.jxlm_ma_tree.specs.TreeShape.{shape_of}
 use Rattle.jxlm_tree.proofs.FlatPaths.{leaf-here}
 use Rattle.jxlm_tree.proofs.PathSteps.{decision-here}
 use Rattle.jxlm_tree.proofs.flat.FlatMaTree.only_leaf.Goals as goal

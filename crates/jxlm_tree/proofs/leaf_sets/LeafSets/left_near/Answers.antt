@@ -1,39 +1,15 @@
-use Rattle.std.proofs.Common.{◌≡◌, ◌∙◌, ◌<◌, ◌+◌, ℕ, ℤ, List, ap, ◌∷◌, [], arith, get_or, rules, SFits, w32, to_z, of_z}
-use Rattle.std.specs.Prelude.{neg_ℤ, pos, slice_index}
-use Rattle.std.proofs.lemmas.Int.{to_z-of_z}
-use Rattle.jxlm_tree.specs.ClusterTables.{slot}
-use Rattle.jxlm_tree.proofs.LeafBits.{each-of-seven, slot-below}
+use Rattle.std.proofs.Common.{get_or, rules, SFits, w32}
+use Rattle.std.specs.Prelude.{pos}
+use Rattle.jxlm_tree.proofs.LeafBits.{FitSeven, each-of-seven, entries-of-seven, within-of-seven}
 use Rattle.jxlm_tree.proofs.leaf_sets.LeafSets.left_near.Goals as goal
 
 pub left_at-requires : goal.left_at-requires
 left_at-requires c =
-    let vs = c.args.values.now in
-    each-of-seven (λ k. slice_index (c.near_entry.result ∷ c.near_entry-2.result ∷ c.near_entry-3.result ∷ c.near_entry-4.result ∷ c.near_entry-5.result ∷ c.near_entry-6.result ∷ c.near_entry-7.result ∷ []) k < 2048)
-    (slot-below c.near_entry.result (to_z w32 (of_z w32 (get_or vs 0 (pos 0)))) c.near_entry.ensures)
-    (slot-below c.near_entry-2.result (to_z w32 (of_z w32 (get_or vs 1 (pos 0)))) c.near_entry-2.ensures)
-    (slot-below c.near_entry-3.result (to_z w32 (of_z w32 (get_or vs 2 (pos 0)))) c.near_entry-3.ensures)
-    (slot-below c.near_entry-4.result (to_z w32 (of_z w32 (get_or vs 3 (pos 0)))) c.near_entry-4.ensures)
-    (slot-below c.near_entry-5.result (to_z w32 (of_z w32 (get_or vs 4 (pos 0)))) c.near_entry-5.ensures)
-    (slot-below c.near_entry-6.result (to_z w32 (of_z w32 (get_or vs 5 (pos 0)))) c.near_entry-6.ensures)
-    (slot-below c.near_entry-7.result (to_z w32 (of_z w32 (get_or vs 6 (pos 0)))) c.near_entry-7.ensures)
+    within-of-seven c.args.values.now _ _ _ _ _ _ _ c.near_entry.ensures c.near_entry-2.ensures c.near_entry-3.ensures c.near_entry-4.ensures c.near_entry-5.ensures c.near_entry-6.ensures c.near_entry-7.ensures
 
 pub returns-clause-left : goal.returns-clause-left
 returns-clause-left c = λ f are i.
     let vs = c.args.values.now in
-    let slot_of : ℤ → ℕ = slot (neg_ℤ (pos 1024)) 2047 in
-    let fits0 : SFits w32 (get_or vs 0 (pos 0)) = search rules in
-    let fits1 : SFits w32 (get_or vs 1 (pos 0)) = search rules in
-    let fits2 : SFits w32 (get_or vs 2 (pos 0)) = search rules in
-    let fits3 : SFits w32 (get_or vs 3 (pos 0)) = search rules in
-    let fits4 : SFits w32 (get_or vs 4 (pos 0)) = search rules in
-    let fits5 : SFits w32 (get_or vs 5 (pos 0)) = search rules in
-    let fits6 : SFits w32 (get_or vs 6 (pos 0)) = search rules in
-    let entries : List ℕ = c.near_entry.result ∷ c.near_entry-2.result ∷ c.near_entry-3.result ∷ c.near_entry-4.result ∷ c.near_entry-5.result ∷ c.near_entry-6.result ∷ c.near_entry-7.result ∷ [] in
-    c.left_at.ensures.left f (each-of-seven (λ k. slice_index entries k ≡ slot (neg_ℤ (pos 1024)) 2047 (f (9 + k)))
-    (c.near_entry.ensures ∙ ap slot_of (to_z-of_z w32 (get_or vs 0 (pos 0)) fits0 ∙ are 0 (omega arith)))
-    (c.near_entry-2.ensures ∙ ap slot_of (to_z-of_z w32 (get_or vs 1 (pos 0)) fits1 ∙ are 1 (omega arith)))
-    (c.near_entry-3.ensures ∙ ap slot_of (to_z-of_z w32 (get_or vs 2 (pos 0)) fits2 ∙ are 2 (omega arith)))
-    (c.near_entry-4.ensures ∙ ap slot_of (to_z-of_z w32 (get_or vs 3 (pos 0)) fits3 ∙ are 3 (omega arith)))
-    (c.near_entry-5.ensures ∙ ap slot_of (to_z-of_z w32 (get_or vs 4 (pos 0)) fits4 ∙ are 4 (omega arith)))
-    (c.near_entry-6.ensures ∙ ap slot_of (to_z-of_z w32 (get_or vs 5 (pos 0)) fits5 ∙ are 5 (omega arith)))
-    (c.near_entry-7.ensures ∙ ap slot_of (to_z-of_z w32 (get_or vs 6 (pos 0)) fits6 ∙ are 6 (omega arith)))) i
+    let fits : FitSeven vs = each-of-seven (λ k. SFits w32 (get_or vs k (pos 0))) (search rules) (search rules) (search rules) (search rules) (search rules) (search rules) (search rules) in
+    c.left_at.ensures.left f
+    (entries-of-seven vs f _ _ _ _ _ _ _ fits are c.near_entry.ensures c.near_entry-2.ensures c.near_entry-3.ensures c.near_entry-4.ensures c.near_entry-5.ensures c.near_entry-6.ensures c.near_entry-7.ensures) i

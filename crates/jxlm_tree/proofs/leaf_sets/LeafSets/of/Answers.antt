@@ -2,10 +2,10 @@ use Rattle.std.proofs.Common.{◌≡◌, ◌∙◌, ◌++◌, ℕ, ◌-◌, List
 use Rattle.std.specs.Prelude.{◌&&◌, Bool, not}
 use Rattle.std.proofs.lemmas.List.{length-replicate}
 use Rattle.jxlm_tree.specs.Inner.LeafSets.{leaves_of, rules_out}
-use Rattle.jxlm_tree.specs.Inner.Pruned.{pruned}
-use Rattle.jxlm_tree.specs.Inner.TreeShape.{shape_of}
+use Rattle.jxlm_ma_tree.specs.Pruned.{pruned}
+use Rattle.jxlm_ma_tree.specs.TreeShape.{shape_of}
 use Rattle.jxlm_tree.specs.SetTables.{stays}
-use Rattle.jxlm_tree.specs.declared.flat.Leaf.{Leaf}
+use Rattle.jxlm_ma_tree.specs.declared.leaf.Leaf.{Leaf}
 use Rattle.jxlm_tree.proofs.LeafBits.{stays-of-all, written-back}
 use Rattle.jxlm_tree.proofs.LeafSets.{are-made, last-stays, some-leaves}
 use Rattle.jxlm_tree.proofs.leaf_sets.LeafSets.of.Goals as goal

@@ -1,13 +1,13 @@
 use Rattle.std.proofs.Common.{◌≡◌, ◌≤◌, IfSome, rules, sym, subst, arith}
 use Rattle.jxlm_tree.specs.FlatTree.{HasMultiplier}
-use Rattle.jxlm_tree.specs.Inner.FlatShapes.{earlier_named}
-use Rattle.jxlm_tree.specs.Tree.{AllLeaves}
-use Rattle.jxlm_tree.specs.TreeReading.{IsLeafOf}
+use Rattle.jxlm_ma_tree.specs.EarlierChannels.{earlier_named}
+use Rattle.jxlm_ma_tree.specs.Tree.{AllLeaves}
+use Rattle.jxlm_ma_tree.specs.TreeReading.{IsLeafOf}
 use Rattle.jxlm_tree.specs.Inner.Compiled.{IsCompiledFor, ServesAnywhere}
-use Rattle.jxlm_tree.specs.Inner.TreeShape.{shape_of}
-use Rattle.jxlm_tree.specs.Tree.{Config}
-use Rattle.jxlm_tree.specs.declared.flat.Leaf.{Leaf}
-use Rattle.jxlm_tree.specs.declared.tree.MaTree.{MaTree}
+use Rattle.jxlm_ma_tree.specs.TreeShape.{shape_of}
+use Rattle.jxlm_ma_tree.specs.Tree.{Config}
+use Rattle.jxlm_ma_tree.specs.declared.leaf.Leaf.{Leaf}
+use Rattle.jxlm_ma_tree.specs.declared.tree.MaTree.{MaTree}
 use Rattle.jxlm_tree.proofs.FlatShared.{serves-here}
 use Rattle.jxlm_tree.proofs.FlatTrees.{each_leaf}
 use Rattle.jxlm_tree.proofs.ma.MaConfig.compiled_for.Goals as goal

@@ -1,9 +1,9 @@
 use Rattle.std.proofs.Common.{◌≡◌, rules}
 use Rattle.std.specs.Prelude.{Contains}
 use Rattle.jxlm_tree.specs.FlatTree.{ClustersStandIn}
-use Rattle.jxlm_tree.specs.TreeReading.{IsLeafOf}
-use Rattle.jxlm_tree.specs.Inner.TreeShape.{shape_of}
-use Rattle.jxlm_tree.specs.declared.flat.Leaf.{Leaf}
+use Rattle.jxlm_ma_tree.specs.TreeReading.{IsLeafOf}
+use Rattle.jxlm_ma_tree.specs.TreeShape.{shape_of}
+use Rattle.jxlm_ma_tree.specs.declared.leaf.Leaf.{Leaf}
 use Rattle.jxlm_tree.proofs.FlatTrees.{each_leaf}
 use Rattle.jxlm_tree.proofs.ma.MaConfig.make_flat_tree.Goals as goal
 

@@ -1,27 +1,11 @@
-use Rattle.std.proofs.Common.{◌≡◌, Ok, map, rules}
-use Rattle.jxlm_bits.specs.Bits.{bytes_of, position_of}
-use Rattle.jxlm_bits.specs.ErrorKind.{kind_of}
-use Rattle.jxlm_tree.specs.Inner.DraftReading.{node_of}
-use Rattle.jxlm_tree.specs.TreeReading.{listing_at, with_clusters}
 use Rattle.jxlm_tree.specs.FlatTree.{HasMultiplier}
-use Rattle.jxlm_tree.specs.TreeReading.{IsLeafOf}
-use Rattle.jxlm_tree.specs.Inner.TreeShape.{shape_of}
-use Rattle.jxlm_tree.specs.declared.flat.Leaf.{Leaf}
+use Rattle.jxlm_ma_tree.specs.TreeReading.{IsLeafOf}
+use Rattle.jxlm_ma_tree.specs.TreeShape.{shape_of}
+use Rattle.jxlm_ma_tree.specs.declared.leaf.Leaf.{Leaf}
 use Rattle.jxlm_tree.proofs.FlatTrees.{each_leaf}
-use Rattle.jxlm_tree.proofs.Reading.{too_deep_is_error}
 use Rattle.jxlm_tree.proofs.ma.MaConfig.parse.Goals as goal
-
-pub returns-in_err-tree-clause-gives : goal.returns-in_err-tree-clause-gives
-unfolding listing_at
-returns-in_err-tree-clause-gives g c =
-    let d = g.D.Decoder.meaning in
-    let decoder = c.in_ok-decoder.decoder in
-    let nodes = with_clusters (d.cluster_map decoder) 0 (map node_of c.in_ok-nodes.nodes.items) in
-    let reads : listing_at d (bytes_of c.args.bits.now) c.args.params.node_limit (position_of c.args.bits.now) ≡ Ok (record { value = nodes; state = decoder; position = position_of c.parse_decoder-2.new.bits }) = search rules in
-    let deep = rw c.cluster_map.ensures at c.in_err-tree.ensures.err in
-    let fact = too_deep_is_error d (bytes_of c.args.bits.now) c.args.params.node_limit c.args.params.depth_limit (position_of c.args.bits.now) nodes decoder (position_of c.parse_decoder-2.new.bits) (kind_of c.in_err-tree.field-0.0) reads deep in
-    search rules
 
 pub anywhere-requires-clause-multipliers : goal.anywhere-requires-clause-multipliers
 anywhere-requires-clause-multipliers g c =
-    each_leaf {P = IsLeafOf c.cluster_map.result.now} {Q = HasMultiplier} (λ (l : Leaf) (h : IsLeafOf c.cluster_map.result.now l). (h.least, h.below)) (shape_of c.in_ok-tree.tree.root) c.in_ok-tree.ensures.leaves
+    let clusters = g.D.Decoder.meaning.cluster_map c.in_ok-parsed.parsed.decoder in
+    each_leaf {P = IsLeafOf clusters} {Q = HasMultiplier} (λ (l : Leaf) (h : IsLeafOf clusters l). (h.least, h.below)) (shape_of c.in_ok-parsed.parsed.tree.root) c.in_ok-parsed.ensures.leaves

@@ -1,7 +1,7 @@
 use Rattle.std.proofs.Common.{◌≡◌, ◌∙◌, ℤ, sym, ap, subst, w32, SFits, rules, arith}
 use Rattle.std.proofs.lemmas.Int.{ints, to_z-of_z}
 use Rattle.jxlm_tree.specs.ClusterTables.{Clusters, IsTableOf, clusters_of, table_leaf}
-use Rattle.jxlm_tree.specs.Tree.{StandsAtLeaf}
+use Rattle.jxlm_ma_tree.specs.Tree.{StandsAtLeaf}
 use Rattle.jxlm_tree.proofs.ClusterTables.{looked_up, table-reaches}
 use Rattle.jxlm_tree.proofs.paths.ClusterTable.leaf_by.Goals as goal
 

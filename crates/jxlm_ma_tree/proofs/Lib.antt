@@ -1,0 +1,12 @@
+pub mod Accumulated
+pub mod Comparing
+pub mod CutLists
+pub mod EndingAlike
+pub mod Listing
+pub mod Memory
+pub mod Multipliers
+pub mod Queues
+pub mod Reading
+pub mod Shapes
+pub mod StepErrors
+pub mod TreeStanding

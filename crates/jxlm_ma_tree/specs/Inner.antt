@@ -1,0 +1,4 @@
+pub mod Ascending
+pub mod Building
+pub mod DraftReading
+pub mod Queue

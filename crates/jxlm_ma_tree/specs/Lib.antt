@@ -1,0 +1,12 @@
+pub mod Cuts
+pub mod EarlierChannels
+pub mod Marked
+pub mod Parsing
+pub mod Pruned
+pub mod TakenAlike
+pub mod Tree
+pub mod TreeCode
+pub mod TreeReading
+pub mod TreeShape
+pub mod TreeStands
+pub mod Inner

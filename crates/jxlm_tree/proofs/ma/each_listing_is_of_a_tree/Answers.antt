@@ -1,5 +1,0 @@
-use Rattle.jxlm_tree.proofs.Reading.{listing_of_tree}
-use Rattle.jxlm_tree.proofs.ma.each_listing_is_of_a_tree.Goals as goal
-
-pub returns : goal.returns
-returns c s = λ bytes node_limit p x h. listing_of_tree _ bytes node_limit p x h

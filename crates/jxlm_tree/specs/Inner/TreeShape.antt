@@ -1,9 +1,0 @@
--- The tree that the program's nodes make.
-use Rattle.jxlm_tree.specs.Tree.{Shape, leaf, decision}
-use Rattle.jxlm_tree.specs.declared.flat.Leaf.{Leaf as LeafFields}
-use Rattle.jxlm_tree.specs.declared.tree.MaTreeNode.{MaTreeNode, Leaf, Decision'}
-
--- boxes left out
-abbrev pub shape_of : MaTreeNode → Shape LeafFields
-shape_of (Leaf l) = leaf l
-shape_of (Decision' property value p left q right) = decision property value (shape_of left) (shape_of right)
