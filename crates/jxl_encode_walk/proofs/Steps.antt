@@ -1,5 +1,5 @@
 -- Steps of walks over the samples of a part of a channel.
-use Rattle.std.proofs.Common.{◌≡◌, ◌<◌, ◌≤◌, ◌+◌, ◌-◌, ◌^◌, ◌++◌, ◌∷◌, [], arith, ℕ, ℤ, List, Option, refl, length, subst, sym, ◌∙◌, to_z, of_z, FitsSigned, Bool, true, false, Some}
+use Rattle.std.proofs.Common.{◌≡◌, ◌<◌, ◌-◌, ◌++◌, ◌∷◌, [], arith, ℕ, ℤ, List, Option, refl, length, subst, sym, ◌∙◌, to_z, of_z, FitsSigned, Bool, true, false, Some}
 use Rattle.std.proofs.Math.Nat.{div-le_self}
 use Rattle.std.proofs.lemmas.Int.{to_z-of_z}
 use Rattle.std.proofs.lemmas.List.{length-append}
@@ -24,11 +24,13 @@ is_ready state left store at = record {
 }
 
 -- the walk takes a sample where its state does, and one sample fewer is left
-pub takes_one : (state now next : PredictorState ℤ) (left : ℕ) (sample : ℤ) → 0 < left → now ≡ state → ((s : Setting) (samples : List ℤ) → StandsAt now s samples → StandsAt next s (samples ++ sample ∷ [])) → Takes (progress state left) (progress next (left - 1)) sample
-takes_one state now next left sample some same goes = λ weights width samples at. record {
-  stands = goes (setting width weights []) samples (subst (λ s. StandsAt s (setting width weights []) samples) (sym same) at.stands);
-  count = let n = length-append samples (sample ∷ []) in let few = at.count in omega (arith, n, few, some);
-}
+pub takes_one : (state now next : PredictorState ℤ) (left : ℕ) (sample stored : ℤ) → 0 < left → now ≡ state → stored ≡ sample → ((s : Setting) (samples : List ℤ) → StandsAt now s samples → StandsAt next s (samples ++ stored ∷ [])) → Takes (progress state left) (progress next (left - 1)) sample
+takes_one state now next left sample stored some same is goes = λ weights width samples at.
+    let after = goes (setting width weights []) samples (subst (λ s. StandsAt s (setting width weights []) samples) (sym same) at.stands) in
+    record {
+      stands = subst (λ z. StandsAt next (setting width weights []) (samples ++ z ∷ [])) is after;
+      count = let n = length-append samples (sample ∷ []) in let few = at.count in omega (arith, n, few, some);
+    }
 
 -- a walk goes on
 pub goes_on : (old new : Progress) (sample : ℤ) → Takes old new sample → IsUnderway old → IsUnderway new

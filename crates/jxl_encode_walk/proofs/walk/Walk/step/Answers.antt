@@ -1,4 +1,6 @@
 use Rattle.std.proofs.Common.{[], arith, refl, rules, subst, sym}
+use Rattle.std.proofs.lemmas.Int.{to_z-of_z}
+use Rattle.std.specs.Int.{w32}
 use Rattle.jxlm_predictor.specs.Standing.{StandsAt, setting}
 use Rattle.jxl_encode_walk.specs.Walks.{IsAfter}
 use Rattle.jxl_encode_walk.proofs.Steps.{entry, goes_on, is_ready, kept, takes_one}
@@ -9,7 +11,7 @@ properties-properties-requires-clause-ready c = is_ready _ _ _ c.self.invariant
 
 pub invariant_of-self : goal.invariant_of-self
 invariant_of-self c =
-    goes_on _ _ _ (takes_one _ _ _ _ _ (omega (arith, c.if-self-eq0.false)) c.properties-properties.ensures.unchanged c.record.ensures.stands) c.self.invariant
+    goes_on _ _ c.args.sample (takes_one _ _ _ _ _ _ (omega (arith, c.if-self-eq0.false)) c.properties-properties.ensures.unchanged (to_z-of_z w32 c.args.sample c.ranges.sample) c.record.ensures.stands) c.self.invariant
 
 pub returns-clause-near : goal.returns-clause-near
 returns-clause-near c = λ some weights width samples at.
@@ -29,4 +31,4 @@ returns-clause-near c = λ some weights width samples at.
 pub returns-clause-takes : goal.returns-clause-takes
 returns-clause-takes c = λ some weights width samples at.
     let old = subst (λ walk. IsAfter walk weights width samples) (sym c.self.view_is) at in
-    takes_one c.self.inside.state _ _ c.self.inside.left c.args.sample (omega (arith, c.if-self-eq0.false)) c.properties-properties.ensures.unchanged c.record.ensures.stands weights width samples old
+    takes_one c.self.inside.state _ _ c.self.inside.left c.args.sample _ (omega (arith, c.if-self-eq0.false)) c.properties-properties.ensures.unchanged (to_z-of_z w32 c.args.sample c.ranges.sample) c.record.ensures.stands weights width samples old
