@@ -1,1 +1,1 @@
-pub mod Walks
+pub mod Underway

@@ -1,8 +1,10 @@
 //! Walks over the samples of a part of a channel, by the state of the predictors.
 
-ghost use Rattle.std.specs.Prelude.{ℕ};
-ghost use Rattle.jxlm_predictor.specs.Holding.{IsCurrent};
-ghost use Rattle.jxl_encode_walk.specs.Inner.Walks.{IsAlone};
+ghost use Rattle.std.specs.Prelude.{◌≡◌, ◌<◌, ◌≤◌, ℤ, List, [], Ok, None, IfOk, IsSomeAnd, map};
+ghost use Rattle.jxlm_predictor.specs.Holding.{IsCurrent, state_of};
+ghost use Rattle.jxlm_predictor.specs.Predictions.{prediction, predictors};
+ghost use Rattle.jxlm_predictor.specs.Standing.{Setting, StandsAt};
+ghost use Rattle.jxl_encode_walk.specs.Walks.{IsAfter, IsAroundOf, IsNearOf, Takes, weights_by};
 
 use jxlm_base::grid::OutOfMemory;
 use jxlm_predictor::predictor::{Predictor, PredictorState, Properties, WpHeader};
@@ -32,25 +34,31 @@ pub struct Surroundings {
     pub predicted: [i32; 14],
 }
 
-/// A walk over the samples of a part of a channel. Contracts see how many samples there may be yet.
+/// A walk over the samples of a part of a channel. Contracts see the state of the predictors, and the number of samples
+/// that the walk may take yet.
 #[derive(Drop)]
 pub struct Walk {
     state: PredictorState<i32>,
-    // How many samples there may be yet.
+    // The number of samples that it may take yet.
     left: u32,
 }
 
 impl Model for Walk {
-    ghost Value = { ℕ };
+    ghost use Rattle.jxl_encode_walk.specs.Inner.Underway.{IsUnderway};
+    ghost use Rattle.jxl_encode_walk.specs.Walks.{Progress, progress};
 
-    ghost view = { λ w. w.left };
+    ghost Value = { Progress };
 
-    ghost invariant = { λ w. IsAlone w.state w.left };
+    ghost view = { λ w. progress w.state w.left };
+
+    ghost invariant = { λ w. IsUnderway (progress w.state w.left) };
 }
 
 /// What each predictor makes of a sample, in the order of their numbers.
 fn predictions_of(properties: &Properties<'_, i32>) -> [i32; 14]
     requires { IsCurrent properties.now }
+    ensures { (s : Setting) (samples : List ℤ) → StandsAt (state_of properties.now) s samples → result
+        ≡ map (prediction s.weights samples s.width) predictors }
 {
     [
         Predictor::Zero.predict(properties),
@@ -70,17 +78,32 @@ fn predictions_of(properties: &Properties<'_, i32>) -> [i32; 14]
     ]
 }
 
+/// The default weights if `weighted`, or none.
+fn weights_if(weighted: bool) -> Option<WpHeader>
+    ensures { result ≡ weights_by weighted }
+{
+    if weighted {
+        Some(WpHeader::default())
+    } else {
+        None
+    }
+}
+
 impl Walk {
     /// At the first sample of a part of this width, with the weighted predictor if `weighted` says so: else it predicts 0
-    /// for each sample, and its errors are 0. None, if the width is not one of a group.
-    pub fn new(alloc: Global, width: u32, weighted: bool) -> Result<Option<Walk>, OutOfMemory> {
+    /// for each sample, and its errors are 0. None, if the width is not one of a group: 0, or above 1,024.
+    pub fn new(alloc: Global, width: u32, weighted: bool) -> Result<Option<Walk>, OutOfMemory>
+        ensures empty { width ≡ 0 → result ≡ Ok None }
+        ensures wide { 1024 < width → result ≡ Ok None }
+        ensures begins { 0 < width → width ≤ 1024 → IfOk result (λ found. IsSomeAnd found
+            (λ walk. IsAfter walk (weights_by weighted) width [])) }
+    {
         if width == 0 || width > 1024 {
             return Ok(None);
         }
-        let weights = WpHeader::default();
-        let used = if weighted { Some(&weights) } else { None };
+        let weights = weights_if(weighted);
         let mut state = PredictorState::new(alloc);
-        match state.reset(width, &[], used) {
+        match state.reset(width, &[], weights.as_ref()) {
             Ok(()) => Ok(Some(Walk {
                 state,
                 left: MAX_CELLS,
@@ -89,8 +112,13 @@ impl Walk {
         }
     }
 
-    /// What is known of the next sample, which is this one; none behind the last.
-    pub fn step(&mut self, sample: i32) -> Option<Near> {
+    /// What is known of the next sample, which is this one; None after 65,536 samples.
+    pub fn step(&mut self, sample: i32) -> Option<Near>
+        ensures none { self.old.left ≡ 0 → result ≡ None }
+        ensures still { self.old.left ≡ 0 → self.new ≡ self.old }
+        ensures near { 0 < self.old.left → IsSomeAnd result (λ near. IsNearOf self.old near) }
+        ensures takes { 0 < self.old.left → Takes self.old self.new sample }
+    {
         if self.left == 0 {
             return None;
         }
@@ -109,7 +137,12 @@ impl Walk {
     }
 
     /// The same with all properties and predictors.
-    pub fn step_with_all(&mut self, sample: i32) -> Option<Surroundings> {
+    pub fn step_with_all(&mut self, sample: i32) -> Option<Surroundings>
+        ensures none { self.old.left ≡ 0 → result ≡ None }
+        ensures still { self.old.left ≡ 0 → self.new ≡ self.old }
+        ensures around { 0 < self.old.left → IsSomeAnd result (λ around. IsAroundOf self.old around) }
+        ensures takes { 0 < self.old.left → Takes self.old self.new sample }
+    {
         if self.left == 0 {
             return None;
         }

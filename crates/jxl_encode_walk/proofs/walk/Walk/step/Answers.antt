@@ -1,11 +1,34 @@
-use Rattle.std.proofs.Common.{arith, subst, sym}
-use Rattle.jxlm_predictor.specs.Standing.{StandsAt}
-use Rattle.jxl_encode_walk.proofs.Cells.{one_more}
+use Rattle.std.proofs.Common.{[], arith, refl, rules, subst, sym}
+use Rattle.std.proofs.lemmas.Int.{to_z-of_z}
+use Rattle.std.specs.Int.{w32}
+use Rattle.jxlm_predictor.specs.Standing.{StandsAt, setting}
+use Rattle.jxl_encode_walk.specs.Walks.{IsAfter}
+use Rattle.jxl_encode_walk.proofs.Steps.{entry, goes_on, is_ready, kept, takes_one}
 use Rattle.jxl_encode_walk.proofs.walk.Walk.step.Goals as goal
 
--- src/walk.rt:59:5
+pub properties-properties-requires-clause-ready : goal.properties-properties-requires-clause-ready
+properties-properties-requires-clause-ready c = is_ready _ _ _ c.self.invariant
+
 pub invariant_of-self : goal.invariant_of-self
 invariant_of-self c =
-    let at = c.self.invariant in
-    let ready = subst (λ state. StandsAt state at.where_set at.before) (sym c.properties-properties.ensures.unchanged) at.stands in
-    one_more _ _ _ _ (omega (arith, c.if-self-eq0.false)) at (c.record.ensures.stands at.where_set at.before ready)
+    goes_on _ _ c.args.sample (takes_one _ _ _ _ _ _ (omega (arith, c.if-self-eq0.false)) c.properties-properties.ensures.unchanged (to_z-of_z w32 c.args.sample c.ranges.sample) c.record.ensures.stands) c.self.invariant
+
+pub returns-clause-near : goal.returns-clause-near
+returns-clause-near c = λ some weights width samples at.
+    let old = subst (λ walk. IsAfter walk weights width samples) (sym c.self.view_is) at in
+    let ready = subst (λ state. StandsAt state (setting width weights []) samples) (sym c.properties-properties.ensures.unchanged) old.stands in
+    record {
+      error = kept c.get.result _ (search rules) (c.get.ensures (setting width weights []) samples ready);
+      slopes =
+          entry c.get-2.result _ _ _ (search rules) (c.get-2.ensures (setting width weights []) samples ready)
+          (entry c.get-3.result _ _ _ (search rules) (c.get-3.ensures (setting width weights []) samples ready)
+          (entry c.get-4.result _ _ _ (search rules) (c.get-4.ensures (setting width weights []) samples ready) refl));
+      predicted =
+          entry c.predict.result _ _ _ (search rules) (c.predict.ensures (setting width weights []) samples ready)
+          (entry c.predict-2.result _ _ _ (search rules) (c.predict-2.ensures (setting width weights []) samples ready) refl);
+    }
+
+pub returns-clause-takes : goal.returns-clause-takes
+returns-clause-takes c = λ some weights width samples at.
+    let old = subst (λ walk. IsAfter walk weights width samples) (sym c.self.view_is) at in
+    takes_one c.self.inside.state _ _ c.self.inside.left c.args.sample _ (omega (arith, c.if-self-eq0.false)) c.properties-properties.ensures.unchanged (to_z-of_z w32 c.args.sample c.ranges.sample) c.record.ensures.stands weights width samples old
