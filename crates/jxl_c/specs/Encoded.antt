@@ -6,8 +6,8 @@ use Rattle.jxl_picture.specs.Pictures.{IsWhole}
 use Rattle.jxl_picture.specs.declared.picture.Picture.{Picture}
 use Rattle.jxl_encode.specs.Codable.{IsCodable}
 use Rattle.jxl_encode.specs.Files.{IsFileOf}
-use Rattle.jxl_encode.specs.declared.effort.Effort.{Effort}
-use Rattle.jxl_encode.specs.declared.effort.Effort.TheVariants.{Fast, Usual, Best}
+use Rattle.jxl_encode_ways.specs.declared.effort.Effort.{Effort}
+use Rattle.jxl_encode_ways.specs.declared.effort.Effort.TheVariants.{Fast, Usual, Best}
 use Rattle.jxl_c_picture.specs.Cells.{cells_of_all}
 use Rattle.jxl_c_picture.specs.Channels.{sample_count}
 use Rattle.jxl_c_picture.specs.Described.{IsDescribed}

@@ -1,8 +1,6 @@
 //! The channels of a picture, as an encoder of a frame is given them.
 
 ghost use Rattle.std.specs.Prelude.{◌≡◌, ◌≤◌, ◌^◌, ◌++◌, IfOk, None, length, map, replicate};
-ghost use Rattle.std.specs.List.{All};
-ghost use Rattle.jxlm_base.specs.Grid.{IsFull};
 ghost use Rattle.jxlm_transform.specs.Params.{channel_params, with_sums, with_tables};
 ghost use Rattle.jxlm_transform.specs.declared.param.ChannelShift.TheVariants.{Shifts};
 ghost use Rattle.jxlm_transform.specs.declared.param.GradientSums.TheVariants.{Clamped};
@@ -13,7 +11,7 @@ ghost use Rattle.jxl_encode.specs.Inner.Frames.{AreGiven, in_file};
 use jxl_image_header::image::ImageHeader;
 use jxl_image_header::size::Size;
 use jxl_picture::picture::colours;
-use jxlm_base::grid::{AlignedGrid, OutOfMemory};
+use jxlm_base::grid::OutOfMemory;
 use jxlm_transform::param::{ChannelShift, GradientSums, ModularChannelParams, PaletteTables};
 use std::alloc::Global;
 
@@ -42,28 +40,4 @@ pub(crate) fn channels_of(
         list.push(channel_of(header.size, channel.dim_shift))?;
     }
     Ok(list)
-}
-
-/// The same grid.
-fn copy_of(alloc: Global, grid: &AlignedGrid<i32>) -> Result<AlignedGrid<i32>, OutOfMemory>
-    ensures same { IfOk result (λ g. g ≡ grid.now) }
-    ensures full { IsFull grid.now }
-{
-    let _cells = grid.buf();
-    grid.try_clone(alloc)
-}
-
-/// The same grids.
-pub(crate) fn copies_of(
-    alloc: Global,
-    grids: &[AlignedGrid<i32>],
-) -> Result<Vec<AlignedGrid<i32>>, OutOfMemory>
-    ensures same { IfOk result (λ v. v.items ≡ grids.now) }
-    ensures full { IfOk result (λ v. All IsFull v.items) }
-{
-    let mut copies = Vec::new(alloc);
-    for grid in grids {
-        copies.push(copy_of(alloc, grid)?)?;
-    }
-    Ok(copies)
 }

@@ -7,13 +7,13 @@ ghost use Rattle.jxl_picture.specs.Pictures.{IsWhole};
 ghost use Rattle.jxl_encode.specs.Codable.{IsCodable};
 ghost use Rattle.jxl_encode.specs.Files.{IsCodestreamOf};
 
-use crate::advice::{Advice, advices_for};
 use crate::codestream::codestream_by;
 use crate::effort::Effort;
-use crate::groups::{OwnTrees, own_trees};
 use crate::progress::Progress;
-use crate::ranks::ranks_of;
 use jxl_encode_copies::repeats::do_repeat;
+use jxl_encode_ways::advice::{Advice, advices_for};
+use jxl_encode_ways::groups::{OwnTrees, own_trees};
+use jxl_encode_ways::ranks::ranks_of;
 use jxl_picture::picture::Picture;
 use jxlm_base::grid::OutOfMemory;
 use std::alloc::Global;
@@ -83,14 +83,6 @@ pub(crate) fn encode_codestream<P: Progress>(
     if let Some(bytes) = shortest(alloc, picture, &advices, &own, copies, progress)? {
         return Ok(bytes);
     }
-    let plain = Advice {
-        nodes: Vec::new(alloc),
-        clusters: Vec::new(alloc),
-        colour: None,
-        own: false,
-        palettes: Vec::new(alloc),
-        cost: 0,
-        broad: false,
-    };
+    let plain = Advice::none(alloc);
     codestream_by(alloc, picture, &plain, &[], copies)
 }

@@ -6,13 +6,13 @@ ghost use Rattle.jxl_picture.specs.Pictures.{IsWhole};
 ghost use Rattle.jxl_encode.specs.Codable.{IsCodable};
 ghost use Rattle.jxl_encode.specs.Files.{IsCodestreamOf};
 
-use crate::advice::Advice;
 use crate::channels::channels_of;
 use crate::frame::{FrameInput, GROUP_DIM, GROUP_SHIFT, frame_sections};
 use crate::sizes::{add_sections, sizes_of};
 use jxl_codestream::layout::Layout;
 use jxl_codestream_write::front::write_front_with_profile;
 use jxl_encode_sections::own::GroupTree;
+use jxl_encode_ways::advice::Advice;
 use jxl_picture::picture::Picture;
 use jxlm_base::grid::OutOfMemory;
 use std::alloc::Global;

@@ -12,13 +12,13 @@ ghost use Rattle.jxl_encode_tree.specs.Trees.{IsNoTree};
 ghost use Rattle.jxl_encode.specs.Codable.{IsCodable};
 ghost use Rattle.jxl_encode.specs.Inner.Frames.{AreGiven, AreSectionsOf, cut_of};
 
-use crate::advice::Advice;
-use crate::channels::copies_of;
 use jxl_codestream::layout::Layout;
 use jxl_codestream::start::tree_limit;
 use jxl_encode_image::transform::ImagePlan;
 use jxl_encode_sections::frame::{FrameCut, FrameTree, encode_sections};
 use jxl_encode_sections::own::GroupTree;
+use jxl_encode_ways::advice::Advice;
+use jxl_encode_ways::grids::copies_of;
 use jxl_image_header::image::ImageHeader;
 use jxl_picture::picture::{Picture, colours};
 use jxlm_base::grid::OutOfMemory;

@@ -2,7 +2,7 @@
 
 use crate::near::PREDICTORS;
 use jxl_encode_learn::axis::Axis;
-use jxl_encode_learn::counted::Counted;
+use jxl_encode_learn::counted::{Class, Counted};
 use jxl_encode_learn::counts::MAX_COUNTS;
 use jxl_encode_learn::symbols::SYMBOLS;
 use jxlm_base::grid::OutOfMemory;
@@ -138,35 +138,38 @@ impl Counted for Table {
         PREDICTORS.get(kind).copied().unwrap_or(Predictor::Zero)
     }
 
-    fn occurring(&self, alloc: Global) -> Result<Vec<usize>, OutOfMemory> {
+    fn occurring(&self, alloc: Global) -> Result<Vec<Class>, OutOfMemory> {
         let mut classes = Vec::new(alloc);
         for class in 0..self.classes() {
             if self.occurs(class) {
-                classes.push(class)?;
+                classes.push(Class {
+                    number: class.min(MAX_COUNTS) as u32,
+                    weight: 1,
+                })?;
             }
         }
         Ok(classes)
     }
 
-    fn place(&self, class: usize, axis: usize) -> usize {
+    fn place(&self, class: Class, axis: usize) -> usize {
         let stride = self.stride(axis);
         let size = match self.axes.get(axis) {
             Some(axis) => axis.size(),
             None => 1,
         };
-        class / stride.max(1) % size.max(1)
+        class.number as usize / stride.max(1) % size.max(1)
     }
 
-    fn add_all(&self, sums: &mut [u32], classes: &[usize], kind: usize) {
+    fn add_all(&self, sums: &mut [u32], classes: &[Class], kind: usize) {
         for class in classes {
-            self.add_class(sums, 0, *class, kind);
+            self.add_class(sums, 0, class.number as usize, kind);
         }
     }
 
-    fn add_places(&self, sums: &mut [u32], classes: &[usize], kind: usize, axis: usize) {
+    fn add_places(&self, sums: &mut [u32], classes: &[Class], kind: usize, axis: usize) {
         for class in classes {
             let from = self.place(*class, axis).wrapping_mul(SYMBOLS);
-            self.add_class(sums, from, *class, kind);
+            self.add_class(sums, from, class.number as usize, kind);
         }
     }
 }

@@ -5,7 +5,16 @@ use jxlm_base::grid::OutOfMemory;
 use jxlm_predictor::predictor::Predictor;
 use std::alloc::Global;
 
-/// Samples that were counted: in classes, or one by one, where each is a class.
+/// A class of samples, and how often what was counted of it counts.
+#[derive(Clone, Copy)]
+pub struct Class {
+    /// Its number.
+    pub number: u32,
+    /// How often it counts.
+    pub weight: u32,
+}
+
+/// Samples that were counted: in classes, or one by one, where samples that are alike are a class.
 pub trait Counted {
     /// What the classes are told apart by.
     fn axes(&self) -> &[Axis];
@@ -17,14 +26,14 @@ pub trait Counted {
     fn predictor(&self, kind: usize) -> Predictor;
 
     /// The classes of which samples were counted.
-    fn occurring(&self, alloc: Global) -> Result<Vec<usize>, OutOfMemory>;
+    fn occurring(&self, alloc: Global) -> Result<Vec<Class>, OutOfMemory>;
 
     /// Where a class is on an axis.
-    fn place(&self, class: usize, axis: usize) -> usize;
+    fn place(&self, class: Class, axis: usize) -> usize;
 
     /// Adds the counts of the symbols of these classes by a predictor.
-    fn add_all(&self, sums: &mut [u32], classes: &[usize], kind: usize);
+    fn add_all(&self, sums: &mut [u32], classes: &[Class], kind: usize);
 
     /// Adds the counts of the symbols of these classes by a predictor, those at each place of an axis apart.
-    fn add_places(&self, sums: &mut [u32], classes: &[usize], kind: usize, axis: usize);
+    fn add_places(&self, sums: &mut [u32], classes: &[Class], kind: usize, axis: usize);
 }

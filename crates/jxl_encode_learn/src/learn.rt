@@ -2,7 +2,7 @@
 
 use crate::axis::Axis;
 use crate::costs::{BIT, Bits, Prices};
-use crate::counted::Counted;
+use crate::counted::{Class, Counted};
 use crate::counts::{MAX_COUNTS, clear, zeros};
 use crate::symbols::SYMBOLS;
 use jxlm_base::grid::OutOfMemory;
@@ -16,8 +16,7 @@ pub struct Bounds {
     pub nodes: usize,
     /// By how many predictors a cut is tried, at most two: the cheapest of them, of which each side may have another.
     pub predictors: usize,
-    /// The price of a decision for each class of its span, in bits divided by 65,536: a class is a sample where samples
-    /// are counted one by one.
+    /// The price of a decision for each sample that it is made for, in bits divided by 65,536.
     pub step: u64,
     /// Whether the first decision is between the first class on the first axis and the others.
     pub apart: bool,
@@ -65,7 +64,7 @@ pub(crate) struct Learner<'a, C> {
     table: &'a C,
     prices: Prices,
     bounds: Bounds,
-    classes: Vec<usize>,
+    classes: Vec<Class>,
     bits: Bits,
     // The counts of a span, of the classes at each place of an axis, of those up to a cut, and of those behind it.
     whole: Vec<u32>,
@@ -138,12 +137,21 @@ fn forget(costs: &mut [u64]) {
 }
 
 /// The classes of a span.
-fn classes_of(classes: &[usize], span: Span) -> &[usize] {
+fn classes_of(classes: &[Class], span: Span) -> &[Class] {
     if span.start <= span.end && span.end <= classes.len() {
         &classes[span.start..span.end]
     } else {
         &[]
     }
+}
+
+/// How many samples these classes have.
+fn samples_in(classes: &[Class]) -> u64 {
+    let mut samples: u64 = 0;
+    for class in classes {
+        samples = samples.saturating_add(u64::from(class.weight));
+    }
+    samples
 }
 
 /// The cheaper cut.
@@ -188,11 +196,6 @@ impl<C: Counted> Learner<'_, C> {
             Some(axis) => axis.size(),
             None => 1,
         }
-    }
-
-    /// The class of this number in the list.
-    fn class(&self, at: usize) -> usize {
-        self.classes.get(at).copied().unwrap_or(0)
     }
 
     /// Counts the samples of a span by a predictor.
@@ -331,12 +334,15 @@ impl<C: Counted> Learner<'_, C> {
 
     /// The price of a decision for the samples of a span, in bits times 65,536.
     fn price(&self, span: Span) -> u64 {
-        let samples = span.end.saturating_sub(span.start) as u64;
+        let decision = self.prices.decision.saturating_mul(BIT);
+        if self.bounds.step == 0 {
+            return decision;
+        }
         self.bounds
             .step
             .saturating_mul(self.prices.scale)
-            .saturating_mul(samples)
-            .saturating_add(self.prices.decision.saturating_mul(BIT))
+            .saturating_mul(samples_in(classes_of(&self.classes, span)))
+            .saturating_add(decision)
     }
 
     /// The best cut of a span, if it saves more than it costs.
@@ -357,7 +363,11 @@ impl<C: Counted> Learner<'_, C> {
     fn part(&mut self, span: Span, cut: Cut) -> usize {
         let mut next = span.start;
         for at in span.start..span.end {
-            if self.table.place(self.class(at), cut.axis) > cut.place {
+            let class = match self.classes.get(at) {
+                Some(class) => *class,
+                None => break,
+            };
+            if self.table.place(class, cut.axis) > cut.place {
                 if at < self.classes.len() && next < self.classes.len() {
                     self.classes.swap(next, at);
                 }

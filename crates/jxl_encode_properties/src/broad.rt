@@ -1,6 +1,7 @@
 //! Trees learnt from samples one by one, with all predictors and properties, and with cuts at the values that properties
 //! have.
 
+use crate::kept::hash_of;
 use crate::rows::{Rows, SIDE, Taker, sample_at, take_all};
 use crate::samples::Samples;
 use jxl_encode_advice::residuals::{Care, samples_in};
@@ -37,6 +38,9 @@ const PROPERTIES: [u32; 18] = [
     0, 2, 3, 4, 5, 6, 7, 8, 9, 10, 11, 12, 13, 14, 15, 16, 17, 19,
 ];
 
+/// The property that is the column. Samples of other columns are counted together.
+const COLUMN: u32 = 3;
+
 /// The most cuts of a property.
 const MAX_CUTS: usize = 127;
 
@@ -71,16 +75,46 @@ struct ByAll {
     weighted: usize,
 }
 
+/// The row in its group.
+fn row_of(rows: &Rows<'_>) -> i32 {
+    (rows.y % SIDE) as i32
+}
+
 /// A property of the sample in a column.
 fn property_of(rows: &Rows<'_>, x: usize, own: &[i32; 16], property: u32) -> i32 {
     match property {
         0 => rows.channel.min(255) as i32,
-        2 => (rows.y % SIDE) as i32,
+        2 => row_of(rows),
         16 => rows.sample_before(x).saturating_abs(),
         17 => rows.sample_before(x),
         19 => rows.residual_before(x),
         _ => own.get(property as usize).copied().unwrap_or(0),
     }
+}
+
+/// The key of the sample in a column: samples of the same key have the same properties, but for the column, and the same
+/// residuals.
+fn key_of(rows: &Rows<'_>, x: usize, around: &Surroundings, sample: i32) -> u64 {
+    let own = &around.own;
+    hash_of(&[
+        rows.channel.min(255) as i32,
+        row_of(rows),
+        own[6],
+        own[7],
+        own[8],
+        own[9],
+        own[10],
+        own[11],
+        own[12],
+        own[13],
+        own[14],
+        own[15],
+        rows.sample_before(x),
+        rows.residual_before(x),
+        around.predicted[6],
+        around.predicted[13],
+        sample,
+    ])
 }
 
 impl Taker for ByAll {
@@ -128,6 +162,9 @@ impl ByAll {
         around: Surroundings,
         sample: i32,
     ) -> Result<(), OutOfMemory> {
+        if self.samples.count(key_of(rows, x, &around, sample))? {
+            return Ok(());
+        }
         for values in self.values.iter_mut() {
             let value = property_of(rows, x, &around.own, values.property);
             values.list.push(value)?;
@@ -135,14 +172,18 @@ impl ByAll {
         self.samples.add_symbols(&around.predicted, sample)
     }
 
-    /// Puts the samples on the axes of their properties, which have cuts by their values.
+    /// Puts the samples on the axes of their properties, which have cuts by their values. Where many samples are counted
+    /// together, their columns are not known.
     fn place(&mut self, alloc: Global) -> Result<(), OutOfMemory> {
+        let alike = self.samples.are_alike();
         for values in self.values.iter_mut() {
-            let axis = Axis {
-                property: values.property,
-                cuts: cuts_between(alloc, &values.list)?,
-            };
-            self.samples.add_axis(alloc, axis, &values.list)?;
+            if !alike || values.property != COLUMN {
+                let axis = Axis {
+                    property: values.property,
+                    cuts: cuts_between(alloc, &values.list)?,
+                };
+                self.samples.add_axis(alloc, axis, &values.list)?;
+            }
             values.list = Vec::new(alloc);
         }
         Ok(())

@@ -3,6 +3,7 @@
 #![tactic(auto)]
 
 pub mod broad;
+mod kept;
 pub mod learn;
 mod levels;
 pub mod neighbours;

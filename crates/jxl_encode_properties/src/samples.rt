@@ -1,13 +1,14 @@
 //! Samples with their properties.
 
+use crate::kept::{Weights, hash_of_both};
 use jxl_encode_learn::axis::Axis;
-use jxl_encode_learn::counted::Counted;
+use jxl_encode_learn::counted::{Class, Counted};
 use jxl_encode_learn::symbols::{SYMBOLS, symbol_of};
 use jxlm_base::grid::OutOfMemory;
 use jxlm_predictor::predictor::Predictor;
 use std::alloc::Global;
 
-/// Samples: where each is on the axes, and its symbols by the predictors.
+/// Samples: where each is on the axes, and its symbols by the predictors. Samples that are alike are mostly counted together.
 #[derive(Drop)]
 pub(crate) struct Samples {
     axes: Vec<Axis>,
@@ -16,6 +17,8 @@ pub(crate) struct Samples {
     places: Vec<Vec<u8>>,
     // For each predictor the symbols of all samples.
     symbols: Vec<Vec<u8>>,
+    // How many samples each stands for.
+    weights: Weights,
 }
 
 /// Adds one number to each of the first lists.
@@ -68,13 +71,28 @@ impl Samples {
             predictors,
             places,
             symbols,
+            weights: Weights::new(alloc)?,
         })
     }
 
     /// Adds a sample with its places and symbols.
     pub(crate) fn add(&mut self, places: &[usize], symbols: &[usize]) -> Result<(), OutOfMemory> {
+        let hash = hash_of_both(places, symbols);
+        if self.weights.count(hash)? {
+            return Ok(());
+        }
         add_each(&mut self.places, places)?;
         add_each(&mut self.symbols, symbols)
+    }
+
+    /// Counts a sample of this key with one that is like it. Returns false if none is kept: then its symbols are to be added.
+    pub(crate) fn count(&mut self, hash: u64) -> Result<bool, OutOfMemory> {
+        self.weights.count(hash)
+    }
+
+    /// Whether more than a quarter of the samples is counted with others.
+    pub(crate) fn are_alike(&self) -> bool {
+        self.weights.are_alike()
     }
 
     /// Adds the symbols of a sample by what the predictors make of it.
@@ -141,37 +159,46 @@ impl Counted for Samples {
             .unwrap_or(Predictor::Gradient)
     }
 
-    fn occurring(&self, alloc: Global) -> Result<Vec<usize>, OutOfMemory> {
+    fn occurring(&self, alloc: Global) -> Result<Vec<Class>, OutOfMemory> {
         let mut classes = Vec::new(alloc);
-        for class in 0..self.symbols_by(0).len() {
-            classes.push(class)?;
+        let mut number: u32 = 0;
+        for weight in &self.weights.list {
+            classes.push(Class {
+                number,
+                weight: *weight,
+            })?;
+            number = number.saturating_add(1);
         }
         Ok(classes)
     }
 
-    fn place(&self, class: usize, axis: usize) -> usize {
-        self.places_on(axis).get(class).copied().unwrap_or(0) as usize
+    fn place(&self, class: Class, axis: usize) -> usize {
+        self.places_on(axis)
+            .get(class.number as usize)
+            .copied()
+            .unwrap_or(0) as usize
     }
 
-    fn add_all(&self, sums: &mut [u32], classes: &[usize], kind: usize) {
+    fn add_all(&self, sums: &mut [u32], classes: &[Class], kind: usize) {
         let symbols = self.symbols_by(kind);
         for class in classes {
-            let symbol = symbols.get(*class).copied().unwrap_or(0) as usize;
-            if let Some(sum) = sums.get_mut(symbol) {
-                *sum = sum.wrapping_add(1);
+            let symbol = symbols.get(class.number as usize).copied().unwrap_or(0);
+            if let Some(sum) = sums.get_mut(symbol as usize) {
+                *sum = sum.wrapping_add(class.weight);
             }
         }
     }
 
-    fn add_places(&self, sums: &mut [u32], classes: &[usize], kind: usize, axis: usize) {
+    fn add_places(&self, sums: &mut [u32], classes: &[Class], kind: usize, axis: usize) {
         let symbols = self.symbols_by(kind);
         let places = self.places_on(axis);
         for class in classes {
-            let place = places.get(*class).copied().unwrap_or(0) as usize;
-            let symbol = symbols.get(*class).copied().unwrap_or(0) as usize;
+            let number = class.number as usize;
+            let place = places.get(number).copied().unwrap_or(0) as usize;
+            let symbol = symbols.get(number).copied().unwrap_or(0) as usize;
             let at = place.wrapping_mul(SYMBOLS).wrapping_add(symbol);
             if let Some(sum) = sums.get_mut(at) {
-                *sum = sum.wrapping_add(1);
+                *sum = sum.wrapping_add(class.weight);
             }
         }
     }

@@ -1,7 +1,7 @@
 -- What the command line asks for.
 use Rattle.std.specs.Prelude.{◌≡◌, ℕ, List, codes}
-use Rattle.jxl_encode.specs.declared.effort.Effort.{Effort}
-use Rattle.jxl_encode.specs.declared.effort.Effort.TheVariants as efforts
+use Rattle.jxl_encode_ways.specs.declared.effort.Effort.{Effort}
+use Rattle.jxl_encode_ways.specs.declared.effort.Effort.TheVariants as efforts
 
 -- the word is the name of an effort
 abbrev pub IsName : List ℕ → Effort → Type 0

@@ -1,9 +1,8 @@
 //! Ways to code a picture whose channels have few values, far apart: by a palette of each channel, the ranks of its values.
 //! They are heuristics: no sample depends on them.
 
-use crate::advice::{Advice, Samples, colours_of};
-use crate::channels::copies_of;
-use crate::effort::Effort;
+use crate::advice::{Advice, Learning, Samples, colours_of};
+use crate::grids::copies_of;
 use crate::palettes::{Coded, add_ways_by, are_far_apart, depth_of, is_sparse};
 use jxl_encode_advice::residuals::is_taken;
 use jxl_encode_image::transform::PalettePlan;
@@ -88,7 +87,7 @@ fn are_dense(alloc: Global, picture: &Picture) -> Result<bool, OutOfMemory> {
 
 /// The channels of colours of a picture by the ranks of their values, beside all others; the tables of the values.
 #[derive(Drop)]
-pub(crate) struct Ranks {
+pub struct Ranks {
     plans: Vec<PalettePlan>,
     tables: Vec<AlignedGrid<i32>>,
     channels: Vec<AlignedGrid<i32>>,
@@ -139,7 +138,7 @@ impl Ranks {
 }
 
 /// The ranks of the values of a picture, if all of its channels of colours have few, and they are not its only channel.
-pub(crate) fn ranks_of(alloc: Global, picture: &Picture) -> Result<Option<Ranks>, OutOfMemory> {
+pub fn ranks_of(alloc: Global, picture: &Picture) -> Result<Option<Ranks>, OutOfMemory> {
     if picture.channels.len() < 2 || are_dense(alloc, picture)? {
         return Ok(None);
     }
@@ -163,13 +162,13 @@ pub(crate) fn add_rank_ways(
     list: &mut Vec<Advice>,
     picture: &Picture,
     ranks: &Ranks,
-    effort: Effort,
+    learning: Learning,
     bound: Option<u64>,
 ) -> Result<(), OutOfMemory> {
     let coded = Coded {
         tables: &ranks.tables,
         samples: ranks.samples(),
     };
-    let colours = colours_of(picture, effort);
-    add_ways_by(alloc, list, coded, &ranks.plans, colours, effort, bound)
+    let colours = colours_of(picture, learning.effort());
+    add_ways_by(alloc, list, coded, &ranks.plans, colours, learning, bound)
 }

@@ -1,6 +1,6 @@
 //! How a picture is coded: a choice that no sample depends on.
 
-use crate::best::{add_best_ways_of, best_ways};
+use crate::best::{add_best_ways_of, add_broad_way, best_ways, is_small};
 use crate::effort::Effort;
 use crate::palettes::add_palette_ways;
 use crate::ranks::{Ranks, add_rank_ways};
@@ -22,14 +22,17 @@ use std::alloc::Global;
 /// How a picture is coded: its tree, level by level, with the clusters of its leaves in their order, and how its colours
 /// are formed, if they are transformed.
 #[derive(Drop)]
-pub(crate) struct Advice {
-    pub(crate) nodes: Vec<EncodeNode>,
-    pub(crate) clusters: Vec<u8>,
-    pub(crate) colour: Option<u32>,
+pub struct Advice {
+    /// The nodes of its tree.
+    pub nodes: Vec<EncodeNode>,
+    /// The clusters of the leaves.
+    pub clusters: Vec<u8>,
+    /// The kind of colour transform, if there is one.
+    pub colour: Option<u32>,
     /// Whether groups may have trees of their own.
     pub(crate) own: bool,
     /// The palettes, if there are some: then the tree is that of their tables and of all other channels.
-    pub(crate) palettes: Vec<PalettePlan>,
+    pub palettes: Vec<PalettePlan>,
     /// What samples, codes and tree cost, nearly, without copies, in bits times 65,536.
     pub(crate) cost: u64,
     /// Whether its tree is by all properties and predictors.
@@ -43,6 +46,25 @@ pub(crate) struct Samples<'a> {
     pub(crate) depth: BitDepth,
 }
 
+/// How ways are learnt.
+#[derive(Clone, Copy)]
+pub(crate) enum Learning {
+    /// As at an effort.
+    At(Effort),
+    /// By all properties and predictors alone.
+    Broad,
+}
+
+impl Learning {
+    /// How much time there is.
+    pub(crate) fn effort(self) -> Effort {
+        match self {
+            Learning::At(effort) => effort,
+            Learning::Broad => Effort::Best,
+        }
+    }
+}
+
 /// The cheapest way to code a picture, as far as is known: its scheme, its colour transform, and whether groups may have
 /// trees of their own.
 #[derive(Drop)]
@@ -54,6 +76,19 @@ pub(crate) struct Way {
 }
 
 impl Advice {
+    /// No tree, so that each sample is coded by the gradient.
+    pub fn none(alloc: Global) -> Advice {
+        Advice {
+            nodes: Vec::new(alloc),
+            clusters: Vec::new(alloc),
+            colour: None,
+            own: false,
+            palettes: Vec::new(alloc),
+            cost: 0,
+            broad: false,
+        }
+    }
+
     /// Whether a picture is coded alike by both.
     fn is_same(&self, other: &Advice) -> bool {
         self.colour == other.colour
@@ -405,17 +440,19 @@ fn or_by_values(
     }
 }
 
-/// Adds the ways of one effort: the cheapest by values, colours or slopes, and that by samples one by one.
+/// Adds the ways that are learnt so: at an effort the cheapest by values, colours or slopes, and that by samples one by one.
 pub(crate) fn add_ways_of(
     alloc: Global,
     list: &mut Vec<Advice>,
     picture: Samples<'_>,
-    effort: Effort,
+    learning: Learning,
     colours: &[Option<u32>],
 ) -> Result<(), OutOfMemory> {
-    if matches!(effort, Effort::Best) {
-        return add_best_ways_of(alloc, list, picture, colours);
-    }
+    let effort = match learning {
+        Learning::At(Effort::Best) => return add_best_ways_of(alloc, list, picture, colours),
+        Learning::At(effort) => effort,
+        Learning::Broad => return add_broad_way(alloc, list, picture, colours),
+    };
     let best = learnt(alloc, picture, effort, colours)?;
     add_way(alloc, list, or_by_values(alloc, picture, best)?)?;
     if picture.depth.exp_bits != 0 {
@@ -426,12 +463,13 @@ pub(crate) fn add_ways_of(
     add_way(alloc, list, way)
 }
 
-/// The efforts of which the ways are tried with all palettes: at the greatest those of the usual one, and where samples
-/// repeat also those of the lowest one, by which copies are often shorter.
-fn efforts_of(effort: Effort, repeats: bool) -> &'static [Effort] {
+/// The efforts of which the ways are tried with all palettes: at the greatest those of the usual one. Where samples repeat
+/// also those of the lowest one, by which copies are often shorter; at the greatest effort only of a small picture.
+fn efforts_of(effort: Effort, repeats: bool, small: bool) -> &'static [Effort] {
     match effort {
         Effort::Fast => &[Effort::Fast],
-        _ if repeats => &[Effort::Fast, Effort::Usual],
+        Effort::Usual if repeats => &[Effort::Fast, Effort::Usual],
+        Effort::Best if repeats && small => &[Effort::Fast, Effort::Usual],
         _ => &[Effort::Usual],
     }
 }
@@ -488,7 +526,7 @@ fn cheap_ways(alloc: Global, list: Vec<Advice>) -> Result<Vec<Advice>, OutOfMemo
 }
 
 /// Ways to code a picture, of which samples repeat if `repeats` says so, and whose values have these ranks, if they are few.
-pub(crate) fn advices_for(
+pub fn advices_for(
     alloc: Global,
     picture: &Picture,
     effort: Effort,
@@ -501,9 +539,10 @@ pub(crate) fn advices_for(
         depth: picture.header.bit_depth,
     };
     let compared = are_compared(effort, repeats);
-    for tried in efforts_of(effort, repeats) {
+    for tried in efforts_of(effort, repeats, is_small(picture)) {
+        let learning = Learning::At(*tried);
         let colours = colours_of(picture, *tried);
-        add_ways_of(alloc, &mut list, samples, *tried, colours)?;
+        add_ways_of(alloc, &mut list, samples, learning, colours)?;
         let bound = if compared {
             Some(least_cost(&list))
         } else {
@@ -511,7 +550,7 @@ pub(crate) fn advices_for(
         };
         add_palette_ways(alloc, &mut list, picture, *tried, bound)?;
         if let Some(ranks) = ranks {
-            add_rank_ways(alloc, &mut list, picture, ranks, *tried, bound)?;
+            add_rank_ways(alloc, &mut list, picture, ranks, learning, bound)?;
         }
     }
     if compared {

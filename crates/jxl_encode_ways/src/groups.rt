@@ -2,7 +2,6 @@
 
 use crate::advice::{Advice, Samples, group_scheme};
 use crate::effort::Effort;
-use crate::frame::GROUP_DIM;
 use crate::ranks::Ranks;
 use jxl_encode_sections::own::GroupTree;
 use jxl_image_header::size::Size;
@@ -12,6 +11,9 @@ use jxlm_groups::part::SectionPart;
 use std::alloc::Global;
 
 /// The side of a group.
+const GROUP_DIM: u32 = 256;
+
+/// The same, of samples in a list.
 const SIDE: usize = GROUP_DIM as usize;
 
 /// The trees that groups may have of their own by palettes, if there are some, and by a colour transform.
@@ -24,7 +26,7 @@ struct ColourTrees {
 
 /// The trees that groups may have of their own.
 #[derive(Drop)]
-pub(crate) struct OwnTrees {
+pub struct OwnTrees {
     sets: Vec<ColourTrees>,
 }
 
@@ -37,7 +39,7 @@ impl ColourTrees {
 
 impl OwnTrees {
     /// Those of groups that are coded in this way.
-    pub(crate) fn by(&self, advice: &Advice) -> &[GroupTree] {
+    pub fn by(&self, advice: &Advice) -> &[GroupTree] {
         for set in &self.sets {
             if advice.own && set.is_for(advice) {
                 return &set.trees;
@@ -154,7 +156,7 @@ fn are_tried(picture: &Picture, effort: Effort) -> bool {
 }
 
 /// The trees that groups may have of their own, for each colour transform that these ways have, of samples or of their ranks.
-pub(crate) fn own_trees(
+pub fn own_trees(
     alloc: Global,
     picture: &Picture,
     effort: Effort,

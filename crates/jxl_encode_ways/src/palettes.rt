@@ -1,6 +1,8 @@
 //! Ways to code a picture of few colours by a palette. They are heuristics: no sample depends on them.
 
-use crate::advice::{Advice, Samples, add_advice, add_ways_of, care_of, shade_axes, slope_axes};
+use crate::advice::{
+    Advice, Learning, Samples, add_advice, add_ways_of, care_of, shade_axes, slope_axes,
+};
 use crate::effort::Effort;
 use crate::joined::{CHANNEL, Levels, joined};
 use jxl_encode_advice::residuals::{Care, scheme_by_residuals};
@@ -132,20 +134,20 @@ pub(crate) fn add_ways_by(
     coded: Coded<'_>,
     palettes: &[PalettePlan],
     colours: &[Option<u32>],
-    effort: Effort,
+    learning: Learning,
     bound: Option<u64>,
 ) -> Result<(), OutOfMemory> {
     let large = match coded.samples.channels.get(0) {
         Some(first) => first.width() > GROUP_DIM || first.height() > GROUP_DIM,
         None => false,
     };
-    let care = care_of(effort).1;
+    let care = care_of(learning.effort()).1;
     let scheme = scheme_by_residuals(alloc, coded.tables, None, shade_axes(alloc)?, care)?;
     if is_above(alloc, coded.samples, scheme.cost, bound)? {
         return Ok(());
     }
     let mut ways = Vec::new(alloc);
-    add_ways_of(alloc, &mut ways, coded.samples, effort, colours)?;
+    add_ways_of(alloc, &mut ways, coded.samples, learning, colours)?;
     for way in ways {
         if let Some(advice) = way_of(alloc, &scheme, way, palettes, large)? {
             add_advice(list, advice)?;
@@ -160,7 +162,7 @@ fn add_ways_of_all(
     list: &mut Vec<Advice>,
     coding: PaletteGrids<i32>,
     plan: PalettePlan,
-    effort: Effort,
+    learning: Learning,
     bound: Option<u64>,
 ) -> Result<(), OutOfMemory> {
     let PaletteGrids { table, index, .. } = coding;
@@ -175,7 +177,7 @@ fn add_ways_of_all(
         },
     };
     let mut ways = Vec::new(alloc);
-    add_ways_by(alloc, &mut ways, coded, &[plan], &[None], effort, bound)?;
+    add_ways_by(alloc, &mut ways, coded, &[plan], &[None], learning, bound)?;
     for way in ways {
         let mut way = way;
         way.own = false;
@@ -232,7 +234,8 @@ pub(crate) fn add_palette_ways(
     bound: Option<u64>,
 ) -> Result<(), OutOfMemory> {
     let orders = orders_of(effort, picture.channels.len());
-    add_palette_ways_by(alloc, list, picture, effort, orders, bound)
+    let learning = Learning::At(effort);
+    add_palette_ways_by(alloc, list, picture, learning, orders, bound)
 }
 
 /// The same in these orders of colours.
@@ -240,7 +243,7 @@ pub(crate) fn add_palette_ways_by(
     alloc: Global,
     list: &mut Vec<Advice>,
     picture: &Picture,
-    effort: Effort,
+    learning: Learning,
     orders: &[ColourOrder],
     bound: Option<u64>,
 ) -> Result<(), OutOfMemory> {
@@ -251,7 +254,7 @@ pub(crate) fn add_palette_ways_by(
     if channels.len() > MOST_CHANNELS {
         return Ok(());
     }
-    let most = most_colours(first.buf().len(), effort);
+    let most = most_colours(first.buf().len(), learning.effort());
     for order in orders {
         let plan = PalettePlan {
             first: 0,
@@ -263,7 +266,7 @@ pub(crate) fn add_palette_ways_by(
             return Ok(());
         };
         if is_sparse(&coding.table) {
-            add_ways_of_all(alloc, list, coding, plan, effort, bound)?;
+            add_ways_of_all(alloc, list, coding, plan, learning, bound)?;
         }
     }
     Ok(())

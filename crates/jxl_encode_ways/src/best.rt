@@ -1,0 +1,370 @@
+//! Ways to code a picture at the greatest effort. Those of lower efforts are the estimate of what palettes are good for:
+//! only by the best of them trees are learnt with most care. They are heuristics: no sample depends on them.
+
+use crate::advice::{
+    Advice, Learning, Samples, add_way, add_ways_of, by_all, by_colours, by_samples, by_slopes,
+    care_of, colours_of, slope_axes,
+};
+use crate::effort::Effort;
+use crate::palettes::add_palette_ways_by;
+use crate::ranks::{Ranks, add_rank_ways};
+use jxl_encode_advice::residuals::{samples_in, scheme_by_residuals};
+use jxl_encode_palette::colours::ColourOrder;
+use jxl_picture::picture::Picture;
+use jxlm_base::grid::OutOfMemory;
+use std::alloc::Global;
+
+/// How many colour transforms are tried with trees learnt from samples one by one.
+const COLOURS: usize = 2;
+
+/// The most samples of a small picture.
+const SMALL: usize = 1 << 16;
+
+/// How many ways are tried to the end of a small picture, beside those by all properties and predictors.
+const SMALL_WAYS: usize = 6;
+
+/// How many ways are tried to the end where samples repeat and there is no palette of all channels.
+const COPIED_WAYS: usize = 2;
+
+/// The orders of colours of which one way is tried to the end where samples repeat.
+const ORDERS: [ColourOrder; 3] = [
+    ColourOrder::Frequency,
+    ColourOrder::Nearest,
+    ColourOrder::Sample,
+];
+
+/// The share by which such a way may cost more than the cheapest of them.
+const ORDER_MARGIN: u64 = 16;
+
+/// How many ways are tried to the end elsewhere.
+const WAYS: usize = 4;
+
+/// The share by which ways without a palette of all channels may cost more than those by one, and are tried with most care.
+const MARGIN: u64 = 8;
+
+/// The share by which the way by all properties without a palette may cost more than that by one, and is tried to the end
+/// where samples repeat: costs are without copies.
+const BROAD_MARGIN: u64 = 6;
+
+/// The place of the least of these numbers that is not taken; none, if all are.
+fn next_least(numbers: &[u64], taken: &[usize]) -> Option<usize> {
+    let mut best: Option<usize> = None;
+    let mut least = u64::MAX;
+    for at in 0..numbers.len() {
+        let number = numbers[at];
+        if (best.is_none() || number < least) && !taken.iter().any(|place| *place == at) {
+            least = number;
+            best = Some(at);
+        }
+    }
+    best
+}
+
+/// The places of the least of these numbers, at most this many, the least first.
+fn least_of(alloc: Global, numbers: &[u64], most: usize) -> Result<Vec<usize>, OutOfMemory> {
+    let mut places = Vec::new(alloc);
+    for _ in 0..most.min(numbers.len()) {
+        if let Some(at) = next_least(numbers, &places) {
+            places.push(at)?;
+        }
+    }
+    Ok(places)
+}
+
+/// The colour transforms, if there are more than two, with which some of the samples cost least by slopes.
+fn likely_colours(
+    alloc: Global,
+    samples: Samples<'_>,
+    colours: &[Option<u32>],
+) -> Result<Vec<Option<u32>>, OutOfMemory> {
+    let (slopes, care) = care_of(Effort::Usual);
+    let mut costs = Vec::new(alloc);
+    for colour in colours {
+        let axes = slope_axes(alloc, samples.depth, slopes)?;
+        let scheme = scheme_by_residuals(alloc, samples.channels, *colour, axes, care)?;
+        costs.push(scheme.cost)?;
+    }
+    let mut likely = Vec::new(alloc);
+    for at in &least_of(alloc, &costs, COLOURS)? {
+        likely.push(colours.get(*at).copied().unwrap_or(None))?;
+    }
+    Ok(likely)
+}
+
+/// Adds the ways of these samples at the greatest effort: the cheapest by colours or slopes, that by the errors of the
+/// weighted predictor, and that by all properties and predictors.
+pub(crate) fn add_best_ways_of(
+    alloc: Global,
+    list: &mut Vec<Advice>,
+    samples: Samples<'_>,
+    colours: &[Option<u32>],
+) -> Result<(), OutOfMemory> {
+    let effort = Effort::Best;
+    let likely = likely_colours(alloc, samples, colours)?;
+    let best = by_colours(alloc, samples, effort, colours.len() > 1)?;
+    let best = by_slopes(alloc, samples, effort, &likely, best)?;
+    add_way(alloc, list, best)?;
+    if samples.depth.exp_bits != 0 {
+        return Ok(());
+    }
+    let way = by_samples(alloc, samples, effort, &likely)?;
+    let colour = match &way {
+        Some(way) => way.colour,
+        None => None,
+    };
+    let broad = by_all(alloc, samples, care_of(effort).1, colour)?;
+    add_way(alloc, list, Some(broad))?;
+    add_way(alloc, list, way)
+}
+
+/// Adds the way by all properties and predictors alone, after the likeliest of these colour transforms.
+pub(crate) fn add_broad_way(
+    alloc: Global,
+    list: &mut Vec<Advice>,
+    samples: Samples<'_>,
+    colours: &[Option<u32>],
+) -> Result<(), OutOfMemory> {
+    let colour = if colours.len() > 1 {
+        let likely = likely_colours(alloc, samples, colours)?;
+        likely.first().copied().unwrap_or(None)
+    } else {
+        None
+    };
+    let broad = by_all(alloc, samples, care_of(Effort::Best).1, colour)?;
+    add_way(alloc, list, Some(broad))
+}
+
+/// What the ways cost.
+fn costs_of(alloc: Global, ways: &[Advice]) -> Result<Vec<u64>, OutOfMemory> {
+    let mut costs = Vec::new(alloc);
+    for way in ways {
+        costs.push(way.cost)?;
+    }
+    Ok(costs)
+}
+
+/// The order of the cheapest palette of all channels of these ways, and what the way costs; none, if there is no such palette.
+fn best_order(ways: &[Advice], picture: &Picture) -> Option<(ColourOrder, u64)> {
+    let mut best: Option<(ColourOrder, u64)> = None;
+    for way in ways {
+        if let Some(plan) = way.palettes.first() {
+            let cheaper = match best {
+                Some((_, cost)) => way.cost < cost,
+                None => true,
+            };
+            if cheaper && plan.count == picture.channels.len() {
+                best = Some((plan.order, way.cost));
+            }
+        }
+    }
+    best
+}
+
+/// Whether a way has no palette of all channels.
+fn is_other(way: &Advice, picture: &Picture) -> bool {
+    match way.palettes.first() {
+        Some(plan) => plan.count != picture.channels.len(),
+        None => true,
+    }
+}
+
+/// What the cheapest of the ways without a palette of all channels costs.
+fn least_other(ways: &[Advice], picture: &Picture) -> u64 {
+    let mut least = u64::MAX;
+    for way in ways {
+        if is_other(way, picture) {
+            least = least.min(way.cost);
+        }
+    }
+    least
+}
+
+/// What the cheapest of the ways by a palette of all channels and by all properties costs.
+fn least_broad(ways: &[Advice], picture: &Picture) -> u64 {
+    let mut least = u64::MAX;
+    for way in ways {
+        if way.broad && !is_other(way, picture) {
+            least = least.min(way.cost);
+        }
+    }
+    least
+}
+
+/// Adds the ways without a palette of all channels: by the ranks of values, if there are some.
+fn add_other_ways(
+    alloc: Global,
+    list: &mut Vec<Advice>,
+    picture: &Picture,
+    ranks: &Option<Ranks>,
+    learning: Learning,
+) -> Result<(), OutOfMemory> {
+    if let Some(ranks) = ranks {
+        return add_rank_ways(alloc, list, picture, ranks, learning, None);
+    }
+    let samples = Samples {
+        channels: &picture.channels,
+        depth: picture.header.bit_depth,
+    };
+    let colours = colours_of(picture, Effort::Best);
+    add_ways_of(alloc, list, samples, learning, colours)
+}
+
+/// The ways at these places, and those by all properties and predictors that cost at most this.
+fn kept_at(
+    alloc: Global,
+    ways: Vec<Advice>,
+    places: &[usize],
+    most_broad: u64,
+) -> Result<Vec<Advice>, OutOfMemory> {
+    let mut kept = Vec::new(alloc);
+    let mut at: usize = 0;
+    for way in ways {
+        let broad = way.broad && way.cost <= most_broad;
+        if broad || places.iter().any(|place| *place == at) {
+            kept.push(way)?;
+        }
+        at = at.saturating_add(1);
+    }
+    Ok(kept)
+}
+
+/// The ways by all properties and predictors, and the cheapest of these ways, at most this many.
+fn cheapest_of(alloc: Global, ways: Vec<Advice>, most: usize) -> Result<Vec<Advice>, OutOfMemory> {
+    let costs = costs_of(alloc, &ways)?;
+    let places = least_of(alloc, &costs, most)?;
+    kept_at(alloc, ways, &places, u64::MAX)
+}
+
+/// Whether a way has a palette of all channels in this order, and a tree by some properties.
+fn is_in_order(way: &Advice, picture: &Picture, order: ColourOrder) -> bool {
+    match way.palettes.first() {
+        Some(plan) => plan.count == picture.channels.len() && plan.order == order && !way.broad,
+        None => false,
+    }
+}
+
+/// The place of the cheapest of these ways in an order, and its cost.
+fn best_in(ways: &[Advice], picture: &Picture, order: ColourOrder) -> Option<(usize, u64)> {
+    let mut best: Option<(usize, u64)> = None;
+    for at in 0..ways.len() {
+        let way = &ways[at];
+        let cheaper = match best {
+            Some((_, cost)) => way.cost < cost,
+            None => true,
+        };
+        if cheaper && is_in_order(way, picture, order) {
+            best = Some((at, way.cost));
+        }
+    }
+    best
+}
+
+/// The places of the cheapest ways in each order that cost little more than the cheapest of them, which costs this. By costs
+/// without copies it is not known which is the shortest with them.
+fn likely_in_orders(
+    alloc: Global,
+    ways: &[Advice],
+    picture: &Picture,
+    least: u64,
+) -> Result<Vec<usize>, OutOfMemory> {
+    let most = least.saturating_add(least / ORDER_MARGIN);
+    let mut places = Vec::new(alloc);
+    for order in &ORDERS {
+        if let Some((at, cost)) = best_in(ways, picture, *order) {
+            if cost <= most {
+                places.push(at)?;
+            }
+        }
+    }
+    Ok(places)
+}
+
+/// The ways that are tried to the end where samples repeat: those by all properties, and the likeliest of the others. The
+/// cheapest of these by a palette of all channels costs this.
+fn copied_of(
+    alloc: Global,
+    ways: Vec<Advice>,
+    picture: &Picture,
+    least: u64,
+) -> Result<Vec<Advice>, OutOfMemory> {
+    let places = likely_in_orders(alloc, &ways, picture, least)?;
+    if places.is_empty() {
+        return cheapest_of(alloc, ways, COPIED_WAYS);
+    }
+    let broad = least_broad(&ways, picture);
+    let most = broad.saturating_add(broad / BROAD_MARGIN);
+    kept_at(alloc, ways, &places, most)
+}
+
+/// Whether a picture is small.
+pub(crate) fn is_small(picture: &Picture) -> bool {
+    samples_in(&picture.channels) <= SMALL
+}
+
+/// Whether ways without a palette of all channels, of this cost by an estimate, are left out beside the way by one and by
+/// all properties, of this cost.
+fn is_clear(broad: u64, other: u64) -> bool {
+    broad.saturating_mul(4) <= other.saturating_mul(3)
+}
+
+/// The ways that are tried at the greatest effort of a picture of which samples repeat, and of this likeliest order of its
+/// palette: those by all properties and predictors, and the cheapest.
+fn copied_ways(
+    alloc: Global,
+    ways: Vec<Advice>,
+    picture: &Picture,
+    ranks: &Option<Ranks>,
+    order: Option<(ColourOrder, u64)>,
+) -> Result<Vec<Advice>, OutOfMemory> {
+    let mut ways = ways;
+    let learning = Learning::Broad;
+    let other = least_other(&ways, picture);
+    let mut palette = u64::MAX;
+    if let Some((order, cost)) = order {
+        palette = cost;
+        add_palette_ways_by(alloc, &mut ways, picture, learning, &[order], None)?;
+    }
+    let broad = least_broad(&ways, picture);
+    if is_likely(other, palette) && !is_clear(broad, other) {
+        add_other_ways(alloc, &mut ways, picture, ranks, learning)?;
+    }
+    copied_of(alloc, ways, picture, palette)
+}
+
+/// Whether ways without a palette of all channels, of this cost by an estimate, are tried beside those by one.
+fn is_likely(other: u64, palette: u64) -> bool {
+    other <= palette.saturating_add(palette / MARGIN)
+}
+
+/// The ways that are tried at the greatest effort, where these are those of lower ones: samples repeat if `repeats` says so.
+pub(crate) fn best_ways(
+    alloc: Global,
+    ways: Vec<Advice>,
+    picture: &Picture,
+    repeats: bool,
+    ranks: &Option<Ranks>,
+) -> Result<Vec<Advice>, OutOfMemory> {
+    let mut ways = ways;
+    if picture.channels.len() > 1 {
+        let learning = Learning::At(Effort::Usual);
+        let orders = &[ColourOrder::Sample];
+        add_palette_ways_by(alloc, &mut ways, picture, learning, orders, None)?;
+    }
+    let small = is_small(picture);
+    let order = best_order(&ways, picture);
+    if repeats && !small && picture.header.bit_depth.exp_bits == 0 {
+        return copied_ways(alloc, ways, picture, ranks, order);
+    }
+    let learning = Learning::At(Effort::Best);
+    let other = least_other(&ways, picture);
+    let mut palette = u64::MAX;
+    if let Some((order, cost)) = order {
+        palette = cost;
+        add_palette_ways_by(alloc, &mut ways, picture, learning, &[order], None)?;
+    }
+    if is_likely(other, palette) {
+        add_other_ways(alloc, &mut ways, picture, ranks, learning)?;
+    }
+    let most = if small { SMALL_WAYS } else { WAYS };
+    cheapest_of(alloc, ways, most)
+}
