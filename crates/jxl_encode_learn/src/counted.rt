@@ -5,12 +5,12 @@ use jxlm_base::grid::OutOfMemory;
 use jxlm_predictor::predictor::Predictor;
 use std::alloc::Global;
 
-/// A class of samples, and how often what was counted of it counts.
+/// A class of samples that were counted.
 #[derive(Clone, Copy)]
 pub struct Class {
     /// Its number.
     pub number: u32,
-    /// How often it counts.
+    /// The factor of its counts.
     pub weight: u32,
 }
 

@@ -143,36 +143,36 @@ fn costs_of(alloc: Global, ways: &[Advice]) -> Result<Vec<u64>, OutOfMemory> {
     Ok(costs)
 }
 
+/// The order of colours of a way's palette of all channels; none, if it has no such palette.
+fn order_of(way: &Advice, picture: &Picture) -> Option<ColourOrder> {
+    match way.palettes.first() {
+        Some(plan) if plan.count == picture.channels.len() => Some(plan.order),
+        _ => None,
+    }
+}
+
 /// The order of the cheapest palette of all channels of these ways, and what the way costs; none, if there is no such palette.
 fn best_order(ways: &[Advice], picture: &Picture) -> Option<(ColourOrder, u64)> {
     let mut best: Option<(ColourOrder, u64)> = None;
     for way in ways {
-        if let Some(plan) = way.palettes.first() {
-            let cheaper = match best {
-                Some((_, cost)) => way.cost < cost,
-                None => true,
-            };
-            if cheaper && plan.count == picture.channels.len() {
-                best = Some((plan.order, way.cost));
+        let cheaper = match best {
+            Some((_, cost)) => way.cost < cost,
+            None => true,
+        };
+        if let Some(order) = order_of(way, picture) {
+            if cheaper {
+                best = Some((order, way.cost));
             }
         }
     }
     best
 }
 
-/// Whether a way has no palette of all channels.
-fn is_other(way: &Advice, picture: &Picture) -> bool {
-    match way.palettes.first() {
-        Some(plan) => plan.count != picture.channels.len(),
-        None => true,
-    }
-}
-
 /// What the cheapest of the ways without a palette of all channels costs.
 fn least_other(ways: &[Advice], picture: &Picture) -> u64 {
     let mut least = u64::MAX;
     for way in ways {
-        if is_other(way, picture) {
+        if order_of(way, picture).is_none() {
             least = least.min(way.cost);
         }
     }
@@ -183,7 +183,7 @@ fn least_other(ways: &[Advice], picture: &Picture) -> u64 {
 fn least_broad(ways: &[Advice], picture: &Picture) -> u64 {
     let mut least = u64::MAX;
     for way in ways {
-        if way.broad && !is_other(way, picture) {
+        if way.broad && order_of(way, picture).is_some() {
             least = least.min(way.cost);
         }
     }
@@ -237,10 +237,7 @@ fn cheapest_of(alloc: Global, ways: Vec<Advice>, most: usize) -> Result<Vec<Advi
 
 /// Whether a way has a palette of all channels in this order, and a tree by some properties.
 fn is_in_order(way: &Advice, picture: &Picture, order: ColourOrder) -> bool {
-    match way.palettes.first() {
-        Some(plan) => plan.count == picture.channels.len() && plan.order == order && !way.broad,
-        None => false,
-    }
+    !way.broad && order_of(way, picture) == Some(order)
 }
 
 /// The place of the cheapest of these ways in an order, and its cost.
@@ -301,39 +298,24 @@ pub(crate) fn is_small(picture: &Picture) -> bool {
     samples_in(&picture.channels) <= SMALL
 }
 
-/// Whether ways without a palette of all channels, of this cost by an estimate, are left out beside the way by one and by
-/// all properties, of this cost.
-fn is_clear(broad: u64, other: u64) -> bool {
-    broad.saturating_mul(4) <= other.saturating_mul(3)
-}
-
-/// The ways that are tried at the greatest effort of a picture of which samples repeat, and of this likeliest order of its
-/// palette: those by all properties and predictors, and the cheapest.
-fn copied_ways(
-    alloc: Global,
-    ways: Vec<Advice>,
-    picture: &Picture,
-    ranks: &Option<Ranks>,
-    order: Option<(ColourOrder, u64)>,
-) -> Result<Vec<Advice>, OutOfMemory> {
-    let mut ways = ways;
-    let learning = Learning::Broad;
-    let other = least_other(&ways, picture);
-    let mut palette = u64::MAX;
-    if let Some((order, cost)) = order {
-        palette = cost;
-        add_palette_ways_by(alloc, &mut ways, picture, learning, &[order], None)?;
+/// How the trees are learnt that take most time: of a larger picture of which samples repeat by all properties alone.
+fn learning_of(picture: &Picture, repeats: bool) -> Learning {
+    if repeats && !is_small(picture) && picture.header.bit_depth.exp_bits == 0 {
+        Learning::Broad
+    } else {
+        Learning::At(Effort::Best)
     }
-    let broad = least_broad(&ways, picture);
-    if is_likely(other, palette) && !is_clear(broad, other) {
-        add_other_ways(alloc, &mut ways, picture, ranks, learning)?;
-    }
-    copied_of(alloc, ways, picture, palette)
 }
 
 /// Whether ways without a palette of all channels, of this cost by an estimate, are tried beside those by one.
 fn is_likely(other: u64, palette: u64) -> bool {
     other <= palette.saturating_add(palette / MARGIN)
+}
+
+/// Whether ways without a palette of all channels, of this cost by an estimate, are left out beside the way by one and by
+/// all properties, of this cost.
+fn is_clear(broad: u64, other: u64) -> bool {
+    broad.saturating_mul(4) <= other.saturating_mul(3)
 }
 
 /// The ways that are tried at the greatest effort, where these are those of lower ones: samples repeat if `repeats` says so.
@@ -350,21 +332,21 @@ pub(crate) fn best_ways(
         let orders = &[ColourOrder::Sample];
         add_palette_ways_by(alloc, &mut ways, picture, learning, orders, None)?;
     }
-    let small = is_small(picture);
-    let order = best_order(&ways, picture);
-    if repeats && !small && picture.header.bit_depth.exp_bits == 0 {
-        return copied_ways(alloc, ways, picture, ranks, order);
-    }
-    let learning = Learning::At(Effort::Best);
+    let learning = learning_of(picture, repeats);
+    let broad = matches!(learning, Learning::Broad);
     let other = least_other(&ways, picture);
     let mut palette = u64::MAX;
-    if let Some((order, cost)) = order {
+    if let Some((order, cost)) = best_order(&ways, picture) {
         palette = cost;
         add_palette_ways_by(alloc, &mut ways, picture, learning, &[order], None)?;
     }
-    if is_likely(other, palette) {
+    let clear = broad && is_clear(least_broad(&ways, picture), other);
+    if is_likely(other, palette) && !clear {
         add_other_ways(alloc, &mut ways, picture, ranks, learning)?;
     }
-    let most = if small { SMALL_WAYS } else { WAYS };
+    if broad {
+        return copied_of(alloc, ways, picture, palette);
+    }
+    let most = if is_small(picture) { SMALL_WAYS } else { WAYS };
     cheapest_of(alloc, ways, most)
 }
