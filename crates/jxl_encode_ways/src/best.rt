@@ -42,6 +42,10 @@ const WAYS: usize = 4;
 /// The share by which ways without a palette of all channels may cost more than those by one, and are tried with most care.
 const MARGIN: u64 = 8;
 
+/// The share by which a palette of all channels of a larger picture has to cost less than ways without one, to be tried with
+/// most care where samples do not repeat.
+const GAIN: u64 = 64;
+
 /// The share by which the way by all properties without a palette may cost more than that by one, and is tried to the end
 /// where samples repeat: costs are without copies.
 const BROAD_MARGIN: u64 = 6;
@@ -307,6 +311,12 @@ fn learning_of(picture: &Picture, repeats: bool) -> Learning {
     }
 }
 
+/// Whether a palette of all channels, by which an estimate is this, is tried with most care beside ways without one, by which
+/// it is the other.
+fn is_worth(palette: u64, other: u64) -> bool {
+    palette.saturating_add(palette / GAIN) <= other
+}
+
 /// Whether ways without a palette of all channels, of this cost by an estimate, are tried beside those by one.
 fn is_likely(other: u64, palette: u64) -> bool {
     other <= palette.saturating_add(palette / MARGIN)
@@ -327,6 +337,7 @@ pub(crate) fn best_ways(
     ranks: &Option<Ranks>,
 ) -> Result<Vec<Advice>, OutOfMemory> {
     let mut ways = ways;
+    let small = is_small(picture);
     if picture.channels.len() > 1 {
         let learning = Learning::At(Effort::Usual);
         let orders = &[ColourOrder::Sample];
@@ -338,7 +349,9 @@ pub(crate) fn best_ways(
     let mut palette = u64::MAX;
     if let Some((order, cost)) = best_order(&ways, picture) {
         palette = cost;
-        add_palette_ways_by(alloc, &mut ways, picture, learning, &[order], None)?;
+        if broad || small || is_worth(cost, other) {
+            add_palette_ways_by(alloc, &mut ways, picture, learning, &[order], None)?;
+        }
     }
     let clear = broad && is_clear(least_broad(&ways, picture), other);
     if is_likely(other, palette) && !clear {
@@ -347,6 +360,6 @@ pub(crate) fn best_ways(
     if broad {
         return copied_of(alloc, ways, picture, palette);
     }
-    let most = if is_small(picture) { SMALL_WAYS } else { WAYS };
+    let most = if small { SMALL_WAYS } else { WAYS };
     cheapest_of(alloc, ways, most)
 }
