@@ -1,5 +1,5 @@
 -- What is left of a tree where some properties are known beforehand.
-use Rattle.std.specs.Prelude.{◌≡◌, ℕ, ◌+◌, ◌<◌, ◌^◌, ◌*◌, ◌==◌, nat_lt, ◌||◌, Bool, false, ℤ, pos, ◌+ℤ◌, int_lt, if◌then◌else◌, [], Option, Some, None}
+use Rattle.std.specs.Prelude.{◌≡◌, ℕ, ◌+◌, ◌<◌, ◌^◌, ◌*◌, ◌==◌, nat_lt, ◌||◌, Bool, false, ℤ, pos, ◌+ℤ◌, int_lt, if◌then◌else◌, Option, Some, None}
 use Rattle.jxlm_ma_tree.specs.declared.marks.Known.{Known}
 use Rattle.jxlm_ma_tree.specs.declared.leaf.Leaf.{Leaf}
 use Rattle.jxlm_ma_tree.specs.TakenAlike.{taken_alike}

@@ -54,7 +54,7 @@ impl MaTree {
     ghost use Rattle.jxlm_ma_tree.specs.Inner.Building.{decision_of};
 
     /// A tree of one leaf.
-    pub fn leaf(leaf: Leaf) -> MaTree
+    pub(crate) fn leaf(leaf: Leaf) -> MaTree
         ensures tree { shape_of result.root ≡ leaf_shape leaf }
         ensures depth { result.depth ≡ 0 }
     {
@@ -67,7 +67,7 @@ impl MaTree {
     }
 
     /// A decision over two trees. Nothing deeper than the limit is ever put together.
-    pub fn decision(
+    pub(crate) fn decision(
         alloc: Global,
         property: u32,
         value: i32,
