@@ -1,9 +1,9 @@
 -- Properties by what the state keeps.
-use Rattle.std.proofs.Common.{◌≡◌, ℕ, zero, suc, ◌+◌, ◌-◌, ◌/◌, ◌%◌, ◌<◌, ◌≤◌, ℤ, pos, ◌-ℤ◌, List, [], ◌∷◌, length, get_or, Some, FitsSigned, sym, ap, ◌∙◌, refl, arith, to_z, of_z}
+use Rattle.std.proofs.Common.{◌≡◌, ℕ, zero, suc, ◌-◌, ◌/◌, ◌%◌, ◌<◌, ◌≤◌, ℤ, pos, ◌-ℤ◌, List, [], length, get_or, Some, sym, ap, ◌∙◌, refl, arith}
 use Rattle.std.specs.Prelude.{map}
 use Rattle.std.specs.List.{slice_get}
 use Rattle.std.specs.Int.{w32, int_wrap}
-use Rattle.std.proofs.lemmas.Int.{int_wrap_fits, SFits-int_wrap, ints, to_z-of_z}
+use Rattle.std.proofs.lemmas.Int.{int_wrap_fits, SFits-int_wrap, ints}
 use Rattle.std.proofs.lemmas.List.{get_or-map}
 use Rattle.std.proofs.lemmas.Option.{slice_get_past}
 use Rattle.std.proofs.lemmas.Bool.{lt-ltb, le-ltb}
@@ -57,7 +57,7 @@ wraps_again : (z : ℤ) → int_wrap w32 (int_wrap w32 z) ≡ int_wrap w32 z
 wraps_again z = int_wrap_fits w32 (int_wrap w32 z) (SFits-int_wrap w32 z)
 
 -- properties 0 to 15, by what is kept
-own_kept : (s : Setting) (x y : ℕ) (w n nw g e : ℤ) (previous current samples : List ℤ) (a : Neighbours) → Rolls s.width x y w n nw g previous current samples → a ≡ neighbours samples s.width
+pub own_kept : (s : Setting) (x y : ℕ) (w n nw g e : ℤ) (previous current samples : List ℤ) (a : Neighbours) → Rolls s.width x y w n nw g previous current samples → a ≡ neighbours samples s.width
     → e ≡ error_property s.weights samples s.width → map (int_wrap w32) (own_list x y a g e) ≡ own_of (surroundings s [] samples)
 own_kept s x y w n nw g e previous current samples a r is error =
     let cx = column_is s.width x y w n nw g previous current samples r in
@@ -69,22 +69,3 @@ pub own_property_kept : (s : Setting) (x y : ℕ) (w n nw g e : ℤ) (previous c
     → e ≡ error_property s.weights samples s.width → k < 16 → int_wrap w32 (get_or (own_list x y a g e) k (pos 0)) ≡ get_or (own_of (surroundings s [] samples)) k (pos 0)
 own_property_kept s x y w n nw g e previous current samples a k r is error h =
     sym (own-wraps (own_list x y a g e) k h) ∙ ap (λ xs. get_or xs k (pos 0)) (own_kept s x y w n nw g e previous current samples a r is error)
-
--- the numbers of a list are those of f, from n on
-pub record AreFrom (f : ℕ → ℤ) (n : ℕ) (vs : List ℤ) : Type 0 where
-  pub each : (k : ℕ) → k < length vs → get_or vs k (pos 0) ≡ f (n + k)
-
-pub from-none : (f : ℕ → ℤ) (n : ℕ) → AreFrom f n []
-from-none f n = record { each = λ k h. let no : ⊥ = omega (arith, h) in absurd no }
-
-more_at : (f : ℕ → ℤ) (n : ℕ) (v : ℤ) (vs : List ℤ) → FitsSigned w32 v → v ≡ f n → AreFrom f (suc n) vs → (k : ℕ) → k < suc (length vs) → get_or (to_z w32 (of_z w32 v) ∷ vs) k (pos 0) ≡ f (n + k)
-more_at f n v vs fits is rest zero h = to_z-of_z w32 v fits ∙ is ∙ ap f (omega arith)
-more_at f n v vs fits is rest (suc k) h = rest.each k (omega (arith, h)) ∙ ap f (omega arith)
-
--- one more, before those of the next numbers; it is stored in 32 bits
-pub from-more : (f : ℕ → ℤ) (n : ℕ) (v : ℤ) (vs : List ℤ) → FitsSigned w32 v → v ≡ f n → AreFrom f (suc n) vs → AreFrom f n (to_z w32 (of_z w32 v) ∷ vs)
-from-more f n v vs fits is rest = record { each = more_at f n v vs fits is rest }
-
--- the numbers of a list that begins with that of 0
-pub from-start : (f : ℕ → ℤ) (vs : List ℤ) → AreFrom f 0 vs → (k : ℕ) → k < length vs → get_or vs k (pos 0) ≡ f k
-from-start f vs are k h = are.each k h ∙ ap f (omega arith)

@@ -1,6 +1,6 @@
 //! The properties of a cell, which hold the state until the cell's sample is recorded.
 
-ghost use Rattle.std.specs.Prelude.{◌≡◌, ◌+◌, ◌-◌, ◌<◌, ◌≤◌, ◌^◌, ℕ, ℤ, pos, List, [], ◌∷◌, ◌++◌, false, None, slice_index_or};
+ghost use Rattle.std.specs.Prelude.{◌≡◌, ◌+◌, ◌-◌, ◌<◌, ◌≤◌, ◌^◌, ℕ, ℤ, pos, List, [], ◌∷◌, ◌++◌, false, None, slice_index_or, map};
 ghost use Rattle.std.specs.Int.{w32, int_wrap};
 ghost use Rattle.jxlm_base.specs.Regions.{store_meanings};
 ghost use Rattle.jxlm_weighted.specs.Around.{neighbours_of};
@@ -64,6 +64,33 @@ impl<S> PredictorState<S> {
             15 => error,
             _ => 0,
         }
+    }
+
+    /// All of them, in order: a list that is written out is short enough to be inlined wherever a walk asks for it.
+    #[inline(always)]
+    fn own_properties(&self, around: &Around, error: i32) -> [i32; 16]
+        ensures { result ≡ map (int_wrap w32)
+            (own_list self.now.x self.now.y (neighbours_of around.now) self.now.gradient error) }
+    {
+        let Around { w, n, nw, .. } = *around;
+        [
+            0,
+            0,
+            read_as_signed(self.y),
+            read_as_signed(self.x),
+            reduced_absolute(n),
+            reduced_absolute(w),
+            n,
+            w,
+            w.wrapping_sub(self.gradient),
+            w.wrapping_sub(nw).wrapping_add(n),
+            w.wrapping_sub(nw),
+            nw.wrapping_sub(n),
+            n.wrapping_sub(around.ne),
+            n.wrapping_sub(around.nn),
+            w.wrapping_sub(around.ww),
+            error,
+        ]
     }
 
     /// The properties of the cell that the state is at.
@@ -150,24 +177,8 @@ impl<'p, S: Sample> Properties<'p, S> {
         requires { IsCurrent self.now }
         ensures { AreOwn S.to_int self.now result }
     {
-        [
-            self.get(0),
-            self.get(1),
-            self.get(2),
-            self.get(3),
-            self.get(4),
-            self.get(5),
-            self.get(6),
-            self.get(7),
-            self.get(8),
-            self.get(9),
-            self.get(10),
-            self.get(11),
-            self.get(12),
-            self.get(13),
-            self.get(14),
-            self.get(15),
-        ]
+        let error = PredictionResult::maximum_error(&self.correction);
+        self.state.own_properties(&self.around, error)
     }
 
     /// The same properties for walks of trees, with those that `own` gave.
