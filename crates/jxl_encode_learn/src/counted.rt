@@ -5,12 +5,13 @@ use jxlm_base::grid::OutOfMemory;
 use jxlm_predictor::predictor::Predictor;
 use std::alloc::Global;
 
-/// A class of samples that were counted.
+/// A class of samples that were counted. Each class of samples that are alike is counted once, with the number of samples in
+/// it as its weight. A class of a table, which has the counts of all its samples, has the weight 1.
 #[derive(Clone, Copy)]
 pub struct Class {
     /// Its number.
     pub number: u32,
-    /// The factor of its counts.
+    /// By this all that is counted of it is multiplied.
     pub weight: u32,
 }
 

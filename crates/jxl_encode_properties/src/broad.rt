@@ -33,6 +33,23 @@ const PREDICTORS: [Predictor; 14] = [
     Predictor::AvgAll,
 ];
 
+/// The predictors that are tried without the weighted one: the last has its place.
+const UNWEIGHTED: [Predictor; 13] = [
+    Predictor::Zero,
+    Predictor::West,
+    Predictor::North,
+    Predictor::AvgWestAndNorth,
+    Predictor::Select,
+    Predictor::Gradient,
+    Predictor::AvgAll,
+    Predictor::NorthEast,
+    Predictor::NorthWest,
+    Predictor::WestWest,
+    Predictor::AvgWestAndNorthWest,
+    Predictor::AvgNorthAndNorthWest,
+    Predictor::AvgNorthAndNorthEast,
+];
+
 /// The properties: the channel, those of the place and its neighbours, and those of the channel before.
 const PROPERTIES: [u32; 18] = [
     0, 2, 3, 4, 5, 6, 7, 8, 9, 10, 11, 12, 13, 14, 15, 16, 17, 19,
@@ -73,6 +90,15 @@ struct ByAll {
     samples: Samples,
     // How many channels are walked over with the weighted predictor.
     weighted: usize,
+}
+
+/// The predictors that are tried, if this number of channels is walked over with the weighted one.
+fn predictors_of(weighted: usize) -> &'static [Predictor] {
+    if weighted == 0 {
+        &UNWEIGHTED
+    } else {
+        &PREDICTORS
+    }
 }
 
 /// The row in its group.
@@ -149,7 +175,7 @@ impl ByAll {
         }
         Ok(ByAll {
             values,
-            samples: Samples::new(alloc, Vec::new(alloc), &PREDICTORS)?,
+            samples: Samples::new(alloc, Vec::new(alloc), predictors_of(weighted))?,
             weighted,
         })
     }
@@ -169,7 +195,13 @@ impl ByAll {
             let value = property_of(rows, x, &around.own, values.property);
             values.list.push(value)?;
         }
-        self.samples.add_symbols(&around.predicted, sample)
+        let mut predicted = around.predicted;
+        if self.weighted == 0 {
+            predicted[6] = predicted[13];
+            self.samples.add_symbols(&predicted[..13], sample)
+        } else {
+            self.samples.add_symbols(&predicted, sample)
+        }
     }
 
     /// Puts the samples on the axes of their properties, which have cuts by their values. Where many samples are counted
@@ -234,20 +266,33 @@ fn cuts_between(alloc: Global, values: &[i32]) -> Result<Vec<i32>, OutOfMemory> 
     Ok(cuts)
 }
 
+/// How many of these channels are walked over with the weighted predictor, if `weighted` says so, and one of them is apart if
+/// `apart` says so.
+fn weighted_of(channels: usize, weighted: bool, apart: bool) -> usize {
+    if !weighted {
+        0
+    } else if apart {
+        1
+    } else {
+        channels
+    }
+}
+
 /// The scheme that is learnt from a part of the samples of the channels, the first three of which are coded by a colour
-/// transform of this kind, if there is one. In a picture of three channels that is not small the weighted predictor is for the
-/// first channel alone: others have little use for it, and are decoded in less time.
+/// transform of this kind, if there is one; with the weighted predictor and its errors if `weighted` says so. In a picture of
+/// three channels that is not small they are for the first channel alone: others have little use for them, and are decoded in
+/// less time.
 pub fn scheme_by_all(
     alloc: Global,
     channels: &[AlignedGrid<i32>],
     colour: Option<u32>,
     care: Care,
+    weighted: bool,
 ) -> Result<Scheme, OutOfMemory> {
     let samples = samples_in(channels);
     let step = samples.div_ceil(care.samples.max(1)).max(1);
-    let apart = samples > SMALL && channels.len() == 3;
-    let weighted = if apart { 1 } else { channels.len() };
-    let mut taker = ByAll::new(alloc, weighted)?;
+    let apart = weighted && samples > SMALL && channels.len() == 3;
+    let mut taker = ByAll::new(alloc, weighted_of(channels.len(), weighted, apart))?;
     take_all(alloc, Source { channels, colour }, &mut taker, step)?;
     taker.place(alloc)?;
     let prices = Prices {

@@ -364,14 +364,16 @@ pub(crate) fn by_samples(
     Ok(best)
 }
 
-/// The way to code a picture by all properties and predictors, after this colour transform or without one.
+/// The way to code a picture by all properties and predictors, after this colour transform or without one; with the weighted
+/// predictor and its errors if `weighted` says so.
 pub(crate) fn by_all(
     alloc: Global,
     picture: Samples<'_>,
     care: Care,
     colour: Option<u32>,
+    weighted: bool,
 ) -> Result<Way, OutOfMemory> {
-    let scheme = scheme_by_all(alloc, picture.channels, colour, care)?;
+    let scheme = scheme_by_all(alloc, picture.channels, colour, care, weighted)?;
     Ok(Way {
         scheme,
         colour,

@@ -42,10 +42,6 @@ const WAYS: usize = 4;
 /// The share by which ways without a palette of all channels may cost more than those by one, and are tried with most care.
 const MARGIN: u64 = 8;
 
-/// The share by which a palette of all channels of a larger picture has to cost less than ways without one, to be tried with
-/// most care where samples do not repeat.
-const GAIN: u64 = 64;
-
 /// The share by which the way by all properties without a palette may cost more than that by one, and is tried to the end
 /// where samples repeat: costs are without copies.
 const BROAD_MARGIN: u64 = 6;
@@ -116,12 +112,13 @@ pub(crate) fn add_best_ways_of(
         Some(way) => way.colour,
         None => None,
     };
-    let broad = by_all(alloc, samples, care_of(effort).1, colour)?;
+    let broad = by_all(alloc, samples, care_of(effort).1, colour, true)?;
     add_way(alloc, list, Some(broad))?;
     add_way(alloc, list, way)
 }
 
-/// Adds the way by all properties and predictors alone, after the likeliest of these colour transforms.
+/// Adds the way by all properties and predictors but the weighted one alone, after the likeliest of these colour transforms.
+/// Where samples repeat, the weighted predictor saves little, and decoding takes much longer with it.
 pub(crate) fn add_broad_way(
     alloc: Global,
     list: &mut Vec<Advice>,
@@ -134,7 +131,7 @@ pub(crate) fn add_broad_way(
     } else {
         None
     };
-    let broad = by_all(alloc, samples, care_of(Effort::Best).1, colour)?;
+    let broad = by_all(alloc, samples, care_of(Effort::Best).1, colour, false)?;
     add_way(alloc, list, Some(broad))
 }
 
@@ -311,12 +308,6 @@ fn learning_of(picture: &Picture, repeats: bool) -> Learning {
     }
 }
 
-/// Whether a palette of all channels, by which an estimate is this, is tried with most care beside ways without one, by which
-/// it is the other.
-fn is_worth(palette: u64, other: u64) -> bool {
-    palette.saturating_add(palette / GAIN) <= other
-}
-
 /// Whether ways without a palette of all channels, of this cost by an estimate, are tried beside those by one.
 fn is_likely(other: u64, palette: u64) -> bool {
     other <= palette.saturating_add(palette / MARGIN)
@@ -349,9 +340,7 @@ pub(crate) fn best_ways(
     let mut palette = u64::MAX;
     if let Some((order, cost)) = best_order(&ways, picture) {
         palette = cost;
-        if broad || small || is_worth(cost, other) {
-            add_palette_ways_by(alloc, &mut ways, picture, learning, &[order], None)?;
-        }
+        add_palette_ways_by(alloc, &mut ways, picture, learning, &[order], None)?;
     }
     let clear = broad && is_clear(least_broad(&ways, picture), other);
     if is_likely(other, palette) && !clear {
