@@ -2,6 +2,7 @@
 
 use crate::best::{add_best_ways_of, add_broad_way, best_ways, is_small};
 use crate::effort::Effort;
+use crate::groups::groups_of;
 use crate::palettes::add_palette_ways;
 use crate::ranks::{Ranks, add_rank_ways};
 use jxl_encode_advice::residuals::{Care, scheme_by_residuals};
@@ -127,6 +128,9 @@ const MAX_NODES: usize = 16383;
 
 /// The most nodes of the tree of a group of few colours, nearly: it has the first channel's beside them.
 const GROUP_NODES: usize = 450;
+
+/// What the header of a group takes, nearly, in bits times 65,536.
+const GROUP_COST: u64 = 128 * 65536;
 
 /// How much larger the cuts between slopes are at most: deep samples are often as smooth as others.
 const MAX_SLOPE_SCALE: i32 = 8;
@@ -527,6 +531,42 @@ fn cheap_ways(alloc: Global, list: Vec<Advice>) -> Result<Vec<Advice>, OutOfMemo
     Ok(kept)
 }
 
+/// Adds the ways that are learnt as at an effort, without palettes and with them. With `compared` those with palettes that
+/// cost more than the cheapest without them are left out.
+fn add_ways_at(
+    alloc: Global,
+    list: &mut Vec<Advice>,
+    picture: &Picture,
+    effort: Effort,
+    compared: bool,
+    ranks: &Option<Ranks>,
+) -> Result<(), OutOfMemory> {
+    let samples = Samples {
+        channels: &picture.channels,
+        depth: picture.header.bit_depth,
+    };
+    let learning = Learning::At(effort);
+    let colours = colours_of(picture, effort);
+    add_ways_of(alloc, list, samples, learning, colours)?;
+    let bound = if compared {
+        Some(least_cost(list))
+    } else {
+        None
+    };
+    add_palette_ways(alloc, list, picture, effort, bound)?;
+    match ranks {
+        Some(ranks) => add_rank_ways(alloc, list, picture, ranks, learning, bound),
+        None => Ok(()),
+    }
+}
+
+/// Whether the samples of a picture take so few bits in the cheapest of these ways that the headers of its groups, which no
+/// cost includes, may take more.
+fn is_nearly_flat(list: &[Advice], picture: &Picture) -> bool {
+    let (across, down) = groups_of(picture.header.size);
+    least_cost(list) / GROUP_COST <= across.saturating_mul(down)
+}
+
 /// Ways to code a picture, of which samples repeat if `repeats` says so, and whose values have these ranks, if they are few.
 pub fn advices_for(
     alloc: Global,
@@ -536,24 +576,13 @@ pub fn advices_for(
     ranks: &Option<Ranks>,
 ) -> Result<Vec<Advice>, OutOfMemory> {
     let mut list = Vec::new(alloc);
-    let samples = Samples {
-        channels: &picture.channels,
-        depth: picture.header.bit_depth,
-    };
     let compared = are_compared(effort, repeats);
     for tried in efforts_of(effort, repeats, is_small(picture)) {
-        let learning = Learning::At(*tried);
-        let colours = colours_of(picture, *tried);
-        add_ways_of(alloc, &mut list, samples, learning, colours)?;
-        let bound = if compared {
-            Some(least_cost(&list))
-        } else {
-            None
-        };
-        add_palette_ways(alloc, &mut list, picture, *tried, bound)?;
-        if let Some(ranks) = ranks {
-            add_rank_ways(alloc, &mut list, picture, ranks, learning, bound)?;
-        }
+        add_ways_at(alloc, &mut list, picture, *tried, compared, ranks)?;
+    }
+    if !matches!(effort, Effort::Fast) && is_nearly_flat(&list, picture) {
+        add_ways_at(alloc, &mut list, picture, Effort::Fast, false, ranks)?;
+        return Ok(list);
     }
     if compared {
         return cheap_ways(alloc, list);

@@ -14,7 +14,7 @@ use std::alloc::Global;
 const GROUP_DIM: u32 = 256;
 
 /// The same, of samples in a list.
-const SIDE: usize = GROUP_DIM as usize;
+pub(crate) const SIDE: usize = GROUP_DIM as usize;
 
 /// The trees that groups may have of their own by palettes, if there are some, and by a colour transform.
 #[derive(Drop)]
@@ -47,6 +47,14 @@ impl OwnTrees {
         }
         &[]
     }
+}
+
+/// How many groups a picture of this size has side by side, and one below the other.
+pub(crate) fn groups_of(size: Size) -> (u64, u64) {
+    (
+        u64::from(size.width.div_ceil(GROUP_DIM)),
+        u64::from(size.height.div_ceil(GROUP_DIM)),
+    )
 }
 
 /// Copies the samples of a row from this column on.
@@ -123,8 +131,7 @@ fn add_trees(
     effort: Effort,
     colour: Option<u32>,
 ) -> Result<(), OutOfMemory> {
-    let across = u64::from(size.width.div_ceil(GROUP_DIM));
-    let down = u64::from(size.height.div_ceil(GROUP_DIM));
+    let (across, down) = groups_of(size);
     for group in 0..across.saturating_mul(down) {
         trees.push(tree_of(alloc, samples, effort, colour, group, across)?)?;
     }

@@ -4,6 +4,7 @@ use crate::advice::{
     Advice, Learning, Samples, add_advice, add_ways_of, care_of, shade_axes, slope_axes,
 };
 use crate::effort::Effort;
+use crate::groups::SIDE;
 use crate::joined::{CHANNEL, Levels, joined};
 use jxl_encode_advice::residuals::{Care, scheme_by_residuals};
 use jxl_encode_image::transform::PalettePlan;
@@ -26,9 +27,6 @@ const PIXELS: usize = 8;
 
 /// About how many samples are looked at before ways by a palette are learnt.
 const LOOKED: usize = 1 << 15;
-
-/// The side of a group: the indices of a larger picture are in other sections than the table.
-const GROUP_DIM: usize = 256;
 
 /// The property that is the number of the stream, greater than 0 in sections of groups.
 const STREAM: u32 = 1;
@@ -137,8 +135,9 @@ pub(crate) fn add_ways_by(
     learning: Learning,
     bound: Option<u64>,
 ) -> Result<(), OutOfMemory> {
+    // The indices of a picture of several groups are in other sections than the table.
     let large = match coded.samples.channels.get(0) {
-        Some(first) => first.width() > GROUP_DIM || first.height() > GROUP_DIM,
+        Some(first) => first.width() > SIDE || first.height() > SIDE,
         None => false,
     };
     let care = care_of(learning.effort()).1;
