@@ -73,6 +73,9 @@ const SMALL: usize = 1 << 16;
 /// The price of a decision for each sample that it is made for, in bits divided by 65,536: decoding takes time for it.
 const STEP: u64 = 65;
 
+/// The same in a picture that is not small and all of whose channels have the weighted predictor: then they take most time.
+const WEIGHTED_STEP: u64 = 650;
+
 /// About how many values of a property its cuts are chosen by.
 const LOOKED: usize = 1 << 15;
 
@@ -278,6 +281,15 @@ fn weighted_of(channels: usize, weighted: bool, apart: bool) -> usize {
     }
 }
 
+/// The price of a decision for each sample of a picture of this many, if all channels have the weighted predictor or not.
+fn step_of(samples: usize, all_weighted: bool) -> u64 {
+    if all_weighted && samples > SMALL {
+        WEIGHTED_STEP
+    } else {
+        STEP
+    }
+}
+
 /// The scheme that is learnt from a part of the samples of the channels, the first three of which are coded by a colour
 /// transform of this kind, if there is one; with the weighted predictor and its errors if `weighted` says so. In a picture of
 /// three channels that is not small they are for the first channel alone: others have little use for them, and are decoded in
@@ -305,7 +317,7 @@ pub fn scheme_by_all(
     let bounds = Bounds {
         nodes: MAX_NODES,
         predictors: TRIED,
-        step: STEP,
+        step: step_of(samples, weighted && !apart),
         apart,
     };
     scheme_within(alloc, &taker.samples, prices, bounds, &[], care.clusters)
