@@ -132,6 +132,12 @@ const GROUP_NODES: usize = 450;
 /// What the header of a group takes, nearly, in bits times 65,536.
 const GROUP_COST: u64 = 128 * 65536;
 
+/// How many samples are taken to see what the weighted predictor saves.
+const TRIED_SAMPLES: usize = 1 << 15;
+
+/// The share of the cost that the weighted predictor has to save where samples repeat: decoding takes long with it.
+const WEIGHTS_GAIN: u64 = 5;
+
 /// How much larger the cuts between slopes are at most: deep samples are often as smooth as others.
 const MAX_SLOPE_SCALE: i32 = 8;
 
@@ -384,6 +390,23 @@ pub(crate) fn by_all(
         own: false,
         broad: true,
     })
+}
+
+/// Whether the weighted predictor and its errors save more than a fifth of what some of the samples cost by all other
+/// predictors and properties, after this colour transform or without one.
+pub(crate) fn saves_by_weights(
+    alloc: Global,
+    picture: Samples<'_>,
+    colour: Option<u32>,
+) -> Result<bool, OutOfMemory> {
+    let care = Care {
+        samples: TRIED_SAMPLES,
+        clusters: 64,
+        colours: 0,
+    };
+    let with = scheme_by_all(alloc, picture.channels, colour, care, true)?.cost;
+    let without = scheme_by_all(alloc, picture.channels, colour, care, false)?.cost;
+    Ok(with < without.saturating_sub(without / WEIGHTS_GAIN))
 }
 
 /// The colour transforms that are tried with trees learnt from samples one by one, where these are with slopes.

@@ -3,7 +3,7 @@
 
 use crate::advice::{
     Advice, Learning, Samples, add_way, add_ways_of, by_all, by_colours, by_samples, by_slopes,
-    care_of, colours_of, slope_axes,
+    care_of, colours_of, saves_by_weights, slope_axes,
 };
 use crate::effort::Effort;
 use crate::palettes::add_palette_ways_by;
@@ -117,8 +117,8 @@ pub(crate) fn add_best_ways_of(
     add_way(alloc, list, way)
 }
 
-/// Adds the way by all properties and predictors but the weighted one alone, after the likeliest of these colour transforms.
-/// Where samples repeat, the weighted predictor saves little, and decoding takes much longer with it.
+/// Adds the way by all properties and predictors alone, after the likeliest of these colour transforms; without the weighted
+/// predictor, unless it saves much: where samples repeat, it mostly does not.
 pub(crate) fn add_broad_way(
     alloc: Global,
     list: &mut Vec<Advice>,
@@ -131,7 +131,8 @@ pub(crate) fn add_broad_way(
     } else {
         None
     };
-    let broad = by_all(alloc, samples, care_of(Effort::Best).1, colour, false)?;
+    let weighted = saves_by_weights(alloc, samples, colour)?;
+    let broad = by_all(alloc, samples, care_of(Effort::Best).1, colour, weighted)?;
     add_way(alloc, list, Some(broad))
 }
 
