@@ -118,7 +118,7 @@ pub(crate) fn add_best_ways_of(
 }
 
 /// Adds the way by all properties and predictors alone, after the likeliest of these colour transforms; without the weighted
-/// predictor, unless it saves much: where samples repeat, it mostly does not.
+/// predictor, unless it saves much of one channel alone: where samples repeat, it mostly does not.
 pub(crate) fn add_broad_way(
     alloc: Global,
     list: &mut Vec<Advice>,
@@ -131,7 +131,11 @@ pub(crate) fn add_broad_way(
     } else {
         None
     };
-    let weighted = saves_by_weights(alloc, samples, colour)?;
+    let weighted = if samples.channels.len() == 1 {
+        saves_by_weights(alloc, samples, colour)?
+    } else {
+        false
+    };
     let broad = by_all(alloc, samples, care_of(Effort::Best).1, colour, weighted)?;
     add_way(alloc, list, Some(broad))
 }
