@@ -48,7 +48,7 @@ impl<'s, S: Sample> EarlierRow<'s, S> {
     }
 
     // The properties of this channel in column `x` of row `y`: one of the four, by its number.
-    #[inline(always)]
+    #[inline]
     pub(crate) fn property(self, x: usize, y: usize, which: usize) -> i32
         requires column { x < length self.row.now }
         requires above { x < length self.above.now }
@@ -84,7 +84,7 @@ impl<'s, S: Sample> EarlierRow<'s, S> {
         EarlierRow::of(store, region, y).property(x, y, which)
     }
 
-    #[inline(always)]
+    #[inline]
     fn expected(self, x: usize, y: usize) -> i32
         requires column { x < length self.row.now }
         requires above { x < length self.above.now }

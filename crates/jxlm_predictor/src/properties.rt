@@ -66,7 +66,7 @@ impl<S> PredictorState<S> {
         }
     }
 
-    /// All of them, in order: a list that is written out is short enough to be inlined wherever a walk asks for it.
+    /// All of them, in order.
     #[inline(always)]
     fn own_properties(&self, around: &Around, error: i32) -> [i32; 16]
         ensures { result ≡ map (int_wrap w32)
@@ -212,7 +212,7 @@ impl<'p, S: Sample> Properties<'p, S> {
 }
 
 // A property of an earlier channel of which no row is at hand, or 0 where there is none.
-#[inline(always)]
+#[inline]
 fn farther_property<S: Sample>(
     state: &PredictorState<S>,
     store: &[AlignedGrid<S>],
