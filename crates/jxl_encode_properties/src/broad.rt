@@ -15,7 +15,7 @@ use jxlm_base::grid::{AlignedGrid, OutOfMemory};
 use jxlm_predictor::predictor::Predictor;
 use std::alloc::Global;
 
-/// The predictors that are tried.
+/// The predictors that are tried, the weighted one last.
 const PREDICTORS: [Predictor; 14] = [
     Predictor::Zero,
     Predictor::West,
@@ -23,32 +23,18 @@ const PREDICTORS: [Predictor; 14] = [
     Predictor::AvgWestAndNorth,
     Predictor::Select,
     Predictor::Gradient,
-    Predictor::SelfCorrecting,
+    Predictor::AvgAll,
     Predictor::NorthEast,
     Predictor::NorthWest,
     Predictor::WestWest,
     Predictor::AvgWestAndNorthWest,
     Predictor::AvgNorthAndNorthWest,
     Predictor::AvgNorthAndNorthEast,
-    Predictor::AvgAll,
+    Predictor::SelfCorrecting,
 ];
 
-/// The predictors that are tried without the weighted one: the last has its place.
-const UNWEIGHTED: [Predictor; 13] = [
-    Predictor::Zero,
-    Predictor::West,
-    Predictor::North,
-    Predictor::AvgWestAndNorth,
-    Predictor::Select,
-    Predictor::Gradient,
-    Predictor::AvgAll,
-    Predictor::NorthEast,
-    Predictor::NorthWest,
-    Predictor::WestWest,
-    Predictor::AvgWestAndNorthWest,
-    Predictor::AvgNorthAndNorthWest,
-    Predictor::AvgNorthAndNorthEast,
-];
+/// How many of them there are without the weighted one.
+const UNWEIGHTED: usize = 13;
 
 /// The properties: the channel, those of the place and its neighbours, and those of the channel before.
 const PROPERTIES: [u32; 18] = [
@@ -73,8 +59,11 @@ const SMALL: usize = 1 << 16;
 /// The price of a decision for each sample that it is made for, in bits divided by 65,536: decoding takes time for it.
 const STEP: u64 = 65;
 
-/// The same in a picture that is not small and all of whose channels have the weighted predictor: then they take most time.
-const WEIGHTED_STEP: u64 = 650;
+/// The same for several channels of a picture that is not small: a decision is made for each sample of them.
+const CHANNELS_STEP: u64 = 200;
+
+/// The same if all of its channels have the weighted predictor: then they take most time.
+const WEIGHTED_STEP: u64 = 1300;
 
 /// About how many values of a property its cuts are chosen by.
 const LOOKED: usize = 1 << 15;
@@ -98,7 +87,7 @@ struct ByAll {
 /// The predictors that are tried, if this number of channels is walked over with the weighted one.
 fn predictors_of(weighted: usize) -> &'static [Predictor] {
     if weighted == 0 {
-        &UNWEIGHTED
+        &PREDICTORS[..UNWEIGHTED]
     } else {
         &PREDICTORS
     }
@@ -198,13 +187,12 @@ impl ByAll {
             let value = property_of(rows, x, &around.own, values.property);
             values.list.push(value)?;
         }
+        // In the order of `PREDICTORS`.
         let mut predicted = around.predicted;
-        if self.weighted == 0 {
-            predicted[6] = predicted[13];
-            self.samples.add_symbols(&predicted[..13], sample)
-        } else {
-            self.samples.add_symbols(&predicted, sample)
-        }
+        predicted[6] = around.predicted[13];
+        predicted[13] = around.predicted[6];
+        let tried = predictors_of(self.weighted).len();
+        self.samples.add_symbols(&predicted[..tried], sample)
     }
 
     /// Puts the samples on the axes of their properties, which have cuts by their values. Where many samples are counted
@@ -281,10 +269,15 @@ fn weighted_of(channels: usize, weighted: bool, apart: bool) -> usize {
     }
 }
 
-/// The price of a decision for each sample of a picture of this many, if all channels have the weighted predictor or not.
-fn step_of(samples: usize, all_weighted: bool) -> u64 {
-    if all_weighted && samples > SMALL {
+/// The price of a decision for each sample of a picture of this many in some channels, if all of them have the weighted
+/// predictor or not.
+fn step_of(samples: usize, channels: usize, all_weighted: bool) -> u64 {
+    if samples <= SMALL {
+        STEP
+    } else if all_weighted {
         WEIGHTED_STEP
+    } else if channels > 1 {
+        CHANNELS_STEP
     } else {
         STEP
     }
@@ -292,8 +285,8 @@ fn step_of(samples: usize, all_weighted: bool) -> u64 {
 
 /// The scheme that is learnt from a part of the samples of the channels, the first three of which are coded by a colour
 /// transform of this kind, if there is one; with the weighted predictor and its errors if `weighted` says so. In a picture of
-/// three channels that is not small they are for the first channel alone: others have little use for them, and are decoded in
-/// less time.
+/// three channels or four that is not small they are for the first channel alone: others have little use for them, and are
+/// decoded in less time.
 pub fn scheme_by_all(
     alloc: Global,
     channels: &[AlignedGrid<i32>],
@@ -303,21 +296,21 @@ pub fn scheme_by_all(
 ) -> Result<Scheme, OutOfMemory> {
     let samples = samples_in(channels);
     let step = samples.div_ceil(care.samples.max(1)).max(1);
-    let apart = weighted && samples > SMALL && channels.len() == 3;
+    let apart = weighted && samples > SMALL && channels.len() > 2;
     let mut taker = ByAll::new(alloc, weighted_of(channels.len(), weighted, apart))?;
     take_all(alloc, Source { channels, colour }, &mut taker, step)?;
     taker.place(alloc)?;
     let prices = Prices {
         scale: step as u64,
         decision: 22,
-        leaf: 7,
-        symbol: 3,
+        leaf: 4,
+        symbol: 2,
         other: 0,
     };
     let bounds = Bounds {
         nodes: MAX_NODES,
         predictors: TRIED,
-        step: step_of(samples, weighted && !apart),
+        step: step_of(samples, channels.len(), weighted && !apart),
         apart,
     };
     scheme_within(alloc, &taker.samples, prices, bounds, &[], care.clusters)
