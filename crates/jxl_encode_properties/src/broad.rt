@@ -191,8 +191,11 @@ impl ByAll {
         let mut predicted = around.predicted;
         predicted[6] = around.predicted[13];
         predicted[13] = around.predicted[6];
-        let tried = predictors_of(self.weighted).len();
-        self.samples.add_symbols(&predicted[..tried], sample)
+        if self.weighted == 0 {
+            self.samples.add_symbols(&predicted[..UNWEIGHTED], sample)
+        } else {
+            self.samples.add_symbols(&predicted, sample)
+        }
     }
 
     /// Puts the samples on the axes of their properties, which have cuts by their values. Where many samples are counted
