@@ -92,7 +92,7 @@ fn likely_colours(
 }
 
 /// Adds the ways of these samples at the greatest effort: the cheapest by colours or slopes, that by the errors of the
-/// weighted predictor, and that by all properties and predictors.
+/// weighted predictor, and that by all properties and predictors, without the weighted one if samples are few.
 pub(crate) fn add_best_ways_of(
     alloc: Global,
     list: &mut Vec<Advice>,
@@ -112,7 +112,8 @@ pub(crate) fn add_best_ways_of(
         Some(way) => way.colour,
         None => None,
     };
-    let broad = by_all(alloc, samples, care_of(effort).1, colour, true)?;
+    let weighted = samples_in(samples.channels) > SMALL;
+    let broad = by_all(alloc, samples, care_of(effort).1, colour, weighted)?;
     add_way(alloc, list, Some(broad))?;
     add_way(alloc, list, way)
 }
@@ -324,7 +325,9 @@ fn is_clear(broad: u64, other: u64) -> bool {
     broad.saturating_mul(4) <= other.saturating_mul(3)
 }
 
-/// The ways that are tried at the greatest effort, where these are those of lower ones: samples repeat if `repeats` says so.
+/// The ways that are tried at the greatest effort, where these are those of lower ones: samples repeat if `repeats` says so. Of
+/// a small picture of few colours those of lower efforts are all that have no palette of all channels: they are decoded in less
+/// time.
 pub(crate) fn best_ways(
     alloc: Global,
     ways: Vec<Advice>,
@@ -348,7 +351,8 @@ pub(crate) fn best_ways(
         add_palette_ways_by(alloc, &mut ways, picture, learning, &[order], None)?;
     }
     let clear = broad && is_clear(least_broad(&ways, picture), other);
-    if is_likely(other, palette) && !clear {
+    let few = small && palette < u64::MAX;
+    if is_likely(other, palette) && !clear && !few {
         add_other_ways(alloc, &mut ways, picture, ranks, learning)?;
     }
     if broad {
