@@ -33,9 +33,6 @@ const ORDERS: [ColourOrder; 3] = [
     ColourOrder::Sample,
 ];
 
-/// The share by which such a way may cost more than the cheapest of them.
-const ORDER_MARGIN: u64 = 16;
-
 /// How many ways are tried to the end elsewhere.
 const WAYS: usize = 4;
 
@@ -247,51 +244,44 @@ fn is_in_order(way: &Advice, picture: &Picture, order: ColourOrder) -> bool {
     !way.broad && order_of(way, picture) == Some(order)
 }
 
-/// The place of the cheapest of these ways in an order, and its cost.
-fn best_in(ways: &[Advice], picture: &Picture, order: ColourOrder) -> Option<(usize, u64)> {
-    let mut best: Option<(usize, u64)> = None;
+/// The place of the cheapest of these ways in an order.
+fn best_in(ways: &[Advice], picture: &Picture, order: ColourOrder) -> Option<usize> {
+    let mut best: Option<usize> = None;
+    let mut least = u64::MAX;
     for at in 0..ways.len() {
         let way = &ways[at];
-        let cheaper = match best {
-            Some((_, cost)) => way.cost < cost,
-            None => true,
-        };
+        let cheaper = best.is_none() || way.cost < least;
         if cheaper && is_in_order(way, picture, order) {
-            best = Some((at, way.cost));
+            least = way.cost;
+            best = Some(at);
         }
     }
     best
 }
 
-/// The places of the cheapest ways in each order that cost little more than the cheapest of them, which costs this. By costs
-/// without copies it is not known which is the shortest with them.
-fn likely_in_orders(
+/// The places of the cheapest ways in each order. By costs without copies it is not known which is the shortest with them.
+fn cheapest_in_orders(
     alloc: Global,
     ways: &[Advice],
     picture: &Picture,
-    least: u64,
 ) -> Result<Vec<usize>, OutOfMemory> {
-    let most = least.saturating_add(least / ORDER_MARGIN);
     let mut places = Vec::new(alloc);
     for order in &ORDERS {
-        if let Some((at, cost)) = best_in(ways, picture, *order) {
-            if cost <= most {
-                places.push(at)?;
-            }
+        if let Some(at) = best_in(ways, picture, *order) {
+            places.push(at)?;
         }
     }
     Ok(places)
 }
 
-/// The ways that are tried to the end where samples repeat: those by all properties, and the likeliest of the others. The
-/// cheapest of these by a palette of all channels costs this.
+/// The ways that are tried to the end where samples repeat: those by all properties, and the cheapest of the others in each
+/// order of a palette of all channels.
 fn copied_of(
     alloc: Global,
     ways: Vec<Advice>,
     picture: &Picture,
-    least: u64,
 ) -> Result<Vec<Advice>, OutOfMemory> {
-    let places = likely_in_orders(alloc, &ways, picture, least)?;
+    let places = cheapest_in_orders(alloc, &ways, picture)?;
     if places.is_empty() {
         return cheapest_of(alloc, ways, COPIED_WAYS);
     }
@@ -356,7 +346,7 @@ pub(crate) fn best_ways(
         add_other_ways(alloc, &mut ways, picture, ranks, learning)?;
     }
     if broad {
-        return copied_of(alloc, ways, picture, palette);
+        return copied_of(alloc, ways, picture);
     }
     let most = if small { SMALL_WAYS } else { WAYS };
     cheapest_of(alloc, ways, most)
