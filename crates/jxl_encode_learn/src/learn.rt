@@ -20,6 +20,8 @@ pub struct Bounds {
     pub step: u64,
     /// Whether the first decision is between the first class on the first axis and the others.
     pub apart: bool,
+    /// How often leaves are moved between clusters, and decisions taken back.
+    pub rounds: usize,
 }
 
 /// Classes that a node does not tell apart, one behind another, and their predictor.
@@ -32,6 +34,30 @@ pub(crate) struct Span {
     // The next best predictor.
     second: usize,
     cost: u64,
+}
+
+impl Span {
+    /// The same by a predictor.
+    pub(crate) fn by(self, kind: usize) -> Span {
+        Span {
+            start: self.start,
+            end: self.end,
+            kind,
+            second: self.second,
+            cost: self.cost,
+        }
+    }
+
+    /// The classes of both, of which the second ones are behind the first.
+    pub(crate) fn with(self, other: Span) -> Span {
+        Span {
+            start: self.start,
+            end: other.end,
+            kind: self.kind,
+            second: other.kind,
+            cost: self.cost.saturating_add(other.cost),
+        }
+    }
 }
 
 /// A decision: the classes behind a place on an axis go to the left child.
@@ -217,9 +243,14 @@ impl<C: Counted> Learner<'_, C> {
         self.table.predictor(span.kind)
     }
 
-    /// The counts of the samples of a leaf.
-    pub(crate) fn counts(&mut self, span: Span) -> &[u32] {
-        self.count(span, span.kind);
+    /// The number of predictors.
+    pub(crate) fn kinds(&self) -> usize {
+        self.table.kinds()
+    }
+
+    /// The counts of the samples of a span by a predictor.
+    pub(crate) fn counts_by(&mut self, span: Span, kind: usize) -> &[u32] {
+        self.count(span, kind);
         &self.whole
     }
 
@@ -333,7 +364,7 @@ impl<C: Counted> Learner<'_, C> {
     }
 
     /// The price of a decision for the samples of a span, in bits times 65,536.
-    fn price(&self, span: Span) -> u64 {
+    pub(crate) fn price(&self, span: Span) -> u64 {
         let decision = self.prices.decision.saturating_mul(BIT);
         if self.bounds.step == 0 {
             return decision;
@@ -345,9 +376,20 @@ impl<C: Counted> Learner<'_, C> {
             .saturating_add(decision)
     }
 
-    /// The best cut of a span, if it saves more than it costs.
-    fn worth(&mut self, span: Span) -> Option<Cut> {
+    /// What a decision has to save when it is made: half of its price if it may be taken back, since others may follow it that
+    /// save more.
+    fn least_saved(&self, span: Span) -> u64 {
         let price = self.price(span);
+        if self.bounds.rounds > 0 {
+            price / 2
+        } else {
+            price
+        }
+    }
+
+    /// The best cut of a span, if it saves enough.
+    fn worth(&mut self, span: Span) -> Option<Cut> {
+        let price = self.least_saved(span);
         if span.cost <= price {
             return None;
         }

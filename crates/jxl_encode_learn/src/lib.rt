@@ -8,5 +8,6 @@ pub mod costs;
 pub mod counted;
 pub mod counts;
 mod learn;
+mod refine;
 pub mod scheme;
 pub mod symbols;

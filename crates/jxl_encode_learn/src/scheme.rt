@@ -6,6 +6,7 @@ use crate::counted::Counted;
 use crate::counts::{clear, zeros};
 pub use crate::learn::Bounds;
 use crate::learn::{Learner, Learnt};
+use crate::refine::Refiner;
 use crate::symbols::symbol_of;
 use jxlm_base::grid::OutOfMemory;
 use jxlm_encode_write::tree::EncodeNode;
@@ -99,7 +100,7 @@ impl Maker<'_> {
             }
             Learnt::Leaf(span) => {
                 let predictor = learner.predictor(span);
-                let counts = learner.counts(span);
+                let counts = learner.counts_by(span, span.kind);
                 self.add_leaf(predictor, counts)?;
             }
         }
@@ -121,19 +122,8 @@ pub fn scheme_of<C: Counted>(
         predictors: 1,
         step: 0,
         apart: false,
+        rounds: 0,
     };
-    scheme_within(alloc, table, prices, bounds, values, most)
-}
-
-/// The same within these bounds.
-pub fn scheme_within<C: Counted>(
-    alloc: Global,
-    table: &C,
-    prices: Prices,
-    bounds: Bounds,
-    values: &[i32],
-    most: usize,
-) -> Result<Scheme, OutOfMemory> {
     let mut learner = Learner::new(alloc, table, prices, bounds)?;
     let learnt = learner.learn(alloc)?;
     let mut maker = Maker {
@@ -149,15 +139,84 @@ pub fn scheme_within<C: Counted>(
     for node in &learnt {
         maker.add(&mut learner, *node)?;
     }
-    let decisions = learnt.len() as u64 / 2;
-    let tree = decisions
-        .saturating_mul(prices.decision)
-        .saturating_mul(BIT);
     let Maker {
         mut scheme,
         clusters,
         ..
     } = maker;
-    scheme.cost = clusters.cost().saturating_add(tree);
+    scheme.cost = clusters
+        .cost()
+        .saturating_add(cost_of_tree(learnt.len(), prices));
     Ok(scheme)
+}
+
+/// What this number of nodes costs.
+fn cost_of_tree(nodes: usize, prices: Prices) -> u64 {
+    (nodes as u64 / 2)
+        .saturating_mul(prices.decision)
+        .saturating_mul(BIT)
+}
+
+/// The number of a cluster among those that have leaves.
+fn number_of(numbers: &mut Vec<usize>, cluster: usize) -> Result<u8, OutOfMemory> {
+    let number = match numbers.iter().position(|old| *old == cluster) {
+        Some(number) => number,
+        None => {
+            numbers.push(cluster)?;
+            numbers.len().saturating_sub(1)
+        }
+    };
+    Ok(number.min(255) as u8)
+}
+
+/// The scheme of these nodes with the clusters of their leaves, which cost this.
+fn scheme_from<C: Counted>(
+    alloc: Global,
+    table: &C,
+    nodes: &[(Learnt, usize)],
+    cost: u64,
+) -> Result<Scheme, OutOfMemory> {
+    let mut numbers = Vec::new(alloc);
+    let mut scheme = Scheme {
+        nodes: Vec::new(alloc),
+        clusters: Vec::new(alloc),
+        cost,
+    };
+    for node in nodes {
+        let own = match node.0 {
+            Learnt::Decision { property, value } => EncodeNode::Decision { property, value },
+            Learnt::Leaf(span) => {
+                let number = number_of(&mut numbers, node.1)?;
+                scheme.clusters.push(number)?;
+                let predictor = table.predictor(span.kind);
+                EncodeNode::Leaf {
+                    predictor,
+                    offset: 0,
+                }
+            }
+        };
+        scheme.nodes.push(own)?;
+    }
+    Ok(scheme)
+}
+
+/// The scheme that is learnt within these bounds from what was counted of residuals, with at most this number of clusters,
+/// and made better.
+pub fn scheme_within<C: Counted>(
+    alloc: Global,
+    table: &C,
+    prices: Prices,
+    bounds: Bounds,
+    most: usize,
+) -> Result<Scheme, OutOfMemory> {
+    let mut learner = Learner::new(alloc, table, prices, bounds)?;
+    let learnt = learner.learn(alloc)?;
+    let clusters = Clusters::new(alloc, prices.scale, most)?;
+    let mut refiner = Refiner::new(alloc, learner, &learnt, clusters)?;
+    refiner.refine(bounds.rounds)?;
+    let nodes = refiner.nodes(alloc)?;
+    let cost = refiner
+        .cost()
+        .saturating_add(cost_of_tree(nodes.len(), prices));
+    scheme_from(alloc, table, &nodes, cost)
 }

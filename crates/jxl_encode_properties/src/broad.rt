@@ -53,6 +53,9 @@ const MAX_NODES: usize = 4093;
 /// By how many predictors a cut is tried.
 const TRIED: usize = 2;
 
+/// How often a tree is made better.
+const ROUNDS: usize = 2;
+
 /// The most samples of a small picture.
 const SMALL: usize = 1 << 16;
 
@@ -60,10 +63,10 @@ const SMALL: usize = 1 << 16;
 const STEP: u64 = 65;
 
 /// The same for several channels of a picture that is not small: a decision is made for each sample of them.
-const CHANNELS_STEP: u64 = 200;
+const CHANNELS_STEP: u64 = 260;
 
 /// The same if all of its channels have the weighted predictor: then they take most time.
-const WEIGHTED_STEP: u64 = 1300;
+const WEIGHTED_STEP: u64 = 1700;
 
 /// About how many values of a property its cuts are chosen by.
 const LOOKED: usize = 1 << 15;
@@ -288,7 +291,7 @@ fn step_of(samples: usize, channels: usize, all_weighted: bool) -> u64 {
 
 /// The scheme that is learnt from a part of the samples of the channels, the first three of which are coded by a colour
 /// transform of this kind, if there is one; with the weighted predictor and its errors if `weighted` says so. In a picture of
-/// three channels or four that is not small they are for the first channel alone: others have little use for them, and are
+/// three channels or more that is not small they are for the first channel alone: others have little use for them, and are
 /// decoded in less time.
 pub fn scheme_by_all(
     alloc: Global,
@@ -315,6 +318,7 @@ pub fn scheme_by_all(
         predictors: TRIED,
         step: step_of(samples, channels.len(), weighted && !apart),
         apart,
+        rounds: ROUNDS,
     };
-    scheme_within(alloc, &taker.samples, prices, bounds, &[], care.clusters)
+    scheme_within(alloc, &taker.samples, prices, bounds, care.clusters)
 }

@@ -39,6 +39,9 @@ const WAYS: usize = 4;
 /// The share by which ways without a palette of all channels may cost more than those by one, and are tried with most care.
 const MARGIN: u64 = 8;
 
+/// The most nodes of a tree that is used for a small picture of few colours without a palette of all channels.
+const FEW_NODES: usize = 15;
+
 /// The share by which the way by all properties without a palette may cost more than that by one, and is tried to the end
 /// where samples repeat: costs are without copies.
 const BROAD_MARGIN: u64 = 6;
@@ -88,8 +91,23 @@ fn likely_colours(
     Ok(likely)
 }
 
+/// Adds the ways by all properties and predictors without the weighted one, after each of these colour transforms.
+fn add_unweighted_ways(
+    alloc: Global,
+    list: &mut Vec<Advice>,
+    samples: Samples<'_>,
+    colours: &[Option<u32>],
+) -> Result<(), OutOfMemory> {
+    let care = care_of(Effort::Best).1;
+    for colour in colours {
+        let way = by_all(alloc, samples, care, *colour, false)?;
+        add_way(alloc, list, Some(way))?;
+    }
+    Ok(())
+}
+
 /// Adds the ways of these samples at the greatest effort: the cheapest by colours or slopes, that by the errors of the
-/// weighted predictor, and that by all properties and predictors, without the weighted one if samples are few.
+/// weighted predictor, and that by all properties and predictors. Those of few samples are without the weighted predictor.
 pub(crate) fn add_best_ways_of(
     alloc: Global,
     list: &mut Vec<Advice>,
@@ -104,13 +122,15 @@ pub(crate) fn add_best_ways_of(
     if samples.depth.exp_bits != 0 {
         return Ok(());
     }
+    if samples_in(samples.channels) <= SMALL {
+        return add_unweighted_ways(alloc, list, samples, &likely);
+    }
     let way = by_samples(alloc, samples, effort, &likely)?;
     let colour = match &way {
         Some(way) => way.colour,
         None => None,
     };
-    let weighted = samples_in(samples.channels) > SMALL;
-    let broad = by_all(alloc, samples, care_of(effort).1, colour, weighted)?;
+    let broad = by_all(alloc, samples, care_of(effort).1, colour, true)?;
     add_way(alloc, list, Some(broad))?;
     add_way(alloc, list, way)
 }
@@ -290,6 +310,21 @@ fn copied_of(
     kept_at(alloc, ways, &places, most)
 }
 
+/// The ways that are decoded in little time: by a palette of all channels, or by a tree of few nodes.
+fn quick_ways(
+    alloc: Global,
+    ways: Vec<Advice>,
+    picture: &Picture,
+) -> Result<Vec<Advice>, OutOfMemory> {
+    let mut kept = Vec::new(alloc);
+    for way in ways {
+        if order_of(&way, picture).is_some() || way.nodes.len() <= FEW_NODES {
+            kept.push(way)?;
+        }
+    }
+    Ok(kept)
+}
+
 /// Whether a picture is small.
 pub(crate) fn is_small(picture: &Picture) -> bool {
     samples_in(&picture.channels) <= SMALL
@@ -312,12 +347,11 @@ fn is_likely(other: u64, palette: u64) -> bool {
 /// Whether ways without a palette of all channels, of this cost by an estimate, are left out beside the way by one and by
 /// all properties, of this cost.
 fn is_clear(broad: u64, other: u64) -> bool {
-    broad.saturating_mul(4) <= other.saturating_mul(3)
+    broad <= other
 }
 
-/// The ways that are tried at the greatest effort, where these are those of lower ones: samples repeat if `repeats` says so. Of
-/// a small picture of few colours those of lower efforts are all that have no palette of all channels: they are decoded in less
-/// time.
+/// The ways that are tried at the greatest effort, where these are those of lower ones: samples repeat if `repeats` says so. A
+/// small picture of few colours is tried by palettes and by small trees of lower efforts alone: it is decoded in less time.
 pub(crate) fn best_ways(
     alloc: Global,
     ways: Vec<Advice>,
@@ -347,6 +381,9 @@ pub(crate) fn best_ways(
     }
     if broad {
         return copied_of(alloc, ways, picture);
+    }
+    if few {
+        ways = quick_ways(alloc, ways, picture)?;
     }
     let most = if small { SMALL_WAYS } else { WAYS };
     cheapest_of(alloc, ways, most)

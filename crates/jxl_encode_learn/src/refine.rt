@@ -1,0 +1,264 @@
+//! A learnt tree made better: each leaf goes to the cluster and has the predictor by which all cost least, and decisions that
+//! then save less than they cost are taken back.
+
+use crate::clusters::Clusters;
+use crate::counted::Counted;
+use crate::learn::{Learner, Learnt, Span};
+use jxlm_base::grid::OutOfMemory;
+use std::alloc::Global;
+
+/// A node of a tree.
+#[derive(Clone, Copy)]
+struct Knot {
+    node: Learnt,
+    // Where the first child of a decision is; the other is behind it.
+    child: usize,
+    // The cluster of a leaf.
+    cluster: usize,
+    // Whether it was taken back, with the decision that it was a child of.
+    gone: bool,
+}
+
+/// A leaf: its classes with their predictor, and its cluster.
+#[derive(Clone, Copy)]
+struct Leaf {
+    span: Span,
+    cluster: usize,
+}
+
+/// A predictor and a cluster, and by how much more all clusters cost if samples are put there.
+#[derive(Clone, Copy)]
+struct Place {
+    kind: usize,
+    cluster: usize,
+    more: u64,
+}
+
+/// A tree whose leaves are in clusters.
+#[derive(Drop)]
+pub(crate) struct Refiner<'a, C> {
+    learner: Learner<'a, C>,
+    knots: Vec<Knot>,
+    clusters: Clusters,
+}
+
+/// The nodes, level by level, with the places of their children.
+fn knots_of(alloc: Global, nodes: &[Learnt]) -> Result<Vec<Knot>, OutOfMemory> {
+    let mut knots = Vec::new(alloc);
+    let mut child: usize = 1;
+    for node in nodes {
+        knots.push(Knot {
+            node: *node,
+            child,
+            cluster: 0,
+            gone: false,
+        })?;
+        if matches!(*node, Learnt::Decision { .. }) {
+            child = child.saturating_add(2);
+        }
+    }
+    Ok(knots)
+}
+
+impl<C: Counted> Refiner<'_, C> {
+    /// The tree of these nodes, each leaf of which is put into one of these clusters.
+    pub(crate) fn new<'a>(
+        alloc: Global,
+        learner: Learner<'a, C>,
+        nodes: &[Learnt],
+        clusters: Clusters,
+    ) -> Result<Refiner<'a, C>, OutOfMemory> {
+        let knots = knots_of(alloc, nodes)?;
+        let mut refiner = Refiner {
+            learner,
+            knots,
+            clusters,
+        };
+        refiner.put_all()?;
+        Ok(refiner)
+    }
+
+    /// The leaf at a place, if there is one.
+    fn leaf(&self, at: usize) -> Option<Leaf> {
+        let knot = self.knots.get(at)?;
+        match knot.node {
+            Learnt::Leaf(span) if !knot.gone => Some(Leaf {
+                span,
+                cluster: knot.cluster,
+            }),
+            _ => None,
+        }
+    }
+
+    /// The best cluster for the samples of a span by a predictor.
+    fn place_by(&mut self, span: Span, kind: usize) -> Place {
+        let (cluster, more) = self.clusters.best(self.learner.counts_by(span, kind));
+        Place {
+            kind,
+            cluster,
+            more,
+        }
+    }
+
+    /// The predictor and the cluster by which the samples of a span cost least.
+    fn best_place(&mut self, span: Span) -> Place {
+        let mut best = self.place_by(span, span.kind);
+        for kind in 0..self.learner.kinds() {
+            let place = self.place_by(span, kind);
+            if place.more < best.more {
+                best = place;
+            }
+        }
+        best
+    }
+
+    /// Makes a node a leaf, of which samples are put at a place.
+    fn put(&mut self, at: usize, span: Span, place: Place) -> Result<(), OutOfMemory> {
+        let counts = self.learner.counts_by(span, place.kind);
+        self.clusters.put_in(place.cluster, counts)?;
+        if let Some(knot) = self.knots.get_mut(at) {
+            knot.node = Learnt::Leaf(span.by(place.kind));
+            knot.cluster = place.cluster;
+        }
+        Ok(())
+    }
+
+    /// Takes the samples of a leaf out of its cluster; returns by how much less all clusters cost.
+    fn take_out(&mut self, leaf: Leaf) -> u64 {
+        let counts = self.learner.counts_by(leaf.span, leaf.span.kind);
+        self.clusters.take_out(leaf.cluster, counts)
+    }
+
+    /// Puts the samples of a leaf back.
+    fn put_back(&mut self, leaf: Leaf) -> Result<(), OutOfMemory> {
+        let counts = self.learner.counts_by(leaf.span, leaf.span.kind);
+        self.clusters.put_in(leaf.cluster, counts)
+    }
+
+    /// Puts each leaf into a cluster.
+    fn put_all(&mut self) -> Result<(), OutOfMemory> {
+        for at in 0..self.knots.len() {
+            if let Some(Leaf { span, .. }) = self.leaf(at) {
+                let place = self.place_by(span, span.kind);
+                self.put(at, span, place)?;
+            }
+        }
+        Ok(())
+    }
+
+    /// Moves each leaf to where its samples cost least.
+    fn move_all(&mut self) -> Result<(), OutOfMemory> {
+        for at in 0..self.knots.len() {
+            if let Some(leaf) = self.leaf(at) {
+                self.take_out(leaf);
+                let place = self.best_place(leaf.span);
+                self.put(at, leaf.span, place)?;
+            }
+        }
+        Ok(())
+    }
+
+    /// Takes a node back.
+    fn remove(&mut self, at: usize) {
+        if let Some(knot) = self.knots.get_mut(at) {
+            knot.gone = true;
+        }
+    }
+
+    /// Takes a decision between two leaves back, if it saves less than it costs.
+    fn take_back(&mut self, at: usize, child: usize) -> Result<(), OutOfMemory> {
+        let other = child.saturating_add(1);
+        let Some(left) = self.leaf(child) else {
+            return Ok(());
+        };
+        let Some(right) = self.leaf(other) else {
+            return Ok(());
+        };
+        let whole = left.span.with(right.span);
+        let saved = self.take_out(left);
+        let saved = self.take_out(right).saturating_add(saved);
+        let place = self.best_place(whole);
+        if place.more > saved.saturating_add(self.learner.price(whole)) {
+            self.put_back(left)?;
+            return self.put_back(right);
+        }
+        self.remove(child);
+        self.remove(other);
+        self.put(at, whole, place)
+    }
+
+    /// Takes decisions back that save less than they cost, the last first.
+    fn prune(&mut self) -> Result<(), OutOfMemory> {
+        let count = self.knots.len();
+        for back in 0..count {
+            let at = count.saturating_sub(back).saturating_sub(1);
+            if let Some(knot) = self.knots.get(at) {
+                let knot = *knot;
+                if matches!(knot.node, Learnt::Decision { .. }) {
+                    self.take_back(at, knot.child)?;
+                }
+            }
+        }
+        Ok(())
+    }
+
+    /// Makes leaves of a cluster those of another.
+    fn rename(&mut self, from: usize, to: usize) {
+        for knot in self.knots.iter_mut() {
+            if knot.cluster == from {
+                knot.cluster = to;
+            }
+        }
+    }
+
+    /// Unites this cluster with later ones, where both cost less as one.
+    fn unite_with(&mut self, first: usize) {
+        for second in first.saturating_add(1)..self.clusters.count() {
+            if self.clusters.unite(first, second) {
+                self.rename(second, first);
+            }
+        }
+    }
+
+    /// Unites clusters that cost less as one.
+    fn unite_all(&mut self) {
+        for first in 0..self.clusters.count() {
+            self.unite_with(first);
+        }
+    }
+
+    /// Makes the tree better, this number of times.
+    pub(crate) fn refine(&mut self, rounds: usize) -> Result<(), OutOfMemory> {
+        for _ in 0..rounds {
+            self.move_all()?;
+            self.prune()?;
+            self.unite_all();
+        }
+        Ok(())
+    }
+
+    /// What all clusters cost.
+    pub(crate) fn cost(&self) -> u64 {
+        self.clusters.cost()
+    }
+
+    /// The nodes, level by level, with the clusters of leaves.
+    pub(crate) fn nodes(&self, alloc: Global) -> Result<Vec<(Learnt, usize)>, OutOfMemory> {
+        let mut places: Vec<usize> = Vec::new(alloc);
+        let mut nodes = Vec::new(alloc);
+        places.push(0)?;
+        for at in 0..self.knots.len() {
+            let Some(place) = places.get(at) else { break };
+            let Some(knot) = self.knots.get(*place) else {
+                break;
+            };
+            let knot = *knot;
+            if matches!(knot.node, Learnt::Decision { .. }) {
+                places.push(knot.child)?;
+                places.push(knot.child.saturating_add(1))?;
+            }
+            nodes.push((knot.node, knot.cluster))?;
+        }
+        Ok(nodes)
+    }
+}
