@@ -2,8 +2,8 @@
 //! only by the best of them trees are learnt with most care. They are heuristics: no sample depends on them.
 
 use crate::advice::{
-    Advice, Learning, Samples, add_way, add_ways_of, by_all, by_colours, by_samples, by_slopes,
-    care_of, colours_of, saves_by_weights, slope_axes,
+    Advice, Learning, Samples, add_advice, add_way, add_ways_of, by_all, by_colours, by_samples,
+    by_slopes, care_of, colours_of, saves_by_weights, slope_axes,
 };
 use crate::effort::Effort;
 use crate::palettes::add_palette_ways_by;
@@ -12,6 +12,8 @@ use jxl_encode_advice::residuals::{samples_in, scheme_by_residuals};
 use jxl_encode_palette::colours::ColourOrder;
 use jxl_picture::picture::Picture;
 use jxlm_base::grid::OutOfMemory;
+use jxlm_encode_write::tree::EncodeNode;
+use jxlm_predictor::predictor::Predictor;
 use std::alloc::Global;
 
 /// How many colour transforms are tried with trees learnt from samples one by one.
@@ -40,7 +42,10 @@ const WAYS: usize = 4;
 const MARGIN: u64 = 8;
 
 /// The most nodes of a tree that is used for a small picture of few colours without a palette of all channels.
-const FEW_NODES: usize = 15;
+const FEW_NODES: usize = 7;
+
+/// The predictors by one of which alone a small picture of few colours is tried.
+const PLAIN: [Predictor; 2] = [Predictor::Zero, Predictor::Gradient];
 
 /// The share by which the way by all properties without a palette may cost more than that by one, and is tried to the end
 /// where samples repeat: costs are without copies.
@@ -325,6 +330,48 @@ fn quick_ways(
     Ok(kept)
 }
 
+/// The way by one predictor alone, after this colour transform or without one.
+fn plain_way(
+    alloc: Global,
+    predictor: Predictor,
+    colour: Option<u32>,
+) -> Result<Advice, OutOfMemory> {
+    let mut way = Advice::none(alloc);
+    way.nodes.push(EncodeNode::Leaf {
+        predictor,
+        offset: 0,
+    })?;
+    way.clusters.push(0)?;
+    way.colour = colour;
+    Ok(way)
+}
+
+/// Adds the ways by one predictor alone: with copies they may be the shortest, and they are decoded in the least time.
+fn add_plain_ways(
+    alloc: Global,
+    list: &mut Vec<Advice>,
+    picture: &Picture,
+) -> Result<(), OutOfMemory> {
+    for colour in colours_of(picture, Effort::Best) {
+        for predictor in &PLAIN {
+            add_advice(list, plain_way(alloc, *predictor, *colour)?)?;
+        }
+    }
+    Ok(())
+}
+
+/// The ways that are tried to the end of a small picture of few colours.
+fn few_ways(
+    alloc: Global,
+    ways: Vec<Advice>,
+    picture: &Picture,
+) -> Result<Vec<Advice>, OutOfMemory> {
+    let quick = quick_ways(alloc, ways, picture)?;
+    let mut kept = cheapest_of(alloc, quick, SMALL_WAYS)?;
+    add_plain_ways(alloc, &mut kept, picture)?;
+    Ok(kept)
+}
+
 /// Whether a picture is small.
 pub(crate) fn is_small(picture: &Picture) -> bool {
     samples_in(&picture.channels) <= SMALL
@@ -351,7 +398,8 @@ fn is_clear(broad: u64, other: u64) -> bool {
 }
 
 /// The ways that are tried at the greatest effort, where these are those of lower ones: samples repeat if `repeats` says so. A
-/// small picture of few colours is tried by palettes and by small trees of lower efforts alone: it is decoded in less time.
+/// small picture of few colours is tried by palettes, by small trees of lower efforts and by single predictors alone: it is
+/// decoded in less time.
 pub(crate) fn best_ways(
     alloc: Global,
     ways: Vec<Advice>,
@@ -383,7 +431,7 @@ pub(crate) fn best_ways(
         return copied_of(alloc, ways, picture);
     }
     if few {
-        ways = quick_ways(alloc, ways, picture)?;
+        return few_ways(alloc, ways, picture);
     }
     let most = if small { SMALL_WAYS } else { WAYS };
     cheapest_of(alloc, ways, most)
