@@ -109,7 +109,7 @@ const SHADE_CUTS: [i32; 8] = [-40, -12, -3, -1, 0, 2, 11, 39];
 const CHANNEL_CUTS: [i32; 3] = [0, 1, 2];
 
 /// The property that is the number of the channel.
-const CHANNEL: u32 = 0;
+pub(crate) const CHANNEL: u32 = 0;
 
 /// The properties that are the slopes from above left to the left and above, and from above right to above.
 const SLOPES: [u32; 3] = [10, 11, 12];

@@ -2,8 +2,8 @@
 //! only by the best of them trees are learnt with most care. They are heuristics: no sample depends on them.
 
 use crate::advice::{
-    Advice, Learning, Samples, add_advice, add_way, add_ways_of, by_all, by_colours, by_samples,
-    by_slopes, care_of, colours_of, saves_by_weights, slope_axes,
+    Advice, CHANNEL, Learning, Samples, add_advice, add_way, add_ways_of, by_all, by_colours,
+    by_samples, by_slopes, care_of, colours_of, saves_by_weights, slope_axes,
 };
 use crate::effort::Effort;
 use crate::palettes::add_palette_ways_by;
@@ -330,19 +330,41 @@ fn quick_ways(
     Ok(kept)
 }
 
-/// The way by one predictor alone, after this colour transform or without one.
+/// The tree that has a leaf with this predictor for each of these channels, level by level.
+fn leaf_for_each(
+    alloc: Global,
+    predictor: Predictor,
+    channels: usize,
+) -> Result<Vec<EncodeNode>, OutOfMemory> {
+    let mut nodes = Vec::new(alloc);
+    let leaf = EncodeNode::Leaf {
+        predictor,
+        offset: 0,
+    };
+    for back in 1..channels {
+        nodes.push(EncodeNode::Decision {
+            property: CHANNEL,
+            value: channels.saturating_sub(back).saturating_sub(1).min(255) as i32,
+        })?;
+        nodes.push(leaf)?;
+    }
+    nodes.push(leaf)?;
+    Ok(nodes)
+}
+
+/// The way by one predictor alone, with a code for each channel, after this colour transform or without one.
 fn plain_way(
     alloc: Global,
     predictor: Predictor,
+    channels: usize,
     colour: Option<u32>,
 ) -> Result<Advice, OutOfMemory> {
     let mut way = Advice::none(alloc);
-    way.nodes.push(EncodeNode::Leaf {
-        predictor,
-        offset: 0,
-    })?;
-    way.clusters.push(0)?;
+    way.nodes = leaf_for_each(alloc, predictor, channels)?;
     way.colour = colour;
+    for channel in 0..channels {
+        way.clusters.push(channel.min(255) as u8)?;
+    }
     Ok(way)
 }
 
@@ -352,9 +374,11 @@ fn add_plain_ways(
     list: &mut Vec<Advice>,
     picture: &Picture,
 ) -> Result<(), OutOfMemory> {
+    let channels = picture.channels.len();
     for colour in colours_of(picture, Effort::Best) {
         for predictor in &PLAIN {
-            add_advice(list, plain_way(alloc, *predictor, *colour)?)?;
+            let way = plain_way(alloc, *predictor, channels, *colour)?;
+            add_advice(list, way)?;
         }
     }
     Ok(())
