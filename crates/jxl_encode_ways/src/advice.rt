@@ -137,7 +137,7 @@ const TRIED_SAMPLES: usize = 1 << 15;
 
 /// The share of the cost that the weighted predictor has to save where samples of one channel repeat: decoding takes long with
 /// it.
-const WEIGHTS_GAIN: u64 = 8;
+const WEIGHTS_GAIN: u64 = 9;
 
 /// How much larger the cuts between slopes are at most: deep samples are often as smooth as others.
 const MAX_SLOPE_SCALE: i32 = 8;
@@ -393,7 +393,7 @@ pub(crate) fn by_all(
     })
 }
 
-/// Whether the weighted predictor and its errors save more than an eighth of what some of the samples cost by all other
+/// Whether the weighted predictor and its errors save more than a ninth of what some of the samples cost by all other
 /// predictors and properties, after this colour transform or without one.
 pub(crate) fn saves_by_weights(
     alloc: Global,

@@ -47,9 +47,13 @@ const FEW_NODES: usize = 7;
 /// The predictors by one of which alone a small picture of few colours is tried.
 const PLAIN: [Predictor; 2] = [Predictor::Zero, Predictor::Gradient];
 
-/// The share by which the way by all properties without a palette may cost more than that by one, and is tried to the end
-/// where samples repeat: costs are without copies.
-const BROAD_MARGIN: u64 = 6;
+/// The colour transforms that are tried then, beside those of other pictures: red or blue, and the differences of the others
+/// to it.
+const PLAIN_COLOURS: [Option<u32>; 2] = [Some(3), Some(17)];
+
+/// The share of the cost of the way by all properties and by a palette of all channels that the one without a palette has to
+/// save where samples repeat: it is decoded in more time.
+const BROAD_GAIN: u64 = 12;
 
 /// The place of the least of these numbers that is not taken; none, if all are.
 fn next_least(numbers: &[u64], taken: &[usize]) -> Option<usize> {
@@ -238,18 +242,12 @@ fn add_other_ways(
     add_ways_of(alloc, list, samples, learning, colours)
 }
 
-/// The ways at these places, and those by all properties and predictors that cost at most this.
-fn kept_at(
-    alloc: Global,
-    ways: Vec<Advice>,
-    places: &[usize],
-    most_broad: u64,
-) -> Result<Vec<Advice>, OutOfMemory> {
+/// The ways at these places, and those by all properties and predictors.
+fn kept_at(alloc: Global, ways: Vec<Advice>, places: &[usize]) -> Result<Vec<Advice>, OutOfMemory> {
     let mut kept = Vec::new(alloc);
     let mut at: usize = 0;
     for way in ways {
-        let broad = way.broad && way.cost <= most_broad;
-        if broad || places.iter().any(|place| *place == at) {
+        if way.broad || places.iter().any(|place| *place == at) {
             kept.push(way)?;
         }
         at = at.saturating_add(1);
@@ -261,7 +259,7 @@ fn kept_at(
 fn cheapest_of(alloc: Global, ways: Vec<Advice>, most: usize) -> Result<Vec<Advice>, OutOfMemory> {
     let costs = costs_of(alloc, &ways)?;
     let places = least_of(alloc, &costs, most)?;
-    kept_at(alloc, ways, &places, u64::MAX)
+    kept_at(alloc, ways, &places)
 }
 
 /// Whether a way has a palette of all channels in this order, and a tree by some properties.
@@ -299,6 +297,23 @@ fn cheapest_in_orders(
     Ok(places)
 }
 
+/// The ways without those by all properties and without a palette of all channels that save too little beside the one by it.
+fn worthwhile(
+    alloc: Global,
+    ways: Vec<Advice>,
+    picture: &Picture,
+) -> Result<Vec<Advice>, OutOfMemory> {
+    let broad = least_broad(&ways, picture);
+    let most = broad.saturating_sub(broad / BROAD_GAIN);
+    let mut kept = Vec::new(alloc);
+    for way in ways {
+        if !way.broad || way.cost <= most || order_of(&way, picture).is_some() {
+            kept.push(way)?;
+        }
+    }
+    Ok(kept)
+}
+
 /// The ways that are tried to the end where samples repeat: those by all properties, and the cheapest of the others in each
 /// order of a palette of all channels.
 fn copied_of(
@@ -306,13 +321,12 @@ fn copied_of(
     ways: Vec<Advice>,
     picture: &Picture,
 ) -> Result<Vec<Advice>, OutOfMemory> {
+    let ways = worthwhile(alloc, ways, picture)?;
     let places = cheapest_in_orders(alloc, &ways, picture)?;
     if places.is_empty() {
         return cheapest_of(alloc, ways, COPIED_WAYS);
     }
-    let broad = least_broad(&ways, picture);
-    let most = broad.saturating_add(broad / BROAD_MARGIN);
-    kept_at(alloc, ways, &places, most)
+    kept_at(alloc, ways, &places)
 }
 
 /// The ways that are decoded in little time: by a palette of all channels, or by a tree of few nodes.
@@ -368,14 +382,14 @@ fn plain_way(
     Ok(way)
 }
 
-/// Adds the ways by one predictor alone: with copies they may be the shortest, and they are decoded in the least time.
+/// Adds the ways by one predictor alone after each of these colour transforms.
 fn add_plain_ways(
     alloc: Global,
     list: &mut Vec<Advice>,
-    picture: &Picture,
+    channels: usize,
+    colours: &[Option<u32>],
 ) -> Result<(), OutOfMemory> {
-    let channels = picture.channels.len();
-    for colour in colours_of(picture, Effort::Best) {
+    for colour in colours {
         for predictor in &PLAIN {
             let way = plain_way(alloc, *predictor, channels, *colour)?;
             add_advice(list, way)?;
@@ -384,7 +398,8 @@ fn add_plain_ways(
     Ok(())
 }
 
-/// The ways that are tried to the end of a small picture of few colours.
+/// The ways that are tried to the end of a small picture of few colours. With copies those by one predictor alone may be the
+/// shortest, and they are decoded in the least time.
 fn few_ways(
     alloc: Global,
     ways: Vec<Advice>,
@@ -392,7 +407,12 @@ fn few_ways(
 ) -> Result<Vec<Advice>, OutOfMemory> {
     let quick = quick_ways(alloc, ways, picture)?;
     let mut kept = cheapest_of(alloc, quick, SMALL_WAYS)?;
-    add_plain_ways(alloc, &mut kept, picture)?;
+    let channels = picture.channels.len();
+    let colours = colours_of(picture, Effort::Best);
+    add_plain_ways(alloc, &mut kept, channels, colours)?;
+    if colours.len() > 1 {
+        add_plain_ways(alloc, &mut kept, channels, &PLAIN_COLOURS)?;
+    }
     Ok(kept)
 }
 
@@ -418,7 +438,7 @@ fn is_likely(other: u64, palette: u64) -> bool {
 /// Whether ways without a palette of all channels, of this cost by an estimate, are left out beside the way by one and by
 /// all properties, of this cost.
 fn is_clear(broad: u64, other: u64) -> bool {
-    broad <= other
+    broad.saturating_mul(4) <= other.saturating_mul(3)
 }
 
 /// The ways that are tried at the greatest effort, where these are those of lower ones: samples repeat if `repeats` says so. A
