@@ -31,19 +31,23 @@ pub(crate) struct Span {
     end: usize,
     /// The predictor.
     pub(crate) kind: usize,
-    // The next best predictor.
-    second: usize,
+    /// The next best predictor.
+    pub(crate) second: usize,
     cost: u64,
 }
 
 impl Span {
-    /// The same by a predictor.
+    /// The same by a predictor; the next best is the one before.
     pub(crate) fn by(self, kind: usize) -> Span {
         Span {
             start: self.start,
             end: self.end,
             kind,
-            second: self.second,
+            second: if kind == self.kind {
+                self.second
+            } else {
+                self.kind
+            },
             cost: self.cost,
         }
     }
@@ -54,7 +58,11 @@ impl Span {
             start: self.start,
             end: other.end,
             kind: self.kind,
-            second: other.kind,
+            second: if other.kind == self.kind {
+                self.second
+            } else {
+                other.kind
+            },
             cost: self.cost.saturating_add(other.cost),
         }
     }

@@ -100,16 +100,14 @@ impl<C: Counted> Refiner<'_, C> {
         }
     }
 
-    /// The predictor and the cluster by which the samples of a span cost least.
+    /// The predictor of two and the cluster by which the samples of a span cost least.
     fn best_place(&mut self, span: Span) -> Place {
-        let mut best = self.place_by(span, span.kind);
-        for kind in 0..self.learner.kinds() {
-            let place = self.place_by(span, kind);
-            if place.more < best.more {
-                best = place;
-            }
+        let best = self.place_by(span, span.kind);
+        if span.second == span.kind {
+            return best;
         }
-        best
+        let other = self.place_by(span, span.second);
+        if other.more < best.more { other } else { best }
     }
 
     /// Makes a node a leaf, of which samples are put at a place.

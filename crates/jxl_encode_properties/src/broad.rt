@@ -62,8 +62,14 @@ const SMALL: usize = 1 << 16;
 /// The price of a decision for each sample that it is made for, in bits divided by 65,536: decoding takes time for it.
 const STEP: u64 = 65;
 
+/// The same in a small picture.
+const SMALL_STEP: u64 = 130;
+
 /// The same for several channels of a picture that is not small: a decision is made for each sample of them.
 const CHANNELS_STEP: u64 = 260;
+
+/// The most bits of samples that cost a part of a bit each, so that a decision must not cost much.
+const FEW_BITS: u32 = 2;
 
 /// The same if all of its channels have the weighted predictor: then they take most time.
 const WEIGHTED_STEP: u64 = 1700;
@@ -277,10 +283,10 @@ fn weighted_of(channels: usize, weighted: bool, apart: bool) -> usize {
 
 /// The price of a decision for each sample of a picture of this many in some channels, if all of them have the weighted
 /// predictor or not.
-fn step_of(samples: usize, channels: usize, all_weighted: bool) -> u64 {
+fn step_of(samples: usize, channels: usize, bits: u32, all_weighted: bool) -> u64 {
     if samples <= SMALL {
-        STEP
-    } else if all_weighted {
+        SMALL_STEP
+    } else if all_weighted && bits > FEW_BITS {
         WEIGHTED_STEP
     } else if channels > 1 {
         CHANNELS_STEP
@@ -297,6 +303,7 @@ pub fn scheme_by_all(
     alloc: Global,
     channels: &[AlignedGrid<i32>],
     colour: Option<u32>,
+    bits: u32,
     care: Care,
     weighted: bool,
 ) -> Result<Scheme, OutOfMemory> {
@@ -316,7 +323,7 @@ pub fn scheme_by_all(
     let bounds = Bounds {
         nodes: MAX_NODES,
         predictors: TRIED,
-        step: step_of(samples, channels.len(), weighted && !apart),
+        step: step_of(samples, channels.len(), bits, weighted && !apart),
         apart,
         rounds: ROUNDS,
     };

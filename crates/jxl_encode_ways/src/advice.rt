@@ -384,7 +384,14 @@ pub(crate) fn by_all(
     colour: Option<u32>,
     weighted: bool,
 ) -> Result<Way, OutOfMemory> {
-    let scheme = scheme_by_all(alloc, picture.channels, colour, care, weighted)?;
+    let scheme = scheme_by_all(
+        alloc,
+        picture.channels,
+        colour,
+        picture.depth.bits_per_sample,
+        care,
+        weighted,
+    )?;
     Ok(Way {
         scheme,
         colour,
@@ -405,8 +412,24 @@ pub(crate) fn saves_by_weights(
         clusters: 64,
         colours: 0,
     };
-    let with = scheme_by_all(alloc, picture.channels, colour, care, true)?.cost;
-    let without = scheme_by_all(alloc, picture.channels, colour, care, false)?.cost;
+    let with = scheme_by_all(
+        alloc,
+        picture.channels,
+        colour,
+        picture.depth.bits_per_sample,
+        care,
+        true,
+    )?
+    .cost;
+    let without = scheme_by_all(
+        alloc,
+        picture.channels,
+        colour,
+        picture.depth.bits_per_sample,
+        care,
+        false,
+    )?
+    .cost;
     Ok(with < without.saturating_sub(without / WEIGHTS_GAIN))
 }
 

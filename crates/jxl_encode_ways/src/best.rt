@@ -47,10 +47,6 @@ const FEW_NODES: usize = 7;
 /// The predictors by one of which alone a small picture of few colours is tried.
 const PLAIN: [Predictor; 2] = [Predictor::Zero, Predictor::Gradient];
 
-/// The colour transforms that are tried then, beside those of other pictures: red or blue, and the differences of the others
-/// to it.
-const PLAIN_COLOURS: [Option<u32>; 2] = [Some(3), Some(17)];
-
 /// The share of the cost of the way by all properties and by a palette of all channels that the one without a palette has to
 /// save where samples repeat: it is decoded in more time.
 const BROAD_GAIN: u64 = 12;
@@ -410,9 +406,6 @@ fn few_ways(
     let channels = picture.channels.len();
     let colours = colours_of(picture, Effort::Best);
     add_plain_ways(alloc, &mut kept, channels, colours)?;
-    if colours.len() > 1 {
-        add_plain_ways(alloc, &mut kept, channels, &PLAIN_COLOURS)?;
-    }
     Ok(kept)
 }
 
