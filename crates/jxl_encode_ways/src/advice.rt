@@ -76,6 +76,28 @@ pub(crate) struct Way {
     broad: bool,
 }
 
+impl<'a> Samples<'a> {
+    /// Those of a picture.
+    pub(crate) fn of(picture: &'a Picture) -> Samples<'a> {
+        Samples {
+            channels: &picture.channels,
+            depth: picture.header.bit_depth,
+        }
+    }
+}
+
+impl Way {
+    /// By this scheme, which is not by all properties, after this colour transform or without one.
+    fn new(scheme: Scheme, colour: Option<u32>, own: bool) -> Way {
+        Way {
+            scheme,
+            colour,
+            own,
+            broad: false,
+        }
+    }
+}
+
 impl Advice {
     /// No tree, so that each sample is coded by the gradient.
     pub fn none(alloc: Global) -> Advice {
@@ -153,17 +175,7 @@ fn scaled(alloc: Global, cuts: &[i32], scale: i32) -> Result<Vec<i32>, OutOfMemo
 
 /// How much larger samples are than those of eight bits.
 fn scale_of(depth: BitDepth) -> i32 {
-    match depth.bits_per_sample {
-        0..=8 => 1,
-        9 => 2,
-        10 => 4,
-        11 => 8,
-        12 => 16,
-        13 => 32,
-        14 => 64,
-        15 => 128,
-        _ => 256,
-    }
+    1i32.wrapping_shl(depth.bits_per_sample.min(16).saturating_sub(8))
 }
 
 /// The same property with its cuts.
@@ -275,15 +287,7 @@ fn or_by_colours(
 ) -> Result<Option<Way>, OutOfMemory> {
     let axes = shade_axes(alloc)?;
     match scheme_by_colours(alloc, picture.channels, colour, axes, care, MAX_NODES)? {
-        Some(scheme) => Ok(cheaper(
-            best,
-            Way {
-                scheme,
-                colour,
-                own: true,
-                broad: false,
-            },
-        )),
+        Some(scheme) => Ok(cheaper(best, Way::new(scheme, colour, true))),
         None => Ok(best),
     }
 }
@@ -321,15 +325,7 @@ pub(crate) fn by_slopes(
     for colour in colours {
         let axes = slope_axes(alloc, picture.depth, slopes)?;
         let scheme = scheme_by_residuals(alloc, picture.channels, *colour, axes, care)?;
-        best = cheaper(
-            best,
-            Way {
-                scheme,
-                colour: *colour,
-                own: true,
-                broad: false,
-            },
-        );
+        best = cheaper(best, Way::new(scheme, *colour, true));
     }
     Ok(best)
 }
@@ -362,15 +358,7 @@ pub(crate) fn by_samples(
             Effort::Best => scheme_by_errors(alloc, picture.channels, *colour, shift, care)?,
             _ => scheme_by_neighbours(alloc, picture.channels, *colour, shift, care)?,
         };
-        best = cheaper(
-            best,
-            Way {
-                scheme,
-                colour: *colour,
-                own: false,
-                broad: false,
-            },
-        );
+        best = cheaper(best, Way::new(scheme, *colour, false));
     }
     Ok(best)
 }
@@ -384,14 +372,8 @@ pub(crate) fn by_all(
     colour: Option<u32>,
     weighted: bool,
 ) -> Result<Way, OutOfMemory> {
-    let scheme = scheme_by_all(
-        alloc,
-        picture.channels,
-        colour,
-        picture.depth.bits_per_sample,
-        care,
-        weighted,
-    )?;
+    let bits = picture.depth.bits_per_sample;
+    let scheme = scheme_by_all(alloc, picture.channels, colour, bits, care, weighted)?;
     Ok(Way {
         scheme,
         colour,
@@ -412,24 +394,8 @@ pub(crate) fn saves_by_weights(
         clusters: 64,
         colours: 0,
     };
-    let with = scheme_by_all(
-        alloc,
-        picture.channels,
-        colour,
-        picture.depth.bits_per_sample,
-        care,
-        true,
-    )?
-    .cost;
-    let without = scheme_by_all(
-        alloc,
-        picture.channels,
-        colour,
-        picture.depth.bits_per_sample,
-        care,
-        false,
-    )?
-    .cost;
+    let with = by_all(alloc, picture, care, colour, true)?.scheme.cost;
+    let without = by_all(alloc, picture, care, colour, false)?.scheme.cost;
     Ok(with < without.saturating_sub(without / WEIGHTS_GAIN))
 }
 
@@ -480,15 +446,7 @@ fn or_by_values(
     best: Option<Way>,
 ) -> Result<Option<Way>, OutOfMemory> {
     match scheme_by_values(alloc, picture.channels)? {
-        Some(scheme) => Ok(cheaper(
-            best,
-            Way {
-                scheme,
-                colour: None,
-                own: true,
-                broad: false,
-            },
-        )),
+        Some(scheme) => Ok(cheaper(best, Way::new(scheme, None, true))),
         None => Ok(best),
     }
 }
@@ -588,13 +546,9 @@ fn add_ways_at(
     compared: bool,
     ranks: &Option<Ranks>,
 ) -> Result<(), OutOfMemory> {
-    let samples = Samples {
-        channels: &picture.channels,
-        depth: picture.header.bit_depth,
-    };
     let learning = Learning::At(effort);
     let colours = colours_of(picture, effort);
-    add_ways_of(alloc, list, samples, learning, colours)?;
+    add_ways_of(alloc, list, Samples::of(picture), learning, colours)?;
     let bound = if compared {
         Some(least_cost(list))
     } else {

@@ -197,22 +197,12 @@ fn best_order(ways: &[Advice], picture: &Picture) -> Option<(ColourOrder, u64)> 
     best
 }
 
-/// What the cheapest of the ways without a palette of all channels costs.
-fn least_other(ways: &[Advice], picture: &Picture) -> u64 {
+/// What the cheapest of the ways costs that have a palette of all channels, if `palette` says so, or none; with `broad` only
+/// those by all properties count.
+fn least_of_ways(ways: &[Advice], picture: &Picture, palette: bool, broad: bool) -> u64 {
     let mut least = u64::MAX;
     for way in ways {
-        if order_of(way, picture).is_none() {
-            least = least.min(way.cost);
-        }
-    }
-    least
-}
-
-/// What the cheapest of the ways by a palette of all channels and by all properties costs.
-fn least_broad(ways: &[Advice], picture: &Picture) -> u64 {
-    let mut least = u64::MAX;
-    for way in ways {
-        if way.broad && order_of(way, picture).is_some() {
+        if order_of(way, picture).is_some() == palette && (way.broad || !broad) {
             least = least.min(way.cost);
         }
     }
@@ -230,12 +220,8 @@ fn add_other_ways(
     if let Some(ranks) = ranks {
         return add_rank_ways(alloc, list, picture, ranks, learning, None);
     }
-    let samples = Samples {
-        channels: &picture.channels,
-        depth: picture.header.bit_depth,
-    };
     let colours = colours_of(picture, Effort::Best);
-    add_ways_of(alloc, list, samples, learning, colours)
+    add_ways_of(alloc, list, Samples::of(picture), learning, colours)
 }
 
 /// The ways at these places, and those by all properties and predictors.
@@ -293,17 +279,19 @@ fn cheapest_in_orders(
     Ok(places)
 }
 
-/// The ways without those by all properties and without a palette of all channels that save too little beside the one by it.
-fn worthwhile(
+/// The ways that are decoded in little time: by a palette of all channels, or by a tree of at most this many nodes that, if it
+/// is by all properties, costs at most this.
+fn quick_ways(
     alloc: Global,
     ways: Vec<Advice>,
     picture: &Picture,
+    nodes: usize,
+    most: u64,
 ) -> Result<Vec<Advice>, OutOfMemory> {
-    let broad = least_broad(&ways, picture);
-    let most = broad.saturating_sub(broad / BROAD_GAIN);
     let mut kept = Vec::new(alloc);
     for way in ways {
-        if !way.broad || way.cost <= most || order_of(&way, picture).is_some() {
+        let cheap = way.nodes.len() <= nodes && (!way.broad || way.cost <= most);
+        if cheap || order_of(&way, picture).is_some() {
             kept.push(way)?;
         }
     }
@@ -317,27 +305,14 @@ fn copied_of(
     ways: Vec<Advice>,
     picture: &Picture,
 ) -> Result<Vec<Advice>, OutOfMemory> {
-    let ways = worthwhile(alloc, ways, picture)?;
+    let broad = least_of_ways(&ways, picture, true, true);
+    let most = broad.saturating_sub(broad / BROAD_GAIN);
+    let ways = quick_ways(alloc, ways, picture, usize::MAX, most)?;
     let places = cheapest_in_orders(alloc, &ways, picture)?;
     if places.is_empty() {
         return cheapest_of(alloc, ways, COPIED_WAYS);
     }
     kept_at(alloc, ways, &places)
-}
-
-/// The ways that are decoded in little time: by a palette of all channels, or by a tree of few nodes.
-fn quick_ways(
-    alloc: Global,
-    ways: Vec<Advice>,
-    picture: &Picture,
-) -> Result<Vec<Advice>, OutOfMemory> {
-    let mut kept = Vec::new(alloc);
-    for way in ways {
-        if order_of(&way, picture).is_some() || way.nodes.len() <= FEW_NODES {
-            kept.push(way)?;
-        }
-    }
-    Ok(kept)
 }
 
 /// The tree that has a leaf with this predictor for each of these channels, level by level.
@@ -401,11 +376,10 @@ fn few_ways(
     ways: Vec<Advice>,
     picture: &Picture,
 ) -> Result<Vec<Advice>, OutOfMemory> {
-    let quick = quick_ways(alloc, ways, picture)?;
+    let quick = quick_ways(alloc, ways, picture, FEW_NODES, u64::MAX)?;
     let mut kept = cheapest_of(alloc, quick, SMALL_WAYS)?;
-    let channels = picture.channels.len();
     let colours = colours_of(picture, Effort::Best);
-    add_plain_ways(alloc, &mut kept, channels, colours)?;
+    add_plain_ways(alloc, &mut kept, picture.channels.len(), colours)?;
     Ok(kept)
 }
 
@@ -453,13 +427,13 @@ pub(crate) fn best_ways(
     }
     let learning = learning_of(picture, repeats);
     let broad = matches!(learning, Learning::Broad);
-    let other = least_other(&ways, picture);
+    let other = least_of_ways(&ways, picture, false, false);
     let mut palette = u64::MAX;
     if let Some((order, cost)) = best_order(&ways, picture) {
         palette = cost;
         add_palette_ways_by(alloc, &mut ways, picture, learning, &[order], None)?;
     }
-    let clear = broad && is_clear(least_broad(&ways, picture), other);
+    let clear = broad && is_clear(least_of_ways(&ways, picture, true, true), other);
     let few = small && palette < u64::MAX;
     if is_likely(other, palette) && !clear && !few {
         add_other_ways(alloc, &mut ways, picture, ranks, learning)?;

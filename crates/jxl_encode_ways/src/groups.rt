@@ -181,10 +181,7 @@ pub fn own_trees(
         let colour = advice.colour;
         let samples = match ranks {
             Some(ranks) if palettes => ranks.samples(),
-            _ => Samples {
-                channels: &picture.channels,
-                depth: picture.header.bit_depth,
-            },
+            _ => Samples::of(picture),
         };
         if advice.own && !own.sets.iter().any(|set| set.is_for(advice)) {
             let trees = trees_by(alloc, samples, picture.header.size, effort, colour)?;
