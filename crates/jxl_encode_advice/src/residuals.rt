@@ -18,8 +18,6 @@ pub struct Care {
     pub samples: usize,
     /// The most clusters of leaves.
     pub clusters: usize,
-    /// The most colours of a picture that is coded by its colours.
-    pub colours: usize,
 }
 
 /// Counts the residuals of a sample.
@@ -86,22 +84,11 @@ pub fn scheme_by_residuals(
     care: Care,
 ) -> Result<Scheme, OutOfMemory> {
     let source = Source { channels, colour };
-    scheme_of_first(alloc, source, channels.len(), axes, care)
-}
-
-/// The scheme that is learnt by these axes from a part of the samples of the first channels.
-pub fn scheme_of_first(
-    alloc: Global,
-    source: Source<'_>,
-    count: usize,
-    axes: Vec<Axis>,
-    care: Care,
-) -> Result<Scheme, OutOfMemory> {
-    let step = (samples_in(source.channels) / care.samples.max(1)).max(1);
+    let step = (samples_in(channels) / care.samples.max(1)).max(1);
     let mut table = Table::new(alloc, axes, PREDICTORS.len(), SYMBOLS)?;
     let places = places_on(alloc, &table)?;
     let mut rows = Rows::new(alloc);
-    for channel in 0..count {
+    for channel in 0..channels.len() {
         add_channel(&mut table, &places, &mut rows, source, channel, step)?;
     }
     let prices = Prices {

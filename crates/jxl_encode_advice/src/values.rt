@@ -165,12 +165,16 @@ fn axes_of(alloc: Global, values: &[i32], channels: usize) -> Result<Vec<Axis>, 
     Ok(axes)
 }
 
-/// The scheme of the first channels of a picture, of few values; none, if they have too many.
-pub fn scheme_of_values(
+/// The scheme of a picture of few values; none, if it has too many.
+pub fn scheme_by_values(
     alloc: Global,
-    source: Source<'_>,
-    count: usize,
+    channels: &[AlignedGrid<i32>],
 ) -> Result<Option<Scheme>, OutOfMemory> {
+    let source = Source {
+        channels,
+        colour: None,
+    };
+    let count = channels.len();
     let Some(values) = values_of(alloc, source, count)? else {
         return Ok(None);
     };
@@ -189,16 +193,4 @@ pub fn scheme_of_values(
     };
     let scheme = scheme_of(alloc, &table, prices, &values, MAX_CLUSTERS)?;
     Ok(Some(scheme))
-}
-
-/// The scheme of a picture of few values; none, if it has too many.
-pub fn scheme_by_values(
-    alloc: Global,
-    channels: &[AlignedGrid<i32>],
-) -> Result<Option<Scheme>, OutOfMemory> {
-    let source = Source {
-        channels,
-        colour: None,
-    };
-    scheme_of_values(alloc, source, channels.len())
 }

@@ -157,7 +157,7 @@ impl Taker for ByAll {
         taken: bool,
     ) -> Result<(), OutOfMemory> {
         let sample = sample_at(&rows.here, x);
-        match walk.step_with_all(sample) {
+        match walk.step(sample) {
             Some(around) if taken => self.take(rows, x, around, sample),
             _ => Ok(()),
         }

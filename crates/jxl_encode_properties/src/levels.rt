@@ -1,5 +1,6 @@
 //! Levels of differences: fine near 0, two for each doubling farther away.
 
+use jxl_encode_learn::axis::Axis;
 use jxlm_base::grid::OutOfMemory;
 use std::alloc::Global;
 
@@ -53,11 +54,11 @@ fn greatest_at(level: usize, shift: u32) -> i32 {
     }
 }
 
-/// The cuts between levels.
-pub(crate) fn cuts_of(alloc: Global, shift: u32) -> Result<Vec<i32>, OutOfMemory> {
+/// A property by its levels.
+pub(crate) fn levels_on(alloc: Global, property: u32, shift: u32) -> Result<Axis, OutOfMemory> {
     let mut cuts = Vec::new(alloc);
     for level in 0..CUTS {
         cuts.push(greatest_at(level, shift))?;
     }
-    Ok(cuts)
+    Ok(Axis { property, cuts })
 }

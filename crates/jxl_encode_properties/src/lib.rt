@@ -4,7 +4,6 @@
 
 pub mod broad;
 mod kept;
-pub mod learn;
 mod levels;
 pub mod neighbours;
 mod rows;

@@ -1,7 +1,6 @@
 //! Trees learnt from samples one by one, without the weighted predictor: what they code is decoded in less time.
 
-use crate::learn::{EARLIER, MAX_SLOPE_SHIFT, levels_on};
-use crate::levels::level_of;
+use crate::levels::{level_of, levels_on};
 use crate::rows::{Rows, Taker, sample_at, take_all};
 use crate::samples::Samples;
 use jxl_encode_advice::residuals::{Care, samples_in};
@@ -14,6 +13,12 @@ use jxl_encode_walk::walk::{Surroundings, Walk};
 use jxlm_base::grid::{AlignedGrid, OutOfMemory};
 use jxlm_predictor::predictor::Predictor;
 use std::alloc::Global;
+
+/// The cuts of slopes are at most larger by 2 to the power of this: deep samples are often as smooth as others.
+const MAX_SLOPE_SHIFT: u32 = 4;
+
+/// The property that is the residual by the gradient in the channel before.
+const EARLIER: u32 = 19;
 
 /// The properties that are slopes: from above left to the left, from above to above left, from above right to above, and
 /// from the neighbour behind it to the one above and to the one on the left.
@@ -91,7 +96,7 @@ impl Taker for ByNeighbours {
         taken: bool,
     ) -> Result<(), OutOfMemory> {
         let sample = sample_at(&rows.here, x);
-        match walk.step_with_all(sample) {
+        match walk.step(sample) {
             Some(around) if taken => self.take(rows, x, around, sample),
             _ => Ok(()),
         }

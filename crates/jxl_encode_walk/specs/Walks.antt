@@ -5,11 +5,9 @@ use Rattle.jxlm_predictor.specs.Holding.{surroundings}
 use Rattle.jxlm_predictor.specs.Predictions.{prediction, predictors}
 use Rattle.jxlm_predictor.specs.Properties.{place_property, Surroundings as Place}
 use Rattle.jxlm_predictor.specs.Standing.{StandsAt, setting}
-use Rattle.jxlm_predictor.specs.declared.predictor.Predictor.TheVariants.{Gradient, SelfCorrecting}
 use Rattle.jxlm_predictor.specs.declared.state.PredictorState.{PredictorState}
 use Rattle.jxlm_weighted.specs.WeightsHeader.{default_weights}
 use Rattle.jxlm_weighted.specs.declared.weights.WpHeader.{WpHeader}
-use Rattle.jxl_encode_walk.specs.declared.walk.Near.{Near}
 use Rattle.jxl_encode_walk.specs.declared.walk.Surroundings.{Surroundings}
 
 -- A walk as contracts see it: the state of the predictors, and the number of samples that it may take yet.
@@ -33,22 +31,12 @@ pub record IsAfter (walk : Progress) (weights : Option WpHeader) (width : ℕ) (
 abbrev pub place : Option WpHeader → ℕ → List ℤ → Place
 place weights width samples = surroundings (setting width weights []) [] samples
 
--- These are the greatest error, the slopes and the two predictions of the sample after these.
-pub record AreNear (near : Near) (weights : Option WpHeader) (width : ℕ) (samples : List ℤ) : Type 0 where
-  pub error : near.error ≡ place_property (place weights width samples) 15
-  pub slopes : near.slopes ≡ map (place_property (place weights width samples)) (10 ∷ 11 ∷ 12 ∷ [])
-  pub predicted : near.predicted ≡ map (prediction weights samples width) (Gradient ∷ SelfCorrecting ∷ [])
-
 -- These are properties 0 to 15 and all predictions of the sample after these.
 pub record AreAround (around : Surroundings) (weights : Option WpHeader) (width : ℕ) (samples : List ℤ) : Type 0 where
   pub own : (k : ℕ) → k < 16 → slice_index_or around.own k (pos 0) ≡ place_property (place weights width samples) k
   pub predicted : around.predicted ≡ map (prediction weights samples width) predictors
 
--- whatever samples the walk is after, this is known of the next one
-abbrev pub IsNearOf : Progress → Near → Type 0
-IsNearOf walk near = (weights : Option WpHeader) (width : ℕ) (samples : List ℤ) → IsAfter walk weights width samples → AreNear near weights width samples
-
--- the same with all properties and predictions
+-- whatever samples the walk is after, these are the properties and predictions of the next one
 abbrev pub IsAroundOf : Progress → Surroundings → Type 0
 IsAroundOf walk around = (weights : Option WpHeader) (width : ℕ) (samples : List ℤ) → IsAfter walk weights width samples → AreAround around weights width samples
 

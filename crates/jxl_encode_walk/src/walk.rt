@@ -4,7 +4,7 @@ ghost use Rattle.std.specs.Prelude.{◌≡◌, ◌<◌, ◌≤◌, ℤ, List, []
 ghost use Rattle.jxlm_predictor.specs.Holding.{IsCurrent, state_of};
 ghost use Rattle.jxlm_predictor.specs.Predictions.{prediction, predictors};
 ghost use Rattle.jxlm_predictor.specs.Standing.{Setting, StandsAt};
-ghost use Rattle.jxl_encode_walk.specs.Walks.{IsAfter, IsAroundOf, IsNearOf, Takes, weights_by};
+ghost use Rattle.jxl_encode_walk.specs.Walks.{IsAfter, IsAroundOf, Takes, weights_by};
 
 use jxlm_base::grid::OutOfMemory;
 use jxlm_predictor::predictor::{Predictor, PredictorState, Properties, WpHeader};
@@ -13,17 +13,6 @@ use std::marker::Model;
 
 /// The most samples of a part.
 const MAX_CELLS: u32 = 65536;
-
-/// What is known of a sample before it is coded.
-#[derive(Clone, Copy)]
-pub struct Near {
-    /// The greatest error of the weighted predictor nearby.
-    pub error: i32,
-    /// From above left to the left, from above to above left, and from above right to above.
-    pub slopes: [i32; 3],
-    /// What the gradient and the weighted predictor make of it.
-    pub predicted: [i32; 2],
-}
 
 /// All that the neighbours of a sample say of it before it is coded.
 #[derive(Clone, Copy)]
@@ -112,32 +101,8 @@ impl Walk {
         }
     }
 
-    /// What is known of the next sample, which is this one; None after 65,536 samples.
-    pub fn step(&mut self, sample: i32) -> Option<Near>
-        ensures none { self.old.left ≡ 0 → result ≡ None }
-        ensures still { self.old.left ≡ 0 → self.new ≡ self.old }
-        ensures near { 0 < self.old.left → IsSomeAnd result (λ near. IsNearOf self.old near) }
-        ensures takes { 0 < self.old.left → Takes self.old self.new sample }
-    {
-        if self.left == 0 {
-            return None;
-        }
-        let properties = self.state.properties::<true>(&[]);
-        let near = Near {
-            error: properties.get(15),
-            slopes: [properties.get(10), properties.get(11), properties.get(12)],
-            predicted: [
-                Predictor::Gradient.predict(&properties),
-                Predictor::SelfCorrecting.predict(&properties),
-            ],
-        };
-        properties.record(sample);
-        self.left -= 1;
-        Some(near)
-    }
-
-    /// The same with all properties and predictors.
-    pub fn step_with_all(&mut self, sample: i32) -> Option<Surroundings>
+    /// All that the neighbours of the next sample, which is this one, say of it; None after 65,536 samples.
+    pub fn step(&mut self, sample: i32) -> Option<Surroundings>
         ensures none { self.old.left ≡ 0 → result ≡ None }
         ensures still { self.old.left ≡ 0 → self.new ≡ self.old }
         ensures around { 0 < self.old.left → IsSomeAnd result (λ around. IsAroundOf self.old around) }

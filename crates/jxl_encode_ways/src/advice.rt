@@ -7,12 +7,10 @@ use crate::palettes::add_palette_ways;
 use crate::ranks::{Ranks, add_rank_ways};
 use jxl_encode_advice::residuals::{Care, scheme_by_residuals};
 use jxl_encode_advice::values::scheme_by_values;
-use jxl_encode_colours::shades::scheme_by_colours;
 use jxl_encode_image::transform::PalettePlan;
 use jxl_encode_learn::axis::Axis;
 use jxl_encode_learn::scheme::Scheme;
 use jxl_encode_properties::broad::scheme_by_all;
-use jxl_encode_properties::learn::scheme_by_errors;
 use jxl_encode_properties::neighbours::scheme_by_neighbours;
 use jxl_image_header::channel::BitDepth;
 use jxl_picture::picture::{Picture, is_grey};
@@ -142,15 +140,6 @@ const LUMA: u32 = 6;
 /// The kind of colour transform that is green and the differences of red and blue to it.
 const GREEN: u32 = 10;
 
-/// The kinds of colour transform that are green, red or blue, and the differences of the others to it.
-const SHADES: [u32; 3] = [GREEN, 3, 17];
-
-/// The most nodes of the tree of a picture of few colours, nearly.
-const MAX_NODES: usize = 16383;
-
-/// The most nodes of the tree of a group of few colours, nearly: it has the first channel's beside them.
-const GROUP_NODES: usize = 450;
-
 /// What the header of a group takes, nearly, in bits times 65,536.
 const GROUP_COST: u64 = 128 * 65536;
 
@@ -232,7 +221,6 @@ pub(crate) fn care_of(effort: Effort) -> (usize, Care) {
             Care {
                 samples: 1 << 16,
                 clusters: 8,
-                colours: 1024,
             },
         ),
         Effort::Usual => (
@@ -240,7 +228,6 @@ pub(crate) fn care_of(effort: Effort) -> (usize, Care) {
             Care {
                 samples: 1 << 18,
                 clusters: 16,
-                colours: 8192,
             },
         ),
         Effort::Best => (
@@ -248,7 +235,6 @@ pub(crate) fn care_of(effort: Effort) -> (usize, Care) {
             Care {
                 samples: 1 << 20,
                 clusters: 64,
-                colours: 8192,
             },
         ),
     }
@@ -259,16 +245,11 @@ pub(crate) fn group_scheme(
     alloc: Global,
     channels: &[AlignedGrid<i32>],
     depth: BitDepth,
-    effort: Effort,
     colour: Option<u32>,
 ) -> Result<Scheme, OutOfMemory> {
-    let (slopes, care) = care_of(effort);
+    let (slopes, care) = care_of(Effort::Usual);
     let axes = slope_axes(alloc, depth, slopes)?;
     let mut best = scheme_by_residuals(alloc, channels, colour, axes, care)?;
-    let axes = shade_axes(alloc)?;
-    if let Some(other) = scheme_by_colours(alloc, channels, colour, axes, care, GROUP_NODES)? {
-        best = best.or_cheaper(other);
-    }
     if colour.is_none() {
         if let Some(other) = scheme_by_values(alloc, channels)? {
             best = best.or_cheaper(other);
@@ -277,51 +258,15 @@ pub(crate) fn group_scheme(
     Ok(best)
 }
 
-/// The cheaper of this way and that by the colours of the picture, if they are few.
-fn or_by_colours(
-    alloc: Global,
-    picture: Samples<'_>,
-    care: Care,
-    colour: Option<u32>,
-    best: Option<Way>,
-) -> Result<Option<Way>, OutOfMemory> {
-    let axes = shade_axes(alloc)?;
-    match scheme_by_colours(alloc, picture.channels, colour, axes, care, MAX_NODES)? {
-        Some(scheme) => Ok(cheaper(best, Way::new(scheme, colour, true))),
-        None => Ok(best),
-    }
-}
-
-/// The cheapest way to code a picture by its colours, after a colour transform if `transforms` says so; none, if they are
-/// too many.
-pub(crate) fn by_colours(
-    alloc: Global,
-    picture: Samples<'_>,
-    effort: Effort,
-    transforms: bool,
-) -> Result<Option<Way>, OutOfMemory> {
-    let care = care_of(effort).1;
-    if !transforms {
-        return or_by_colours(alloc, picture, care, None, None);
-    }
-    let kinds = if matches!(effort, Effort::Fast) { 1 } else { 3 };
-    let mut best = None;
-    for kind in SHADES.iter().take(kinds) {
-        best = or_by_colours(alloc, picture, care, Some(*kind), best)?;
-    }
-    Ok(best)
-}
-
-/// The cheapest way to code a picture by slopes and one of these colour transforms, if it is cheaper than this.
+/// The cheapest way to code a picture by slopes and one of these colour transforms; none, if there is none of them.
 pub(crate) fn by_slopes(
     alloc: Global,
     picture: Samples<'_>,
     effort: Effort,
     colours: &[Option<u32>],
-    best: Option<Way>,
 ) -> Result<Option<Way>, OutOfMemory> {
     let (slopes, care) = care_of(effort);
-    let mut best = best;
+    let mut best = None;
     for colour in colours {
         let axes = slope_axes(alloc, picture.depth, slopes)?;
         let scheme = scheme_by_residuals(alloc, picture.channels, *colour, axes, care)?;
@@ -330,34 +275,18 @@ pub(crate) fn by_slopes(
     Ok(best)
 }
 
-/// The cheapest way to code a picture by its colours or by slopes.
-fn learnt(
+/// The cheapest way to code a picture by a tree that is learnt from its samples one by one, on neighbours alone, and one of
+/// these colour transforms; none, if there is none of them.
+fn by_samples(
     alloc: Global,
     picture: Samples<'_>,
-    effort: Effort,
-    colours: &[Option<u32>],
-) -> Result<Option<Way>, OutOfMemory> {
-    let best = by_colours(alloc, picture, effort, colours.len() > 1)?;
-    by_slopes(alloc, picture, effort, colours, best)
-}
-
-/// The cheapest way to code a picture by a tree that is learnt from its samples one by one, and one of these colour
-/// transforms; none, if there is none of them. At the greatest effort the tree is on the errors of the weighted predictor,
-/// at others on neighbours alone, so that decoding takes less time.
-pub(crate) fn by_samples(
-    alloc: Global,
-    picture: Samples<'_>,
-    effort: Effort,
     colours: &[Option<u32>],
 ) -> Result<Option<Way>, OutOfMemory> {
     let shift = picture.depth.bits_per_sample.saturating_sub(8);
     let care = care_of(Effort::Usual).1;
     let mut best = None;
     for colour in colours {
-        let scheme = match effort {
-            Effort::Best => scheme_by_errors(alloc, picture.channels, *colour, shift, care)?,
-            _ => scheme_by_neighbours(alloc, picture.channels, *colour, shift, care)?,
-        };
+        let scheme = scheme_by_neighbours(alloc, picture.channels, *colour, shift, care)?;
         best = cheaper(best, Way::new(scheme, *colour, false));
     }
     Ok(best)
@@ -392,7 +321,6 @@ pub(crate) fn saves_by_weights(
     let care = Care {
         samples: TRIED_SAMPLES,
         clusters: 64,
-        colours: 0,
     };
     let with = by_all(alloc, picture, care, colour, true)?.scheme.cost;
     let without = by_all(alloc, picture, care, colour, false)?.scheme.cost;
@@ -400,11 +328,10 @@ pub(crate) fn saves_by_weights(
 }
 
 /// The colour transforms that are tried with trees learnt from samples one by one, where these are with slopes.
-fn colours_by_samples(effort: Effort, colours: &[Option<u32>]) -> &[Option<u32>] {
+fn colours_by_samples(effort: Effort, colours: &[Option<u32>]) -> &'static [Option<u32>] {
     match effort {
         Effort::Fast => &[],
-        Effort::Usual if colours.len() > 1 => &[Some(LUMA)],
-        Effort::Best => colours,
+        _ if colours.len() > 1 => &[Some(LUMA)],
         _ => &[None],
     }
 }
@@ -451,7 +378,7 @@ fn or_by_values(
     }
 }
 
-/// Adds the ways that are learnt so: at an effort the cheapest by values, colours or slopes, and that by samples one by one.
+/// Adds the ways that are learnt so: at an effort the cheapest by values or slopes, and that by samples one by one.
 pub(crate) fn add_ways_of(
     alloc: Global,
     list: &mut Vec<Advice>,
@@ -464,13 +391,13 @@ pub(crate) fn add_ways_of(
         Learning::At(effort) => effort,
         Learning::Broad => return add_broad_way(alloc, list, picture, colours),
     };
-    let best = learnt(alloc, picture, effort, colours)?;
+    let best = by_slopes(alloc, picture, effort, colours)?;
     add_way(alloc, list, or_by_values(alloc, picture, best)?)?;
     if picture.depth.exp_bits != 0 {
         return Ok(());
     }
     let tried = colours_by_samples(effort, colours);
-    let way = by_samples(alloc, picture, effort, tried)?;
+    let way = by_samples(alloc, picture, tried)?;
     add_way(alloc, list, way)
 }
 

@@ -2,8 +2,8 @@
 //! only by the best of them trees are learnt with most care. They are heuristics: no sample depends on them.
 
 use crate::advice::{
-    Advice, CHANNEL, Learning, Samples, add_advice, add_way, add_ways_of, by_all, by_colours,
-    by_samples, by_slopes, care_of, colours_of, saves_by_weights, slope_axes,
+    Advice, CHANNEL, Learning, Samples, add_advice, add_way, add_ways_of, by_all, by_slopes,
+    care_of, colours_of, saves_by_weights, slope_axes,
 };
 use crate::effort::Effort;
 use crate::palettes::add_palette_ways_by;
@@ -111,8 +111,8 @@ fn add_unweighted_ways(
     Ok(())
 }
 
-/// Adds the ways of these samples at the greatest effort: the cheapest by colours or slopes, that by the errors of the
-/// weighted predictor, and that by all properties and predictors. Those of few samples are without the weighted predictor.
+/// Adds the ways of these samples at the greatest effort: the cheapest by slopes, and that by all properties and predictors.
+/// Those of few samples are without the weighted predictor.
 pub(crate) fn add_best_ways_of(
     alloc: Global,
     list: &mut Vec<Advice>,
@@ -121,8 +121,7 @@ pub(crate) fn add_best_ways_of(
 ) -> Result<(), OutOfMemory> {
     let effort = Effort::Best;
     let likely = likely_colours(alloc, samples, colours)?;
-    let best = by_colours(alloc, samples, effort, colours.len() > 1)?;
-    let best = by_slopes(alloc, samples, effort, &likely, best)?;
+    let best = by_slopes(alloc, samples, effort, &likely)?;
     add_way(alloc, list, best)?;
     if samples.depth.exp_bits != 0 {
         return Ok(());
@@ -130,14 +129,9 @@ pub(crate) fn add_best_ways_of(
     if samples_in(samples.channels) <= SMALL {
         return add_unweighted_ways(alloc, list, samples, &likely);
     }
-    let way = by_samples(alloc, samples, effort, &likely)?;
-    let colour = match &way {
-        Some(way) => way.colour,
-        None => None,
-    };
+    let colour = likely.first().copied().unwrap_or(None);
     let broad = by_all(alloc, samples, care_of(effort).1, colour, true)?;
-    add_way(alloc, list, Some(broad))?;
-    add_way(alloc, list, way)
+    add_way(alloc, list, Some(broad))
 }
 
 /// Adds the way by all properties and predictors alone, after the likeliest of these colour transforms; without the weighted

@@ -101,7 +101,6 @@ fn channels_in(
 fn tree_of(
     alloc: Global,
     samples: Samples<'_>,
-    effort: Effort,
     colour: Option<u32>,
     group: u64,
     across: u64,
@@ -114,7 +113,7 @@ fn tree_of(
         left.saturating_mul(SIDE),
         top.saturating_mul(SIDE),
     )?;
-    let scheme = group_scheme(alloc, &channels, samples.depth, effort, colour)?;
+    let scheme = group_scheme(alloc, &channels, samples.depth, colour)?;
     Ok(GroupTree {
         part: SectionPart::Pass(0, group),
         nodes: scheme.nodes,
@@ -122,44 +121,28 @@ fn tree_of(
     })
 }
 
-/// Adds the trees of all groups.
-fn add_trees(
-    alloc: Global,
-    trees: &mut Vec<GroupTree>,
-    samples: Samples<'_>,
-    size: Size,
-    effort: Effort,
-    colour: Option<u32>,
-) -> Result<(), OutOfMemory> {
-    let (across, down) = groups_of(size);
-    for group in 0..across.saturating_mul(down) {
-        trees.push(tree_of(alloc, samples, effort, colour, group, across)?)?;
-    }
-    Ok(())
-}
-
-/// The trees of all groups: at the greatest effort also those that are learnt at the usual one.
-fn trees_by(
+/// The trees of all groups.
+fn trees_of(
     alloc: Global,
     samples: Samples<'_>,
     size: Size,
-    effort: Effort,
     colour: Option<u32>,
 ) -> Result<Vec<GroupTree>, OutOfMemory> {
+    let (across, down) = groups_of(size);
     let mut trees = Vec::new(alloc);
-    add_trees(alloc, &mut trees, samples, size, Effort::Usual, colour)?;
-    if matches!(effort, Effort::Best) {
-        add_trees(alloc, &mut trees, samples, size, effort, colour)?;
+    for group in 0..across.saturating_mul(down) {
+        trees.push(tree_of(alloc, samples, colour, group, across)?)?;
     }
     Ok(trees)
 }
 
-/// Whether groups may have trees of their own: there are several, of numbers, and there is time.
+/// Whether groups may have trees of their own: there are several, of numbers, at the usual effort. At the greatest one they
+/// gained nothing beside trees by all properties.
 fn are_tried(picture: &Picture, effort: Effort) -> bool {
     let size = picture.header.size;
     let several = size.width > GROUP_DIM || size.height > GROUP_DIM;
     let floats = picture.header.bit_depth.exp_bits != 0;
-    several && !floats && !matches!(effort, Effort::Fast)
+    several && !floats && matches!(effort, Effort::Usual)
 }
 
 /// The trees that groups may have of their own, for each colour transform that these ways have, of samples or of their ranks.
@@ -184,7 +167,7 @@ pub fn own_trees(
             _ => Samples::of(picture),
         };
         if advice.own && !own.sets.iter().any(|set| set.is_for(advice)) {
-            let trees = trees_by(alloc, samples, picture.header.size, effort, colour)?;
+            let trees = trees_of(alloc, samples, picture.header.size, colour)?;
             own.sets.push(ColourTrees {
                 palettes,
                 colour,

@@ -185,12 +185,14 @@ fn add_ways_of_all(
     Ok(())
 }
 
-/// The orders of colours that are tried at an effort: at the greatest others are beside them.
+/// The orders of colours that are tried at an effort: at the greatest others are beside them. At the least those of two
+/// channels are in the order of their samples, as grey and alpha are often smooth.
 fn orders_of(effort: Effort, channels: usize) -> &'static [ColourOrder] {
     if channels == 1 {
         return &[ColourOrder::Sample];
     }
     match effort {
+        Effort::Fast if channels == 2 => &[ColourOrder::Sample],
         Effort::Fast => &[ColourOrder::Frequency],
         _ => &[ColourOrder::Frequency, ColourOrder::Nearest],
     }

@@ -1,9 +1,9 @@
-use Rattle.std.proofs.Common.{[], arith, refl, rules, subst, sym}
+use Rattle.std.proofs.Common.{[], arith, subst, sym}
 use Rattle.std.proofs.lemmas.Int.{to_z-of_z}
 use Rattle.std.specs.Int.{w32}
 use Rattle.jxlm_predictor.specs.Standing.{StandsAt, setting}
 use Rattle.jxl_encode_walk.specs.Walks.{IsAfter}
-use Rattle.jxl_encode_walk.proofs.Steps.{entry, goes_on, is_ready, kept, takes_one}
+use Rattle.jxl_encode_walk.proofs.Steps.{goes_on, is_ready, takes_one}
 use Rattle.jxl_encode_walk.proofs.walk.Walk.step.Goals as goal
 
 pub properties-properties-requires-clause-ready : goal.properties-properties-requires-clause-ready
@@ -13,19 +13,13 @@ pub invariant_of-self : goal.invariant_of-self
 invariant_of-self c =
     goes_on _ _ c.args.sample (takes_one _ _ _ _ _ _ (omega (arith, c.if-self-eq0.false)) c.properties-properties.ensures.unchanged (to_z-of_z w32 c.args.sample c.ranges.sample) c.record.ensures.stands) c.self.invariant
 
-pub returns-clause-near : goal.returns-clause-near
-returns-clause-near c = λ some weights width samples at.
+pub returns-clause-around : goal.returns-clause-around
+returns-clause-around c = λ some weights width samples at.
     let old = subst (λ walk. IsAfter walk weights width samples) (sym c.self.view_is) at in
     let ready = subst (λ state. StandsAt state (setting width weights []) samples) (sym c.properties-properties.ensures.unchanged) old.stands in
     record {
-      error = kept c.get.result _ (search rules) (c.get.ensures (setting width weights []) samples ready);
-      slopes =
-          entry c.get-2.result _ _ _ (search rules) (c.get-2.ensures (setting width weights []) samples ready)
-          (entry c.get-3.result _ _ _ (search rules) (c.get-3.ensures (setting width weights []) samples ready)
-          (entry c.get-4.result _ _ _ (search rules) (c.get-4.ensures (setting width weights []) samples ready) refl));
-      predicted =
-          entry c.predict.result _ _ _ (search rules) (c.predict.ensures (setting width weights []) samples ready)
-          (entry c.predict-2.result _ _ _ (search rules) (c.predict-2.ensures (setting width weights []) samples ready) refl);
+      own = λ k below. c.own.ensures (setting width weights []) samples k ready below;
+      predicted = c.predictions_of.ensures (setting width weights []) samples ready;
     }
 
 pub returns-clause-takes : goal.returns-clause-takes
