@@ -1,7 +1,9 @@
 -- Steps of walks over the samples of a part of a channel.
-use Rattle.std.proofs.Common.{◌≡◌, ◌<◌, ◌-◌, ◌++◌, ◌∷◌, [], arith, ℕ, ℤ, List, length, subst, sym, Bool, true, false, Some}
+use Rattle.std.proofs.Common.{◌≡◌, ◌<◌, ◌-◌, ◌++◌, ◌∷◌, [], arith, ℕ, ℤ, List, Option, refl, length, subst, sym, ◌∙◌, to_z, of_z, FitsSigned, Bool, true, false, Some}
 use Rattle.std.proofs.Math.Nat.{div-le_self}
+use Rattle.std.proofs.lemmas.Int.{to_z-of_z}
 use Rattle.std.proofs.lemmas.List.{length-append}
+use Rattle.std.specs.Int.{w32}
 use Rattle.jxlm_base.specs.Grid.{Grid}
 use Rattle.jxlm_predictor.specs.Standing.{IsReady, Setting, StandsAt, setting}
 use Rattle.jxlm_predictor.specs.declared.state.PredictorState.{PredictorState}
@@ -38,6 +40,14 @@ goes_on old new sample takes at = record {
   samples = at.samples ++ sample ∷ [];
   after = takes at.weights at.width at.samples at.after;
 }
+
+-- a number that is kept in 32 bits is the same
+pub kept : (x y : ℤ) → FitsSigned w32 x → x ≡ y → to_z w32 (of_z w32 x) ≡ y
+kept x y fits is = to_z-of_z w32 x fits ∙ is
+
+-- one entry more, before equal lists
+pub entry : (x y : ℤ) (xs ys : List ℤ) → FitsSigned w32 x → x ≡ y → xs ≡ ys → (to_z w32 (of_z w32 x) ∷ xs) ≡ (y ∷ ys)
+entry x y xs ys fits is rest = rw (kept x y fits is, rest) refl
 
 -- the default weights are those of a header
 default_header : IsHeader default_weights
