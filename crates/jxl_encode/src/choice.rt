@@ -12,7 +12,6 @@ use crate::effort::Effort;
 use crate::progress::Progress;
 use jxl_encode_copies::repeats::do_repeat;
 use jxl_encode_ways::advice::{Advice, advices_for};
-use jxl_encode_ways::groups::{OwnTrees, own_trees};
 use jxl_encode_ways::ranks::ranks_of;
 use jxl_picture::picture::Picture;
 use jxlm_base::grid::OutOfMemory;
@@ -39,7 +38,6 @@ fn shortest<P: Progress>(
     alloc: Global,
     picture: &Picture,
     advices: &[Advice],
-    own: &OwnTrees,
     copies: bool,
     progress: &mut P,
 ) -> Result<Option<Vec<u8>>, OutOfMemory>
@@ -49,7 +47,7 @@ fn shortest<P: Progress>(
 {
     let mut best = None;
     for advice in advices {
-        let bytes = codestream_by(alloc, picture, advice, own.by(advice), copies)?;
+        let bytes = codestream_by(alloc, picture, advice, &[], copies)?;
         best = Some(shorter(best, bytes));
         progress.way_tried(advices.len());
     }
@@ -79,8 +77,7 @@ pub(crate) fn encode_codestream<P: Progress>(
     let copies = are_copied(alloc, picture, effort)?;
     let ranks = ranks_of(alloc, picture)?;
     let advices = advices_for(alloc, picture, effort, copies, &ranks)?;
-    let own = own_trees(alloc, picture, effort, &advices, &ranks)?;
-    if let Some(bytes) = shortest(alloc, picture, &advices, &own, copies, progress)? {
+    if let Some(bytes) = shortest(alloc, picture, &advices, copies, progress)? {
         return Ok(bytes);
     }
     let plain = Advice::none(alloc);

@@ -1,8 +1,7 @@
 //! How a picture is coded: a choice that no sample depends on.
 
-use crate::best::{add_best_ways_of, add_broad_way, best_ways, is_small};
+use crate::best::{add_best_ways_of, add_broad_way, best_ways, copied_of, is_small};
 use crate::effort::Effort;
-use crate::groups::groups_of;
 use crate::palettes::add_palette_ways;
 use crate::ranks::{Ranks, add_rank_ways};
 use jxl_encode_advice::residuals::{Care, scheme_by_residuals};
@@ -13,6 +12,7 @@ use jxl_encode_learn::scheme::Scheme;
 use jxl_encode_properties::broad::scheme_by_all;
 use jxl_encode_properties::neighbours::scheme_by_neighbours;
 use jxl_image_header::channel::BitDepth;
+use jxl_image_header::size::Size;
 use jxl_picture::picture::{Picture, is_grey};
 use jxlm_base::grid::{AlignedGrid, OutOfMemory};
 use jxlm_encode_write::tree::EncodeNode;
@@ -28,8 +28,6 @@ pub struct Advice {
     pub clusters: Vec<u8>,
     /// The kind of colour transform, if there is one.
     pub colour: Option<u32>,
-    /// Whether groups may have trees of their own.
-    pub(crate) own: bool,
     /// The palettes, if there are some: then the tree is that of their tables and of all other channels.
     pub palettes: Vec<PalettePlan>,
     /// What samples, codes and tree cost, nearly, without copies, in bits times 65,536.
@@ -64,13 +62,11 @@ impl Learning {
     }
 }
 
-/// The cheapest way to code a picture, as far as is known: its scheme, its colour transform, and whether groups may have
-/// trees of their own.
+/// The cheapest way to code a picture, as far as is known: its scheme and its colour transform.
 #[derive(Drop)]
 pub(crate) struct Way {
     scheme: Scheme,
-    pub(crate) colour: Option<u32>,
-    own: bool,
+    colour: Option<u32>,
     broad: bool,
 }
 
@@ -86,11 +82,10 @@ impl<'a> Samples<'a> {
 
 impl Way {
     /// By this scheme, which is not by all properties, after this colour transform or without one.
-    fn new(scheme: Scheme, colour: Option<u32>, own: bool) -> Way {
+    fn new(scheme: Scheme, colour: Option<u32>) -> Way {
         Way {
             scheme,
             colour,
-            own,
             broad: false,
         }
     }
@@ -103,7 +98,6 @@ impl Advice {
             nodes: Vec::new(alloc),
             clusters: Vec::new(alloc),
             colour: None,
-            own: false,
             palettes: Vec::new(alloc),
             cost: 0,
             broad: false,
@@ -139,6 +133,9 @@ const LUMA: u32 = 6;
 
 /// The kind of colour transform that is green and the differences of red and blue to it.
 const GREEN: u32 = 10;
+
+/// The side of a group.
+pub(crate) const GROUP_DIM: u32 = 256;
 
 /// What the header of a group takes, nearly, in bits times 65,536.
 const GROUP_COST: u64 = 128 * 65536;
@@ -240,24 +237,6 @@ pub(crate) fn care_of(effort: Effort) -> (usize, Care) {
     }
 }
 
-/// How a group may be coded by what its samples are like.
-pub(crate) fn group_scheme(
-    alloc: Global,
-    channels: &[AlignedGrid<i32>],
-    depth: BitDepth,
-    colour: Option<u32>,
-) -> Result<Scheme, OutOfMemory> {
-    let (slopes, care) = care_of(Effort::Usual);
-    let axes = slope_axes(alloc, depth, slopes)?;
-    let mut best = scheme_by_residuals(alloc, channels, colour, axes, care)?;
-    if colour.is_none() {
-        if let Some(other) = scheme_by_values(alloc, channels)? {
-            best = best.or_cheaper(other);
-        }
-    }
-    Ok(best)
-}
-
 /// The cheapest way to code a picture by slopes and one of these colour transforms; none, if there is none of them.
 pub(crate) fn by_slopes(
     alloc: Global,
@@ -270,7 +249,7 @@ pub(crate) fn by_slopes(
     for colour in colours {
         let axes = slope_axes(alloc, picture.depth, slopes)?;
         let scheme = scheme_by_residuals(alloc, picture.channels, *colour, axes, care)?;
-        best = cheaper(best, Way::new(scheme, *colour, true));
+        best = cheaper(best, Way::new(scheme, *colour));
     }
     Ok(best)
 }
@@ -287,7 +266,7 @@ fn by_samples(
     let mut best = None;
     for colour in colours {
         let scheme = scheme_by_neighbours(alloc, picture.channels, *colour, shift, care)?;
-        best = cheaper(best, Way::new(scheme, *colour, false));
+        best = cheaper(best, Way::new(scheme, *colour));
     }
     Ok(best)
 }
@@ -306,7 +285,6 @@ pub(crate) fn by_all(
     Ok(Way {
         scheme,
         colour,
-        own: false,
         broad: true,
     })
 }
@@ -358,7 +336,6 @@ pub(crate) fn add_way(
         nodes: way.scheme.nodes,
         clusters: way.scheme.clusters,
         colour: way.colour,
-        own: way.own,
         palettes: Vec::new(alloc),
         cost,
         broad: way.broad,
@@ -373,7 +350,7 @@ fn or_by_values(
     best: Option<Way>,
 ) -> Result<Option<Way>, OutOfMemory> {
     match scheme_by_values(alloc, picture.channels)? {
-        Some(scheme) => Ok(cheaper(best, Way::new(scheme, None, true))),
+        Some(scheme) => Ok(cheaper(best, Way::new(scheme, None))),
         None => Ok(best),
     }
 }
@@ -401,13 +378,12 @@ pub(crate) fn add_ways_of(
     add_way(alloc, list, way)
 }
 
-/// The efforts of which the ways are tried with all palettes: at the greatest those of the usual one. Where samples repeat
-/// also those of the lowest one, by which copies are often shorter; at the greatest effort only of a small picture.
+/// The efforts of which the ways are tried with all palettes: at the greatest those of the usual one. Where the samples of a
+/// small picture repeat also those of the lowest one, by which copies are often shorter.
 fn efforts_of(effort: Effort, repeats: bool, small: bool) -> &'static [Effort] {
     match effort {
         Effort::Fast => &[Effort::Fast],
-        Effort::Usual if repeats => &[Effort::Fast, Effort::Usual],
-        Effort::Best if repeats && small => &[Effort::Fast, Effort::Usual],
+        _ if repeats && small => &[Effort::Fast, Effort::Usual],
         _ => &[Effort::Usual],
     }
 }
@@ -488,6 +464,14 @@ fn add_ways_at(
     }
 }
 
+/// How many groups a picture of this size has side by side, and one below the other.
+fn groups_of(size: Size) -> (u64, u64) {
+    (
+        u64::from(size.width.div_ceil(GROUP_DIM)),
+        u64::from(size.height.div_ceil(GROUP_DIM)),
+    )
+}
+
 /// Whether the samples of a picture take so few bits in the cheapest of these ways that the headers of its groups, which no
 /// cost includes, may take more.
 fn is_nearly_flat(list: &[Advice], picture: &Picture) -> bool {
@@ -512,11 +496,11 @@ pub fn advices_for(
         add_ways_at(alloc, &mut list, picture, Effort::Fast, false, ranks)?;
         return Ok(list);
     }
-    if compared {
-        return cheap_ways(alloc, list);
+    match effort {
+        Effort::Fast => Ok(list),
+        Effort::Usual if compared => cheap_ways(alloc, list),
+        Effort::Usual if is_small(picture) => Ok(list),
+        Effort::Usual => copied_of(alloc, list, picture),
+        Effort::Best => best_ways(alloc, list, picture, repeats, ranks),
     }
-    if matches!(effort, Effort::Best) {
-        return best_ways(alloc, list, picture, repeats, ranks);
-    }
-    Ok(list)
 }

@@ -294,7 +294,7 @@ fn quick_ways(
 
 /// The ways that are tried to the end where samples repeat: those by all properties, and the cheapest of the others in each
 /// order of a palette of all channels.
-fn copied_of(
+pub(crate) fn copied_of(
     alloc: Global,
     ways: Vec<Advice>,
     picture: &Picture,

@@ -6,7 +6,6 @@ pub mod advice;
 mod best;
 pub mod effort;
 pub mod grids;
-pub mod groups;
 mod joined;
 mod palettes;
 pub mod ranks;

@@ -1,10 +1,9 @@
 //! Ways to code a picture of few colours by a palette. They are heuristics: no sample depends on them.
 
 use crate::advice::{
-    Advice, Learning, Samples, add_advice, add_ways_of, care_of, shade_axes, slope_axes,
+    Advice, GROUP_DIM, Learning, Samples, add_advice, add_ways_of, care_of, shade_axes, slope_axes,
 };
 use crate::effort::Effort;
-use crate::groups::SIDE;
 use crate::joined::{CHANNEL, Levels, joined};
 use jxl_encode_advice::residuals::{Care, scheme_by_residuals};
 use jxl_encode_image::transform::PalettePlan;
@@ -69,7 +68,6 @@ fn way_of(
         nodes: tree.nodes,
         clusters: tree.clusters,
         colour: index.colour,
-        own: index.own,
         palettes: plans,
         cost: index.cost.saturating_add(table.cost),
         broad: index.broad,
@@ -137,7 +135,7 @@ pub(crate) fn add_ways_by(
 ) -> Result<(), OutOfMemory> {
     // The indices of a picture of several groups are in other sections than the table.
     let large = match coded.samples.channels.get(0) {
-        Some(first) => first.width() > SIDE || first.height() > SIDE,
+        Some(first) => first.width().max(first.height()) > GROUP_DIM as usize,
         None => false,
     };
     let care = care_of(learning.effort()).1;
@@ -175,14 +173,7 @@ fn add_ways_of_all(
             depth,
         },
     };
-    let mut ways = Vec::new(alloc);
-    add_ways_by(alloc, &mut ways, coded, &[plan], &[None], learning, bound)?;
-    for way in ways {
-        let mut way = way;
-        way.own = false;
-        add_advice(list, way)?;
-    }
-    Ok(())
+    add_ways_by(alloc, list, coded, &[plan], &[None], learning, bound)
 }
 
 /// The orders of colours that are tried at an effort: at the greatest others are beside them. At the least those of two
