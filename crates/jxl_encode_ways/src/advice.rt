@@ -1,6 +1,6 @@
 //! How a picture is coded: a choice that no sample depends on.
 
-use crate::best::{add_best_ways_of, add_broad_way, best_ways, copied_of, is_small};
+use crate::best::{add_best_ways_of, add_broad_way, best_ways, is_small, usual_of};
 use crate::effort::Effort;
 use crate::palettes::add_palette_ways;
 use crate::ranks::{Ranks, add_rank_ways};
@@ -500,7 +500,7 @@ pub fn advices_for(
         Effort::Fast => Ok(list),
         Effort::Usual if compared => cheap_ways(alloc, list),
         Effort::Usual if is_small(picture) => Ok(list),
-        Effort::Usual => copied_of(alloc, list, picture),
+        Effort::Usual => usual_of(alloc, list, picture),
         Effort::Best => best_ways(alloc, list, picture, repeats, ranks),
     }
 }

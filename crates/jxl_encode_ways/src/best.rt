@@ -294,7 +294,7 @@ fn quick_ways(
 
 /// The ways that are tried to the end where samples repeat: those by all properties, and the cheapest of the others in each
 /// order of a palette of all channels.
-pub(crate) fn copied_of(
+fn copied_of(
     alloc: Global,
     ways: Vec<Advice>,
     picture: &Picture,
@@ -305,6 +305,41 @@ pub(crate) fn copied_of(
     let places = cheapest_in_orders(alloc, &ways, picture)?;
     if places.is_empty() {
         return cheapest_of(alloc, ways, COPIED_WAYS);
+    }
+    kept_at(alloc, ways, &places)
+}
+
+/// The place of the cheapest of these ways, if it has no palette of all channels.
+fn cheapest_other(ways: &[Advice], picture: &Picture) -> Option<usize> {
+    let mut best: Option<usize> = None;
+    let mut least = u64::MAX;
+    for at in 0..ways.len() {
+        if ways[at].cost < least {
+            least = ways[at].cost;
+            best = Some(at);
+        }
+    }
+    let way = ways.get(best?)?;
+    if order_of(way, picture).is_some() {
+        None
+    } else {
+        best
+    }
+}
+
+/// The ways that are tried to the end at the usual effort where samples repeat: the cheapest in each order of a palette of all
+/// channels, and that without one, if it costs less; or the two cheapest, if there is no such palette.
+pub(crate) fn usual_of(
+    alloc: Global,
+    ways: Vec<Advice>,
+    picture: &Picture,
+) -> Result<Vec<Advice>, OutOfMemory> {
+    let mut places = cheapest_in_orders(alloc, &ways, picture)?;
+    if places.is_empty() {
+        return cheapest_of(alloc, ways, COPIED_WAYS);
+    }
+    if let Some(at) = cheapest_other(&ways, picture) {
+        places.push(at)?;
     }
     kept_at(alloc, ways, &places)
 }
