@@ -12,7 +12,6 @@ use crate::effort::Effort;
 use crate::progress::Progress;
 use jxl_encode_copies::repeats::do_repeat;
 use jxl_encode_ways::advice::{Advice, advices_for};
-use jxl_encode_ways::ranks::ranks_of;
 use jxl_picture::picture::Picture;
 use jxlm_base::grid::OutOfMemory;
 use std::alloc::Global;
@@ -75,8 +74,7 @@ pub(crate) fn encode_codestream<P: Progress>(
     ensures { IfOk result (λ v. IsCodestreamOf picture.now v.items) }
 {
     let copies = are_copied(alloc, picture, effort)?;
-    let ranks = ranks_of(alloc, picture)?;
-    let advices = advices_for(alloc, picture, effort, copies, &ranks)?;
+    let advices = advices_for(alloc, picture, effort, copies)?;
     if let Some(bytes) = shortest(alloc, picture, &advices, copies, progress)? {
         return Ok(bytes);
     }

@@ -5,17 +5,16 @@ use jxlm_base::grid::OutOfMemory;
 use jxlm_predictor::predictor::Predictor;
 use std::alloc::Global;
 
-/// A class of samples that were counted. Each class of samples that are alike is counted once, with the number of samples in
-/// it as its weight. A class of a table, which has the counts of all its samples, has the weight 1.
+/// A class of samples that are alike and were counted as one.
 #[derive(Clone, Copy)]
 pub struct Class {
     /// Its number.
     pub number: u32,
-    /// By this all that is counted of it is multiplied.
+    /// How many samples it has.
     pub weight: u32,
 }
 
-/// Samples that were counted: in classes, or one by one, where samples that are alike are a class.
+/// Samples that were counted in classes.
 pub trait Counted {
     /// What the classes are told apart by.
     fn axes(&self) -> &[Axis];

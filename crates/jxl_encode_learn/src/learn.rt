@@ -95,7 +95,7 @@ pub(crate) enum Learnt {
 /// A tree that is being learnt.
 #[derive(Drop)]
 pub(crate) struct Learner<'a, C> {
-    table: &'a C,
+    counted: &'a C,
     prices: Prices,
     bounds: Bounds,
     classes: Vec<Class>,
@@ -197,18 +197,18 @@ fn cheaper(best: Option<Cut>, cut: Cut) -> Option<Cut> {
 }
 
 impl<C: Counted> Learner<'_, C> {
-    /// Nothing learnt of this table.
+    /// Nothing learnt of these samples.
     pub(crate) fn new<'a>(
         alloc: Global,
-        table: &'a C,
+        counted: &'a C,
         prices: Prices,
         bounds: Bounds,
     ) -> Result<Learner<'a, C>, OutOfMemory> {
-        let classes = table.occurring(alloc)?;
-        let stride = widest(table.axes());
-        let cuts = table.axes().len().saturating_mul(stride).min(MAX_COUNTS);
+        let classes = counted.occurring(alloc)?;
+        let stride = widest(counted.axes());
+        let cuts = counted.axes().len().saturating_mul(stride).min(MAX_COUNTS);
         Ok(Learner {
-            table,
+            counted,
             prices,
             bounds,
             bits: Bits::new(alloc)?,
@@ -226,7 +226,7 @@ impl<C: Counted> Learner<'_, C> {
 
     /// The number of classes on an axis.
     fn size(&self, axis: usize) -> usize {
-        match self.table.axes().get(axis) {
+        match self.counted.axes().get(axis) {
             Some(axis) => axis.size(),
             None => 1,
         }
@@ -236,7 +236,7 @@ impl<C: Counted> Learner<'_, C> {
     fn count(&mut self, span: Span, kind: usize) {
         clear(&mut self.whole);
         let classes = classes_of(&self.classes, span);
-        self.table.add_all(&mut self.whole, classes, kind);
+        self.counted.add_all(&mut self.whole, classes, kind);
         self.symbols = symbols_in(&self.whole);
     }
 
@@ -248,12 +248,12 @@ impl<C: Counted> Learner<'_, C> {
 
     /// The predictor of a leaf.
     pub(crate) fn predictor(&self, span: Span) -> Predictor {
-        self.table.predictor(span.kind)
+        self.counted.predictor(span.kind)
     }
 
     /// The number of predictors.
     pub(crate) fn kinds(&self) -> usize {
-        self.table.kinds()
+        self.counted.kinds()
     }
 
     /// The counts of the samples of a span by a predictor.
@@ -266,7 +266,7 @@ impl<C: Counted> Learner<'_, C> {
     fn settled(&mut self, span: Span) -> Span {
         let mut best = span;
         let mut next = u64::MAX;
-        for kind in 0..self.table.kinds() {
+        for kind in 0..self.counted.kinds() {
             self.count(span, kind);
             let cost = self.cost();
             if kind == 0 || cost < best.cost {
@@ -297,7 +297,8 @@ impl<C: Counted> Learner<'_, C> {
         clear(&mut self.below);
         copy_counts(&mut self.above, &self.whole);
         let classes = classes_of(&self.classes, span);
-        self.table.add_places(&mut self.places, classes, kind, axis);
+        self.counted
+            .add_places(&mut self.places, classes, kind, axis);
     }
 
     /// What the samples on both sides of the cut of this number cost, if that is less than by the predictor before.
@@ -330,7 +331,7 @@ impl<C: Counted> Learner<'_, C> {
     /// What the samples on both sides of each cut cost by a predictor.
     fn put_all(&mut self, span: Span, kind: usize) {
         self.count(span, kind);
-        for axis in 0..self.table.axes().len() {
+        for axis in 0..self.counted.axes().len() {
             self.put_axis(span, kind, axis);
         }
     }
@@ -338,7 +339,7 @@ impl<C: Counted> Learner<'_, C> {
     /// What the samples on both sides of each cut cost by the predictors that are tried.
     fn put_tried(&mut self, span: Span) {
         self.put_all(span, span.kind);
-        if self.bounds.predictors > 1 && self.table.kinds() > 1 {
+        if self.bounds.predictors > 1 && self.counted.kinds() > 1 {
             self.put_all(span, span.second);
         }
     }
@@ -365,7 +366,7 @@ impl<C: Counted> Learner<'_, C> {
         forget(&mut self.upper);
         self.put_tried(span);
         let mut best = None;
-        for axis in 0..self.table.axes().len() {
+        for axis in 0..self.counted.axes().len() {
             best = self.best_on(axis, best);
         }
         best
@@ -417,7 +418,7 @@ impl<C: Counted> Learner<'_, C> {
                 Some(class) => *class,
                 None => break,
             };
-            if self.table.place(class, cut.axis) > cut.place {
+            if self.counted.place(class, cut.axis) > cut.place {
                 if at < self.classes.len() && next < self.classes.len() {
                     self.classes.swap(next, at);
                 }
@@ -429,7 +430,7 @@ impl<C: Counted> Learner<'_, C> {
 
     /// The node of a cut.
     fn decision(&self, cut: Cut) -> Learnt {
-        match self.table.axes().get(cut.axis) {
+        match self.counted.axes().get(cut.axis) {
             Some(axis) => Learnt::Decision {
                 property: axis.property,
                 value: axis.cuts.get(cut.place).copied().unwrap_or(0),

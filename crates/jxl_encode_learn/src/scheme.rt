@@ -24,13 +24,6 @@ pub struct Scheme {
     pub cost: u64,
 }
 
-impl Scheme {
-    /// The cheaper of two.
-    pub fn or_cheaper(self, other: Scheme) -> Scheme {
-        if other.cost < self.cost { other } else { self }
-    }
-}
-
 /// The number of the greatest count.
 fn top_of(counts: &[u32]) -> usize {
     let mut top: usize = 0;
@@ -112,7 +105,7 @@ impl Maker<'_> {
 /// most this number of clusters.
 pub fn scheme_of<C: Counted>(
     alloc: Global,
-    table: &C,
+    counted: &C,
     prices: Prices,
     values: &[i32],
     most: usize,
@@ -124,7 +117,7 @@ pub fn scheme_of<C: Counted>(
         apart: false,
         rounds: 0,
     };
-    let mut learner = Learner::new(alloc, table, prices, bounds)?;
+    let mut learner = Learner::new(alloc, counted, prices, bounds)?;
     let learnt = learner.learn(alloc)?;
     let mut maker = Maker {
         values,
@@ -172,7 +165,7 @@ fn number_of(numbers: &mut Vec<usize>, cluster: usize) -> Result<u8, OutOfMemory
 /// The scheme of these nodes with the clusters of their leaves, which cost this.
 fn scheme_from<C: Counted>(
     alloc: Global,
-    table: &C,
+    counted: &C,
     nodes: &[(Learnt, usize)],
     cost: u64,
 ) -> Result<Scheme, OutOfMemory> {
@@ -188,7 +181,7 @@ fn scheme_from<C: Counted>(
             Learnt::Leaf(span) => {
                 let number = number_of(&mut numbers, node.1)?;
                 scheme.clusters.push(number)?;
-                let predictor = table.predictor(span.kind);
+                let predictor = counted.predictor(span.kind);
                 EncodeNode::Leaf {
                     predictor,
                     offset: 0,
@@ -204,12 +197,12 @@ fn scheme_from<C: Counted>(
 /// and made better.
 pub fn scheme_within<C: Counted>(
     alloc: Global,
-    table: &C,
+    counted: &C,
     prices: Prices,
     bounds: Bounds,
     most: usize,
 ) -> Result<Scheme, OutOfMemory> {
-    let mut learner = Learner::new(alloc, table, prices, bounds)?;
+    let mut learner = Learner::new(alloc, counted, prices, bounds)?;
     let learnt = learner.learn(alloc)?;
     let clusters = Clusters::new(alloc, prices.scale, most)?;
     let mut refiner = Refiner::new(alloc, learner, &learnt, clusters)?;
@@ -218,5 +211,5 @@ pub fn scheme_within<C: Counted>(
     let cost = refiner
         .cost()
         .saturating_add(cost_of_tree(nodes.len(), prices));
-    scheme_from(alloc, table, &nodes, cost)
+    scheme_from(alloc, counted, &nodes, cost)
 }

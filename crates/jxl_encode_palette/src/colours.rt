@@ -14,6 +14,9 @@ const TRIES: usize = 64;
 /// The most colours that are put beside near ones.
 const MOST_NEAREST: usize = 4096;
 
+/// The factor of a hash.
+const FACTOR: u64 = 0x9E37_79B9_7F4A_7C15;
+
 /// The channels by which colours are sorted, one after another.
 const CHANNELS: [usize; 4] = [1, 0, 2, 3];
 
@@ -68,26 +71,60 @@ impl Colour {
     /// A hash of the samples.
     fn hash(self) -> usize {
         let mut hash: u64 = 0;
-        for channel in 0..4 {
-            hash = (hash ^ u64::from(self.samples[channel].cast_unsigned())).wrapping_mul(
-                0x9e3779b97f4a7c15,
-            );
-            hash = hash ^ hash.wrapping_shr(29);
+        for sample in &self.samples {
+            hash = (hash ^ u64::from(sample.cast_unsigned())).wrapping_mul(FACTOR);
         }
-        hash as usize
+        (hash ^ hash.wrapping_shr(29)) as usize
     }
 }
 
-/// The colour of the pixel in column `x` of row `y`.
-pub(crate) fn colour_at<S: Sample>(grids: &[AlignedGrid<S>], x: usize, y: usize) -> Colour {
-    let mut samples = [0; 4];
-    for channel in 0..grids.len().min(MAX_CHANNELS) {
-        let grid = &grids[channel];
-        if x < grid.width() && y < grid.height() {
-            samples[channel] = grid.get(x, y).to_i32();
+/// A row of up to four channels; empty rows in place of others.
+#[derive(Clone, Copy)]
+pub(crate) struct PixelRow<'a, S> {
+    first: &'a [S],
+    second: &'a [S],
+    third: &'a [S],
+    fourth: &'a [S],
+}
+
+/// A row of a channel; an empty one, if there is none.
+fn row_of<'a, S: Sample>(grids: &'a [AlignedGrid<S>], channel: usize, y: usize) -> &'a [S] {
+    match grids.get(channel) {
+        Some(grid) if y < grid.height() => grid.get_row(y),
+        _ => &[],
+    }
+}
+
+/// The sample in column `x` of a row; 0, if there is none.
+fn sample_at<S: Sample>(row: &[S], x: usize) -> i32 {
+    match row.get(x) {
+        Some(sample) => sample.to_i32(),
+        None => 0,
+    }
+}
+
+impl<'a, S: Sample> PixelRow<'a, S> {
+    /// Row `y` of the first channels.
+    pub(crate) fn of(grids: &'a [AlignedGrid<S>], y: usize) -> PixelRow<'a, S> {
+        PixelRow {
+            first: row_of(grids, 0, y),
+            second: row_of(grids, 1, y),
+            third: row_of(grids, 2, y),
+            fourth: row_of(grids, 3, y),
         }
     }
-    Colour { samples }
+
+    /// The colour of the pixel in column `x`.
+    pub(crate) fn colour(self, x: usize) -> Colour {
+        Colour {
+            samples: [
+                sample_at(self.first, x),
+                sample_at(self.second, x),
+                sample_at(self.third, x),
+                sample_at(self.fourth, x),
+            ],
+        }
+    }
 }
 
 /// Colours, each with a number.
@@ -172,9 +209,10 @@ impl Colours {
         width: usize,
         most: usize,
     ) -> Result<bool, OutOfMemory> {
+        let row = PixelRow::of(grids, y);
         let mut last = None;
         for x in 0..width {
-            let colour = colour_at(grids, x, y);
+            let colour = row.colour(x);
             if last == Some(colour) {
                 continue;
             }

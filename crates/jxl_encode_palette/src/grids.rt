@@ -2,7 +2,7 @@
 
 ghost use Rattle.std.specs.Prelude.{◌≡◌, IfOk, length};
 
-use crate::colours::{Colours, colour_at};
+use crate::colours::{Colours, PixelRow};
 use jxlm_base::grid::{AlignedGrid, OutOfMemory};
 use jxlm_base::sample::Sample;
 use std::alloc::Global;
@@ -35,10 +35,11 @@ pub(crate) fn table_of<S: Sample>(
 fn fill_index_row<S: Sample>(grids: &[AlignedGrid<S>], colours: &Colours, y: usize, row: &mut [S])
     ensures { length row.new ≡ length row.old }
 {
-    let mut last = colour_at(grids, 0, y);
+    let pixels = PixelRow::of(grids, y);
+    let mut last = pixels.colour(0);
     let mut number = colours.number(last);
     for x in 0..row.len() {
-        let colour = colour_at(grids, x, y);
+        let colour = pixels.colour(x);
         if colour != last {
             number = colours.number(colour);
             last = colour;

@@ -83,6 +83,42 @@ fn palette_by<S: Sample>(
     })
 }
 
+/// A table of colours and a channel of indices.
+#[derive(Drop)]
+pub struct TableGrids<S> {
+    /// A column for each colour, a row for each channel.
+    pub table: AlignedGrid<S>,
+    /// For each pixel the number of its colour.
+    pub index: AlignedGrid<S>,
+}
+
+/// The table and the indices of one to four channels of one size; none, if they have no samples, or more than `most` colours,
+/// or are not of one size. What they are is a heuristic: [`palette_of`] looks whether they are those of the channels.
+///
+/// # Errors
+///
+/// `OutOfMemory`, and no other. It takes a cell of memory for each pixel, and some tens of bytes for each of `most` colours.
+pub fn tables_of<S: Sample>(
+    alloc: Global,
+    grids: &[AlignedGrid<S>],
+    order: ColourOrder,
+    most: usize,
+) -> Result<Option<TableGrids<S>>, OutOfMemory> {
+    let Some(first) = grids.get(0) else {
+        return Ok(None);
+    };
+    let (width, height) = (first.width(), first.height());
+    if grids.len() > MAX_CHANNELS || !have_sides(grids, width, height) {
+        return Ok(None);
+    }
+    let Some(colours) = colours_of(alloc, grids, width, height, order, most)? else {
+        return Ok(None);
+    };
+    let table = table_of(alloc, &colours, grids.len())?;
+    let index = index_of(alloc, grids, &colours, width, height)?;
+    Ok(Some(TableGrids { table, index }))
+}
+
 /// The palette of one to four channels of one size, the first of which is channel `begin_c` of the image. None, if they
 /// have no samples, or more than `most` colours, or are not of one size. Whether a palette is found is a heuristic, and so
 /// is the order of its colours, which `order` asks for; one that is found has the channels as its only image.
@@ -100,17 +136,8 @@ pub fn palette_of<S: Sample>(
     ensures { IfOk result (λ o. IfSome o (λ p. IsPaletteFor S.to_int S.width begin_c grids.now p.palette p.table
         p.index)) }
 {
-    let Some(first) = grids.get(0) else {
+    let Some(found) = tables_of(alloc, grids, order, most)? else {
         return Ok(None);
     };
-    let (width, height) = (first.width(), first.height());
-    if grids.len() > MAX_CHANNELS || !have_sides(grids, width, height) {
-        return Ok(None);
-    }
-    let Some(colours) = colours_of(alloc, grids, width, height, order, most)? else {
-        return Ok(None);
-    };
-    let table = table_of(alloc, &colours, grids.len())?;
-    let index = index_of(alloc, grids, &colours, width, height)?;
-    Ok(palette_by(grids, begin_c, table, index))
+    Ok(palette_by(grids, begin_c, found.table, found.index))
 }

@@ -2,15 +2,14 @@
 //! have.
 
 use crate::kept::hash_of;
-use crate::rows::{Rows, SIDE, Taker, sample_at, take_all};
+use crate::near::{NearRows, SIDE};
 use crate::samples::Samples;
-use jxl_encode_advice::residuals::{Care, samples_in};
-use jxl_encode_advice::rows::Source;
+use crate::source::{Source, is_taken, samples_in};
+use crate::walk::{Surroundings, Walk};
 use jxl_encode_learn::axis::Axis;
 use jxl_encode_learn::costs::Prices;
 use jxl_encode_learn::scheme::{Bounds, Scheme, scheme_within};
 use jxl_encode_learn::symbols::symbol_of;
-use jxl_encode_walk::walk::{Surroundings, Walk};
 use jxlm_base::grid::{AlignedGrid, OutOfMemory};
 use jxlm_predictor::predictor::Predictor;
 use std::alloc::Global;
@@ -74,6 +73,15 @@ const FEW_BITS: u32 = 2;
 /// The same if all of its channels have the weighted predictor: then they take most time.
 const WEIGHTED_STEP: u64 = 1700;
 
+/// The most clusters of leaves.
+const CLUSTERS: usize = 64;
+
+/// Rows are taken in bands of this many.
+const BAND: usize = 8;
+
+/// How many rows above a band are walked, so that the errors of the weighted predictor are as if all rows were.
+const BEFORE: usize = 2;
+
 /// About how many values of a property its cuts are chosen by.
 const LOOKED: usize = 1 << 15;
 
@@ -102,16 +110,23 @@ fn predictors_of(weighted: usize) -> &'static [Predictor] {
     }
 }
 
-/// The row in its group.
-fn row_of(rows: &Rows<'_>) -> i32 {
-    (rows.y % SIDE) as i32
+/// Walks at the first samples of the groups in a row of this width.
+fn walks_of(alloc: Global, width: usize, weighted: bool) -> Result<Vec<Walk>, OutOfMemory> {
+    let mut walks = Vec::new(alloc);
+    for group in 0..width.div_ceil(SIDE) {
+        let rest = width.saturating_sub(group.saturating_mul(SIDE)).min(SIDE);
+        if let Some(walk) = Walk::new(alloc, rest as u32, weighted)? {
+            walks.push(walk)?;
+        }
+    }
+    Ok(walks)
 }
 
-/// A property of the sample in a column.
-fn property_of(rows: &Rows<'_>, x: usize, own: &[i32; 16], property: u32) -> i32 {
+/// A property of the sample in a column, of which properties 0 to 15 are these, but for the channel and the row.
+fn property_of(rows: &NearRows, x: usize, own: &[i32; 16], property: u32) -> i32 {
     match property {
         0 => rows.channel.min(255) as i32,
-        2 => row_of(rows),
+        2 => rows.row(),
         16 => rows.sample_before(x).saturating_abs(),
         17 => rows.sample_before(x),
         19 => rows.residual_before(x),
@@ -121,11 +136,11 @@ fn property_of(rows: &Rows<'_>, x: usize, own: &[i32; 16], property: u32) -> i32
 
 /// The key of the sample in a column: samples of the same key have the same properties, but for the column, and the same
 /// residuals.
-fn key_of(rows: &Rows<'_>, x: usize, around: &Surroundings, sample: i32) -> u64 {
+fn key_of(rows: &NearRows, x: usize, around: &Surroundings, sample: i32) -> u64 {
     let own = &around.own;
     hash_of(&[
         rows.channel.min(255) as i32,
-        row_of(rows),
+        rows.row(),
         own[6],
         own[7],
         own[8],
@@ -142,26 +157,6 @@ fn key_of(rows: &Rows<'_>, x: usize, around: &Surroundings, sample: i32) -> u64 
         around.predicted[13],
         sample,
     ])
-}
-
-impl Taker for ByAll {
-    fn is_weighted(&self, channel: usize) -> bool {
-        channel < self.weighted
-    }
-
-    fn step(
-        &mut self,
-        walk: &mut Walk,
-        rows: &Rows<'_>,
-        x: usize,
-        taken: bool,
-    ) -> Result<(), OutOfMemory> {
-        let sample = sample_at(&rows.here, x);
-        match walk.step(sample) {
-            Some(around) if taken => self.take(rows, x, around, sample),
-            _ => Ok(()),
-        }
-    }
 }
 
 impl ByAll {
@@ -181,15 +176,19 @@ impl ByAll {
         })
     }
 
-    /// Takes a sample.
+    /// Takes the sample in a column.
     fn take(
         &mut self,
-        rows: &Rows<'_>,
+        rows: &NearRows,
         x: usize,
         around: Surroundings,
         sample: i32,
     ) -> Result<(), OutOfMemory> {
-        if self.samples.count(key_of(rows, x, &around, sample))? {
+        if self
+            .samples
+            .weights
+            .count(key_of(rows, x, &around, sample))?
+        {
             return Ok(());
         }
         for values in self.values.iter_mut() {
@@ -207,10 +206,71 @@ impl ByAll {
         }
     }
 
+    /// Walks over a row, the samples of which are taken if `taken` says so.
+    fn walk_row(
+        &mut self,
+        rows: &NearRows,
+        walks: &mut [Walk],
+        taken: bool,
+    ) -> Result<(), OutOfMemory> {
+        for x in 0..rows.here.len() {
+            let sample = rows.here[x];
+            let around = match walks.get_mut(x / SIDE) {
+                Some(walk) => walk.step(sample),
+                None => None,
+            };
+            match around {
+                Some(around) if taken => self.take(rows, x, around, sample)?,
+                _ => {}
+            }
+        }
+        Ok(())
+    }
+
+    /// Takes the samples of a channel, in one band of `step`.
+    fn take_channel(
+        &mut self,
+        alloc: Global,
+        rows: &mut NearRows,
+        source: Source<'_>,
+        channel: usize,
+        step: usize,
+    ) -> Result<(), OutOfMemory> {
+        let mut walks = Vec::new(alloc);
+        let mut anew = true;
+        for y in 0..source.height(channel) {
+            let taken = is_taken(y / BAND, step);
+            let walked = taken || is_taken(y.saturating_add(BEFORE) / BAND, step);
+            if walked {
+                rows.go(source, channel, y)?;
+                if anew || rows.depth == 0 {
+                    walks = walks_of(alloc, rows.here.len(), channel < self.weighted)?;
+                }
+                self.walk_row(rows, &mut walks, taken)?;
+            }
+            anew = !walked;
+        }
+        Ok(())
+    }
+
+    /// Takes samples of all channels, in one band of `step`.
+    fn take_all(
+        &mut self,
+        alloc: Global,
+        source: Source<'_>,
+        step: usize,
+    ) -> Result<(), OutOfMemory> {
+        let mut rows = NearRows::new(alloc);
+        for channel in 0..source.channels.len() {
+            self.take_channel(alloc, &mut rows, source, channel, step)?;
+        }
+        Ok(())
+    }
+
     /// Puts the samples on the axes of their properties, which have cuts by their values. Where many samples are counted
     /// together, their columns are not known.
     fn place(&mut self, alloc: Global) -> Result<(), OutOfMemory> {
-        let alike = self.samples.are_alike();
+        let alike = self.samples.weights.are_alike();
         for values in self.values.iter_mut() {
             if !alike || values.property != COLUMN {
                 let axis = Axis {
@@ -283,7 +343,7 @@ fn weighted_of(channels: usize, weighted: bool, apart: bool) -> usize {
 
 /// The price of a decision for each sample of a picture of this many in some channels, if all of them have the weighted
 /// predictor or not.
-fn step_of(samples: usize, channels: usize, bits: u32, all_weighted: bool) -> u64 {
+fn price_of_step(samples: usize, channels: usize, bits: u32, all_weighted: bool) -> u64 {
     if samples <= SMALL {
         SMALL_STEP
     } else if all_weighted && bits > FEW_BITS {
@@ -295,7 +355,7 @@ fn step_of(samples: usize, channels: usize, bits: u32, all_weighted: bool) -> u6
     }
 }
 
-/// The scheme that is learnt from a part of the samples of the channels, the first three of which are coded by a colour
+/// The scheme that is learnt from about this number of samples of the channels, the first three of which are coded by a colour
 /// transform of this kind, if there is one; with the weighted predictor and its errors if `weighted` says so. In a picture of
 /// three channels or more that is not small they are for the first channel alone: others have little use for them, and are
 /// decoded in less time.
@@ -304,14 +364,14 @@ pub fn scheme_by_all(
     channels: &[AlignedGrid<i32>],
     colour: Option<u32>,
     bits: u32,
-    care: Care,
+    samples: usize,
     weighted: bool,
 ) -> Result<Scheme, OutOfMemory> {
-    let samples = samples_in(channels);
-    let step = samples.div_ceil(care.samples.max(1)).max(1);
-    let apart = weighted && samples > SMALL && channels.len() > 2;
+    let all = samples_in(channels);
+    let step = all.div_ceil(samples.max(1)).max(1);
+    let apart = weighted && all > SMALL && channels.len() > 2;
     let mut taker = ByAll::new(alloc, weighted_of(channels.len(), weighted, apart))?;
-    take_all(alloc, Source { channels, colour }, &mut taker, step)?;
+    taker.take_all(alloc, Source { channels, colour }, step)?;
     taker.place(alloc)?;
     let prices = Prices {
         scale: step as u64,
@@ -323,9 +383,9 @@ pub fn scheme_by_all(
     let bounds = Bounds {
         nodes: MAX_NODES,
         predictors: TRIED,
-        step: step_of(samples, channels.len(), bits, weighted && !apart),
+        step: price_of_step(all, channels.len(), bits, weighted && !apart),
         apart,
         rounds: ROUNDS,
     };
-    scheme_within(alloc, &taker.samples, prices, bounds, care.clusters)
+    scheme_within(alloc, &taker.samples, prices, bounds, CLUSTERS)
 }

@@ -52,6 +52,8 @@ pub(crate) struct Weights {
     keys: Vec<Key>,
     // How many samples there are.
     samples: usize,
+    // The number of the sample that the last one is like.
+    last: usize,
     /// How many samples each stands for.
     pub(crate) list: Vec<u32>,
 }
@@ -62,6 +64,7 @@ impl Weights {
         Ok(Weights {
             keys: vec![in alloc; Key { hash: 0, next: 0 }; KEPT]?,
             samples: 0,
+            last: 0,
             list: Vec::new(alloc),
         })
     }
@@ -69,6 +72,19 @@ impl Weights {
     /// Whether more than a quarter of the samples is counted with others.
     pub(crate) fn are_alike(&self) -> bool {
         self.list.len() < self.samples.saturating_sub(self.samples / 4)
+    }
+
+    /// Whether more than two thirds of the samples are counted with others.
+    pub(crate) fn are_mostly_alike(&self) -> bool {
+        self.list.len() < self.samples / 3
+    }
+
+    /// Counts a sample with the one that is before it.
+    pub(crate) fn count_again(&mut self) {
+        self.samples = self.samples.saturating_add(1);
+        if let Some(weight) = self.list.get_mut(self.last) {
+            *weight = u32::saturating_add(*weight, 1);
+        }
     }
 
     /// Counts a sample of this key with one that is like it. Returns false if none is kept: then the sample is new.
@@ -79,10 +95,12 @@ impl Weights {
             if key.hash == hash && key.next > 0 {
                 if let Some(weight) = self.list.get_mut(key.next - 1) {
                     *weight = u32::saturating_add(*weight, 1);
+                    self.last = key.next - 1;
                     return Ok(true);
                 }
             }
         }
+        self.last = self.list.len();
         self.list.push(1)?;
         let next = self.list.len();
         if let Some(key) = self.keys.get_mut(at) {

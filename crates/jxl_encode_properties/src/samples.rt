@@ -17,8 +17,8 @@ pub(crate) struct Samples {
     places: Vec<Vec<u8>>,
     // For each predictor the symbols of all samples.
     symbols: Vec<Vec<u8>>,
-    // How many samples each stands for.
-    weights: Weights,
+    /// How many samples each stands for.
+    pub(crate) weights: Weights,
 }
 
 /// Adds one number to each of the first lists.
@@ -83,16 +83,6 @@ impl Samples {
         }
         add_each(&mut self.places, places)?;
         add_each(&mut self.symbols, symbols)
-    }
-
-    /// Counts a sample of this key with one that is like it. Returns false if none is kept: then its symbols are to be added.
-    pub(crate) fn count(&mut self, hash: u64) -> Result<bool, OutOfMemory> {
-        self.weights.count(hash)
-    }
-
-    /// Whether more than a quarter of the samples is counted with others.
-    pub(crate) fn are_alike(&self) -> bool {
-        self.weights.are_alike()
     }
 
     /// Adds the symbols of a sample by what the predictors make of it.

@@ -1,16 +1,16 @@
 //! How a picture is coded: a choice that no sample depends on.
 
-use crate::best::{add_best_ways_of, add_broad_way, best_ways, is_small, usual_of};
+use crate::best::{
+    add_best_ways_of, add_broad_way, best_order, best_ways, cheapest_of, is_small, likeliest_colour,
+};
 use crate::effort::Effort;
 use crate::palettes::add_palette_ways;
-use crate::ranks::{Ranks, add_rank_ways};
-use jxl_encode_advice::residuals::{Care, scheme_by_residuals};
-use jxl_encode_advice::values::scheme_by_values;
+use crate::ranks::{Ranks, add_rank_ways, ranks_of};
 use jxl_encode_image::transform::PalettePlan;
-use jxl_encode_learn::axis::Axis;
 use jxl_encode_learn::scheme::Scheme;
 use jxl_encode_properties::broad::scheme_by_all;
-use jxl_encode_properties::neighbours::scheme_by_neighbours;
+use jxl_encode_properties::neighbours::{Care, are_alike, scheme_by_neighbours};
+use jxl_encode_properties::values::scheme_by_values;
 use jxl_image_header::channel::BitDepth;
 use jxl_image_header::size::Size;
 use jxl_picture::picture::{Picture, is_grey};
@@ -41,6 +41,8 @@ pub struct Advice {
 pub(crate) struct Samples<'a> {
     pub(crate) channels: &'a [AlignedGrid<i32>],
     pub(crate) depth: BitDepth,
+    /// Whether most samples of the picture are alike, so that trees are learnt from more of them.
+    pub(crate) alike: bool,
 }
 
 /// How ways are learnt.
@@ -71,11 +73,12 @@ pub(crate) struct Way {
 }
 
 impl<'a> Samples<'a> {
-    /// Those of a picture.
-    pub(crate) fn of(picture: &'a Picture) -> Samples<'a> {
+    /// Those of a picture, of which most are alike if `alike` says so.
+    pub(crate) fn of(picture: &'a Picture, alike: bool) -> Samples<'a> {
         Samples {
             channels: &picture.channels,
             depth: picture.header.bit_depth,
+            alike,
         }
     }
 }
@@ -113,20 +116,8 @@ impl Advice {
     }
 }
 
-/// The cuts between differences of two neighbours of eight bits.
-const NEAR_CUTS: [i32; 6] = [-40, -12, -3, 2, 11, 39];
-
-/// The cuts between differences of two neighbours of few colours.
-const SHADE_CUTS: [i32; 8] = [-40, -12, -3, -1, 0, 2, 11, 39];
-
-/// The cuts between the colours of a picture, by the number of their channel.
-const CHANNEL_CUTS: [i32; 3] = [0, 1, 2];
-
 /// The property that is the number of the channel.
 pub(crate) const CHANNEL: u32 = 0;
-
-/// The properties that are the slopes from above left to the left and above, and from above right to above.
-const SLOPES: [u32; 3] = [10, 11, 12];
 
 /// The kind of colour transform that is luma and two differences.
 const LUMA: u32 = 6;
@@ -140,67 +131,24 @@ pub(crate) const GROUP_DIM: u32 = 256;
 /// What the header of a group takes, nearly, in bits times 65,536.
 const GROUP_COST: u64 = 128 * 65536;
 
+/// About how many samples of each channel are looked at with the least effort, and to see whether they are alike.
+const FEW_PIXELS: usize = 1 << 11;
+
+/// The price of a decision at the usual effort, where most samples are alike, in bits divided by 65,536.
+const ALIKE_STEP: u64 = 195;
+
+/// About how many samples of each channel are looked at before a colour transform is chosen.
+const LOOKED: usize = 1 << 12;
+
+/// How many samples are taken at the greatest effort to learn a tree by all properties and predictors.
+pub(crate) const ALL_SAMPLES: usize = 1 << 20;
+
 /// How many samples are taken to see what the weighted predictor saves.
 const TRIED_SAMPLES: usize = 1 << 15;
 
 /// The share of the cost that the weighted predictor has to save where samples of one channel repeat: decoding takes long with
 /// it.
 const WEIGHTS_GAIN: u64 = 9;
-
-/// How much larger the cuts between slopes are at most: deep samples are often as smooth as others.
-const MAX_SLOPE_SCALE: i32 = 8;
-
-/// The cuts, of samples that are larger by this factor.
-fn scaled(alloc: Global, cuts: &[i32], scale: i32) -> Result<Vec<i32>, OutOfMemory> {
-    let mut list = Vec::new(alloc);
-    for cut in cuts {
-        list.push(cut.saturating_mul(scale))?;
-    }
-    Ok(list)
-}
-
-/// How much larger samples are than those of eight bits.
-fn scale_of(depth: BitDepth) -> i32 {
-    1i32.wrapping_shl(depth.bits_per_sample.min(16).saturating_sub(8))
-}
-
-/// The same property with its cuts.
-fn scaled_axis(
-    alloc: Global,
-    property: u32,
-    cuts: &[i32],
-    scale: i32,
-) -> Result<Axis, OutOfMemory> {
-    Ok(Axis {
-        property,
-        cuts: scaled(alloc, cuts, scale)?,
-    })
-}
-
-/// The channel, and this number of slopes.
-pub(crate) fn slope_axes(
-    alloc: Global,
-    depth: BitDepth,
-    slopes: usize,
-) -> Result<Vec<Axis>, OutOfMemory> {
-    let mut axes = Vec::new(alloc);
-    axes.push(Axis::new(alloc, CHANNEL, &CHANNEL_CUTS)?)?;
-    let scale = scale_of(depth).min(MAX_SLOPE_SCALE);
-    for slope in SLOPES.iter().take(slopes) {
-        let axis = scaled_axis(alloc, *slope, &NEAR_CUTS, scale)?;
-        axes.push(axis)?;
-    }
-    Ok(axes)
-}
-
-/// Slopes, flat ones apart.
-pub(crate) fn shade_axes(alloc: Global) -> Result<Vec<Axis>, OutOfMemory> {
-    let mut axes = Vec::new(alloc);
-    for slope in &[10, 11, 12] {
-        axes.push(Axis::new(alloc, *slope, &SHADE_CUTS)?)?;
-    }
-    Ok(axes)
-}
 
 /// The cheaper of two ways, the first of which may be absent.
 fn cheaper(best: Option<Way>, other: Way) -> Option<Way> {
@@ -210,78 +158,72 @@ fn cheaper(best: Option<Way>, other: Way) -> Option<Way> {
     }
 }
 
-/// By how many slopes samples are told apart, and how much is tried.
-pub(crate) fn care_of(effort: Effort) -> (usize, Care) {
+/// How much is tried at an effort of a picture of which most samples are alike, if `alike` says so.
+pub(crate) fn care_of(effort: Effort, alike: bool) -> Care {
     match effort {
-        Effort::Fast => (
-            2,
-            Care {
-                samples: 1 << 16,
-                clusters: 8,
-            },
-        ),
-        Effort::Usual => (
-            2,
-            Care {
-                samples: 1 << 18,
-                clusters: 16,
-            },
-        ),
-        Effort::Best => (
-            3,
-            Care {
-                samples: 1 << 20,
-                clusters: 64,
-            },
-        ),
+        Effort::Fast => Care {
+            pixels: if alike { 1 << 15 } else { FEW_PIXELS },
+            slopes: 2,
+            clusters: 5,
+            step: 0,
+            rounds: 0,
+        },
+        Effort::Usual => Care {
+            pixels: if alike { 1 << 16 } else { 1 << 15 },
+            slopes: 6,
+            clusters: if alike { 16 } else { 32 },
+            step: if alike { ALIKE_STEP } else { 0 },
+            rounds: 2,
+        },
+        Effort::Best => Care {
+            pixels: 1 << 19,
+            slopes: 6,
+            clusters: 64,
+            step: 0,
+            rounds: 2,
+        },
     }
 }
 
-/// The cheapest way to code a picture by slopes and one of these colour transforms; none, if there is none of them.
-pub(crate) fn by_slopes(
+/// The scheme that is learnt from some of a picture's samples after this colour transform or without one.
+pub(crate) fn scheme_on(
+    alloc: Global,
+    picture: Samples<'_>,
+    colour: Option<u32>,
+    care: Care,
+) -> Result<Scheme, OutOfMemory> {
+    let shift = picture.depth.bits_per_sample.saturating_sub(8);
+    scheme_by_neighbours(alloc, picture.channels, colour, shift, care)
+}
+
+/// The cheapest way to code a picture by a tree that is learnt from some of its samples, as at an effort, after one of these
+/// colour transforms; none, if there is none of them.
+pub(crate) fn by_neighbours(
     alloc: Global,
     picture: Samples<'_>,
     effort: Effort,
     colours: &[Option<u32>],
 ) -> Result<Option<Way>, OutOfMemory> {
-    let (slopes, care) = care_of(effort);
+    let care = care_of(effort, picture.alike);
     let mut best = None;
     for colour in colours {
-        let axes = slope_axes(alloc, picture.depth, slopes)?;
-        let scheme = scheme_by_residuals(alloc, picture.channels, *colour, axes, care)?;
+        let scheme = scheme_on(alloc, picture, *colour, care)?;
         best = cheaper(best, Way::new(scheme, *colour));
     }
     Ok(best)
 }
 
-/// The cheapest way to code a picture by a tree that is learnt from its samples one by one, on neighbours alone, and one of
-/// these colour transforms; none, if there is none of them.
-fn by_samples(
-    alloc: Global,
-    picture: Samples<'_>,
-    colours: &[Option<u32>],
-) -> Result<Option<Way>, OutOfMemory> {
-    let shift = picture.depth.bits_per_sample.saturating_sub(8);
-    let care = care_of(Effort::Usual).1;
-    let mut best = None;
-    for colour in colours {
-        let scheme = scheme_by_neighbours(alloc, picture.channels, *colour, shift, care)?;
-        best = cheaper(best, Way::new(scheme, *colour));
-    }
-    Ok(best)
-}
-
-/// The way to code a picture by all properties and predictors, after this colour transform or without one; with the weighted
-/// predictor and its errors if `weighted` says so.
+/// The way to code a picture by all properties and predictors, after this colour transform or without one, learnt from about
+/// this number of samples; with the weighted predictor and its errors if `weighted` says so.
 pub(crate) fn by_all(
     alloc: Global,
     picture: Samples<'_>,
-    care: Care,
+    samples: usize,
     colour: Option<u32>,
     weighted: bool,
 ) -> Result<Way, OutOfMemory> {
     let bits = picture.depth.bits_per_sample;
-    let scheme = scheme_by_all(alloc, picture.channels, colour, bits, care, weighted)?;
+    let scheme = scheme_by_all(alloc, picture.channels, colour, bits, samples, weighted)?;
     Ok(Way {
         scheme,
         colour,
@@ -296,22 +238,13 @@ pub(crate) fn saves_by_weights(
     picture: Samples<'_>,
     colour: Option<u32>,
 ) -> Result<bool, OutOfMemory> {
-    let care = Care {
-        samples: TRIED_SAMPLES,
-        clusters: 64,
-    };
-    let with = by_all(alloc, picture, care, colour, true)?.scheme.cost;
-    let without = by_all(alloc, picture, care, colour, false)?.scheme.cost;
+    let with = by_all(alloc, picture, TRIED_SAMPLES, colour, true)?
+        .scheme
+        .cost;
+    let without = by_all(alloc, picture, TRIED_SAMPLES, colour, false)?
+        .scheme
+        .cost;
     Ok(with < without.saturating_sub(without / WEIGHTS_GAIN))
-}
-
-/// The colour transforms that are tried with trees learnt from samples one by one, where these are with slopes.
-fn colours_by_samples(effort: Effort, colours: &[Option<u32>]) -> &'static [Option<u32>] {
-    match effort {
-        Effort::Fast => &[],
-        _ if colours.len() > 1 => &[Some(LUMA)],
-        _ => &[None],
-    }
 }
 
 /// Adds an advice, unless a picture is coded alike by one of them.
@@ -343,19 +276,22 @@ pub(crate) fn add_way(
     add_advice(list, advice)
 }
 
-/// The cheaper of this way and that by the values of the picture, if they are few.
-fn or_by_values(
+/// Adds the way by the values of the samples as at an effort, if they are few.
+fn add_way_by_values(
     alloc: Global,
+    list: &mut Vec<Advice>,
     picture: Samples<'_>,
-    best: Option<Way>,
-) -> Result<Option<Way>, OutOfMemory> {
-    match scheme_by_values(alloc, picture.channels)? {
-        Some(scheme) => Ok(cheaper(best, Way::new(scheme, None))),
-        None => Ok(best),
+    effort: Effort,
+) -> Result<(), OutOfMemory> {
+    let pixels = care_of(effort, picture.alike).pixels;
+    match scheme_by_values(alloc, picture.channels, pixels)? {
+        Some(scheme) => add_way(alloc, list, Some(Way::new(scheme, None))),
+        None => Ok(()),
     }
 }
 
-/// Adds the ways that are learnt so: at an effort the cheapest by values or slopes, and that by samples one by one.
+/// Adds the ways that are learnt so: at an effort by values, and by neighbours after the likeliest of these colour transforms. By
+/// few samples the tree is learnt with each of these, as a look takes no less time.
 pub(crate) fn add_ways_of(
     alloc: Global,
     list: &mut Vec<Advice>,
@@ -368,13 +304,13 @@ pub(crate) fn add_ways_of(
         Learning::At(effort) => effort,
         Learning::Broad => return add_broad_way(alloc, list, picture, colours),
     };
-    let best = by_slopes(alloc, picture, effort, colours)?;
-    add_way(alloc, list, or_by_values(alloc, picture, best)?)?;
-    if picture.depth.exp_bits != 0 {
-        return Ok(());
-    }
-    let tried = colours_by_samples(effort, colours);
-    let way = by_samples(alloc, picture, tried)?;
+    add_way_by_values(alloc, list, picture, effort)?;
+    let way = if matches!(effort, Effort::Fast) && !picture.alike {
+        by_neighbours(alloc, picture, effort, colours)?
+    } else {
+        let colour = likeliest_colour(alloc, picture, colours, LOOKED)?;
+        by_neighbours(alloc, picture, effort, &[colour])?
+    };
     add_way(alloc, list, way)
 }
 
@@ -420,47 +356,20 @@ fn least_cost(list: &[Advice]) -> u64 {
     least
 }
 
-/// Whether ways that cost more than others are left out: at the least effort there is one or few, and at the greatest those
-/// of other efforts are an estimate. Costs are without copies, so that they say little where samples repeat.
-fn are_compared(effort: Effort, repeats: bool) -> bool {
-    matches!(effort, Effort::Usual) && !repeats
-}
-
-/// The ways that cost little more than the cheapest: a twentieth.
-fn cheap_ways(alloc: Global, list: Vec<Advice>) -> Result<Vec<Advice>, OutOfMemory> {
-    let least = least_cost(&list);
-    let most = least.saturating_add(least / 20);
-    let mut kept = Vec::new(alloc);
-    for advice in list {
-        if advice.cost <= most {
-            kept.push(advice)?;
-        }
-    }
-    Ok(kept)
-}
-
-/// Adds the ways that are learnt as at an effort, without palettes and with them. With `compared` those with palettes that
-/// cost more than the cheapest without them are left out.
-fn add_ways_at(
+/// Adds the ways without a palette of all channels: by the ranks of values, if there are some, in place of the values. Most
+/// samples of the picture are alike if `alike` says so.
+pub(crate) fn add_other_ways(
     alloc: Global,
     list: &mut Vec<Advice>,
     picture: &Picture,
-    effort: Effort,
-    compared: bool,
+    alike: bool,
     ranks: &Option<Ranks>,
+    learning: Learning,
 ) -> Result<(), OutOfMemory> {
-    let learning = Learning::At(effort);
-    let colours = colours_of(picture, effort);
-    add_ways_of(alloc, list, Samples::of(picture), learning, colours)?;
-    let bound = if compared {
-        Some(least_cost(list))
-    } else {
-        None
-    };
-    add_palette_ways(alloc, list, picture, effort, bound)?;
+    let colours = colours_of(picture, learning.effort());
     match ranks {
-        Some(ranks) => add_rank_ways(alloc, list, picture, ranks, learning, bound),
-        None => Ok(()),
+        Some(ranks) => add_rank_ways(alloc, list, ranks, alike, learning, colours),
+        None => add_ways_of(alloc, list, Samples::of(picture, alike), learning, colours),
     }
 }
 
@@ -479,28 +388,50 @@ fn is_nearly_flat(list: &[Advice], picture: &Picture) -> bool {
     least_cost(list) / GROUP_COST <= across.saturating_mul(down)
 }
 
-/// Ways to code a picture, of which samples repeat if `repeats` says so, and whose values have these ranks, if they are few.
+/// The ranks of the values of a picture, if they are few, and none of these ways has a palette of all channels.
+fn other_ranks(
+    alloc: Global,
+    list: &[Advice],
+    picture: &Picture,
+) -> Result<Option<Ranks>, OutOfMemory> {
+    if best_order(list, picture).is_some() {
+        Ok(None)
+    } else {
+        ranks_of(alloc, picture)
+    }
+}
+
+/// Ways to code a picture, of which samples repeat if `repeats` says so: several of a small picture and of one that is nearly
+/// flat, and at lower efforts than the greatest else the cheapest, as far as costs say.
 pub fn advices_for(
     alloc: Global,
     picture: &Picture,
     effort: Effort,
     repeats: bool,
-    ranks: &Option<Ranks>,
 ) -> Result<Vec<Advice>, OutOfMemory> {
     let mut list = Vec::new(alloc);
-    let compared = are_compared(effort, repeats);
-    for tried in efforts_of(effort, repeats, is_small(picture)) {
-        add_ways_at(alloc, &mut list, picture, *tried, compared, ranks)?;
+    let small = is_small(picture);
+    let shift = picture.header.bit_depth.bits_per_sample.saturating_sub(8);
+    let alike = are_alike(alloc, &picture.channels, shift, FEW_PIXELS)?;
+    let efforts = efforts_of(effort, repeats, small);
+    for tried in efforts {
+        add_palette_ways(alloc, &mut list, picture, alike, *tried)?;
     }
-    if !matches!(effort, Effort::Fast) && is_nearly_flat(&list, picture) {
-        add_ways_at(alloc, &mut list, picture, Effort::Fast, false, ranks)?;
-        return Ok(list);
+    let ranks = other_ranks(alloc, &list, picture)?;
+    for tried in efforts {
+        let learning = Learning::At(*tried);
+        add_other_ways(alloc, &mut list, picture, alike, &ranks, learning)?;
+    }
+    let flat = is_nearly_flat(&list, picture);
+    if flat && !matches!(effort, Effort::Fast) {
+        let learning = Learning::At(Effort::Fast);
+        add_palette_ways(alloc, &mut list, picture, alike, Effort::Fast)?;
+        add_other_ways(alloc, &mut list, picture, alike, &ranks, learning)?;
     }
     match effort {
-        Effort::Fast => Ok(list),
-        Effort::Usual if compared => cheap_ways(alloc, list),
-        Effort::Usual if is_small(picture) => Ok(list),
-        Effort::Usual => usual_of(alloc, list, picture),
-        Effort::Best => best_ways(alloc, list, picture, repeats, ranks),
+        _ if flat => Ok(list),
+        Effort::Best => best_ways(alloc, list, picture, repeats, alike),
+        _ if small => Ok(list),
+        _ => cheapest_of(alloc, list, 1),
     }
 }

@@ -2,14 +2,15 @@
 //! only by the best of them trees are learnt with most care. They are heuristics: no sample depends on them.
 
 use crate::advice::{
-    Advice, CHANNEL, Learning, Samples, add_advice, add_way, add_ways_of, by_all, by_slopes,
-    care_of, colours_of, saves_by_weights, slope_axes,
+    ALL_SAMPLES, Advice, CHANNEL, Learning, Samples, add_advice, add_other_ways, add_way, by_all,
+    by_neighbours, care_of, colours_of, saves_by_weights, scheme_on,
 };
 use crate::effort::Effort;
 use crate::palettes::add_palette_ways_by;
-use crate::ranks::{Ranks, add_rank_ways};
-use jxl_encode_advice::residuals::{samples_in, scheme_by_residuals};
+use crate::ranks::ranks_of;
 use jxl_encode_palette::colours::ColourOrder;
+use jxl_encode_properties::neighbours::Care;
+use jxl_encode_properties::source::samples_in;
 use jxl_picture::picture::Picture;
 use jxlm_base::grid::OutOfMemory;
 use jxlm_encode_write::tree::EncodeNode;
@@ -18,6 +19,9 @@ use std::alloc::Global;
 
 /// How many colour transforms are tried with trees learnt from samples one by one.
 const COLOURS: usize = 2;
+
+/// About how many samples of each channel are looked at before colour transforms are chosen.
+const LOOKED: usize = 1 << 15;
 
 /// The most samples of a small picture.
 const SMALL: usize = 1 << 16;
@@ -41,8 +45,9 @@ const WAYS: usize = 4;
 /// The share by which ways without a palette of all channels may cost more than those by one, and are tried with most care.
 const MARGIN: u64 = 8;
 
-/// The most nodes of a tree that is used for a small picture of few colours without a palette of all channels.
-const FEW_NODES: usize = 7;
+/// The most nodes of a tree that is used for a small picture of few colours without a palette of all channels: such a picture
+/// is decoded in far less time by one leaf.
+const FEW_NODES: usize = 1;
 
 /// The predictors by one of which alone a small picture of few colours is tried.
 const PLAIN: [Predictor; 2] = [Predictor::Zero, Predictor::Gradient];
@@ -76,17 +81,20 @@ fn least_of(alloc: Global, numbers: &[u64], most: usize) -> Result<Vec<usize>, O
     Ok(places)
 }
 
-/// The colour transforms, if there are more than two, with which some of the samples cost least by slopes.
+/// The colour transforms, if there are more than two, with which about this number of the samples of each channel cost least.
 fn likely_colours(
     alloc: Global,
     samples: Samples<'_>,
     colours: &[Option<u32>],
+    pixels: usize,
 ) -> Result<Vec<Option<u32>>, OutOfMemory> {
-    let (slopes, care) = care_of(Effort::Usual);
+    let care = Care {
+        pixels,
+        ..care_of(Effort::Fast, true)
+    };
     let mut costs = Vec::new(alloc);
     for colour in colours {
-        let axes = slope_axes(alloc, samples.depth, slopes)?;
-        let scheme = scheme_by_residuals(alloc, samples.channels, *colour, axes, care)?;
+        let scheme = scheme_on(alloc, samples, *colour, care)?;
         costs.push(scheme.cost)?;
     }
     let mut likely = Vec::new(alloc);
@@ -96,6 +104,20 @@ fn likely_colours(
     Ok(likely)
 }
 
+/// The colour transform with which about this number of the samples of each channel cost least.
+pub(crate) fn likeliest_colour(
+    alloc: Global,
+    samples: Samples<'_>,
+    colours: &[Option<u32>],
+    pixels: usize,
+) -> Result<Option<u32>, OutOfMemory> {
+    if colours.len() < 2 {
+        return Ok(None);
+    }
+    let likely = likely_colours(alloc, samples, colours, pixels)?;
+    Ok(likely.first().copied().unwrap_or(None))
+}
+
 /// Adds the ways by all properties and predictors without the weighted one, after each of these colour transforms.
 fn add_unweighted_ways(
     alloc: Global,
@@ -103,16 +125,15 @@ fn add_unweighted_ways(
     samples: Samples<'_>,
     colours: &[Option<u32>],
 ) -> Result<(), OutOfMemory> {
-    let care = care_of(Effort::Best).1;
     for colour in colours {
-        let way = by_all(alloc, samples, care, *colour, false)?;
+        let way = by_all(alloc, samples, ALL_SAMPLES, *colour, false)?;
         add_way(alloc, list, Some(way))?;
     }
     Ok(())
 }
 
-/// Adds the ways of these samples at the greatest effort: the cheapest by slopes, and that by all properties and predictors.
-/// Those of few samples are without the weighted predictor.
+/// Adds the ways of these samples at the greatest effort: those by all properties and predictors; of floats the cheapest by
+/// neighbours. Those of few samples are without the weighted predictor.
 pub(crate) fn add_best_ways_of(
     alloc: Global,
     list: &mut Vec<Advice>,
@@ -120,17 +141,16 @@ pub(crate) fn add_best_ways_of(
     colours: &[Option<u32>],
 ) -> Result<(), OutOfMemory> {
     let effort = Effort::Best;
-    let likely = likely_colours(alloc, samples, colours)?;
-    let best = by_slopes(alloc, samples, effort, &likely)?;
-    add_way(alloc, list, best)?;
+    let likely = likely_colours(alloc, samples, colours, LOOKED)?;
     if samples.depth.exp_bits != 0 {
-        return Ok(());
+        let way = by_neighbours(alloc, samples, effort, &likely)?;
+        return add_way(alloc, list, way);
     }
     if samples_in(samples.channels) <= SMALL {
         return add_unweighted_ways(alloc, list, samples, &likely);
     }
     let colour = likely.first().copied().unwrap_or(None);
-    let broad = by_all(alloc, samples, care_of(effort).1, colour, true)?;
+    let broad = by_all(alloc, samples, ALL_SAMPLES, colour, true)?;
     add_way(alloc, list, Some(broad))
 }
 
@@ -142,18 +162,13 @@ pub(crate) fn add_broad_way(
     samples: Samples<'_>,
     colours: &[Option<u32>],
 ) -> Result<(), OutOfMemory> {
-    let colour = if colours.len() > 1 {
-        let likely = likely_colours(alloc, samples, colours)?;
-        likely.first().copied().unwrap_or(None)
-    } else {
-        None
-    };
+    let colour = likeliest_colour(alloc, samples, colours, LOOKED)?;
     let weighted = if samples.channels.len() == 1 {
         saves_by_weights(alloc, samples, colour)?
     } else {
         false
     };
-    let broad = by_all(alloc, samples, care_of(Effort::Best).1, colour, weighted)?;
+    let broad = by_all(alloc, samples, ALL_SAMPLES, colour, weighted)?;
     add_way(alloc, list, Some(broad))
 }
 
@@ -175,7 +190,7 @@ fn order_of(way: &Advice, picture: &Picture) -> Option<ColourOrder> {
 }
 
 /// The order of the cheapest palette of all channels of these ways, and what the way costs; none, if there is no such palette.
-fn best_order(ways: &[Advice], picture: &Picture) -> Option<(ColourOrder, u64)> {
+pub(crate) fn best_order(ways: &[Advice], picture: &Picture) -> Option<(ColourOrder, u64)> {
     let mut best: Option<(ColourOrder, u64)> = None;
     for way in ways {
         let cheaper = match best {
@@ -203,21 +218,6 @@ fn least_of_ways(ways: &[Advice], picture: &Picture, palette: bool, broad: bool)
     least
 }
 
-/// Adds the ways without a palette of all channels: by the ranks of values, if there are some.
-fn add_other_ways(
-    alloc: Global,
-    list: &mut Vec<Advice>,
-    picture: &Picture,
-    ranks: &Option<Ranks>,
-    learning: Learning,
-) -> Result<(), OutOfMemory> {
-    if let Some(ranks) = ranks {
-        return add_rank_ways(alloc, list, picture, ranks, learning, None);
-    }
-    let colours = colours_of(picture, Effort::Best);
-    add_ways_of(alloc, list, Samples::of(picture), learning, colours)
-}
-
 /// The ways at these places, and those by all properties and predictors.
 fn kept_at(alloc: Global, ways: Vec<Advice>, places: &[usize]) -> Result<Vec<Advice>, OutOfMemory> {
     let mut kept = Vec::new(alloc);
@@ -232,7 +232,11 @@ fn kept_at(alloc: Global, ways: Vec<Advice>, places: &[usize]) -> Result<Vec<Adv
 }
 
 /// The ways by all properties and predictors, and the cheapest of these ways, at most this many.
-fn cheapest_of(alloc: Global, ways: Vec<Advice>, most: usize) -> Result<Vec<Advice>, OutOfMemory> {
+pub(crate) fn cheapest_of(
+    alloc: Global,
+    ways: Vec<Advice>,
+    most: usize,
+) -> Result<Vec<Advice>, OutOfMemory> {
     let costs = costs_of(alloc, &ways)?;
     let places = least_of(alloc, &costs, most)?;
     kept_at(alloc, ways, &places)
@@ -305,41 +309,6 @@ fn copied_of(
     let places = cheapest_in_orders(alloc, &ways, picture)?;
     if places.is_empty() {
         return cheapest_of(alloc, ways, COPIED_WAYS);
-    }
-    kept_at(alloc, ways, &places)
-}
-
-/// The place of the cheapest of these ways, if it has no palette of all channels.
-fn cheapest_other(ways: &[Advice], picture: &Picture) -> Option<usize> {
-    let mut best: Option<usize> = None;
-    let mut least = u64::MAX;
-    for at in 0..ways.len() {
-        if ways[at].cost < least {
-            least = ways[at].cost;
-            best = Some(at);
-        }
-    }
-    let way = ways.get(best?)?;
-    if order_of(way, picture).is_some() {
-        None
-    } else {
-        best
-    }
-}
-
-/// The ways that are tried to the end at the usual effort where samples repeat: the cheapest in each order of a palette of all
-/// channels, and that without one, if it costs less; or the two cheapest, if there is no such palette.
-pub(crate) fn usual_of(
-    alloc: Global,
-    ways: Vec<Advice>,
-    picture: &Picture,
-) -> Result<Vec<Advice>, OutOfMemory> {
-    let mut places = cheapest_in_orders(alloc, &ways, picture)?;
-    if places.is_empty() {
-        return cheapest_of(alloc, ways, COPIED_WAYS);
-    }
-    if let Some(at) = cheapest_other(&ways, picture) {
-        places.push(at)?;
     }
     kept_at(alloc, ways, &places)
 }
@@ -445,14 +414,14 @@ pub(crate) fn best_ways(
     ways: Vec<Advice>,
     picture: &Picture,
     repeats: bool,
-    ranks: &Option<Ranks>,
+    alike: bool,
 ) -> Result<Vec<Advice>, OutOfMemory> {
     let mut ways = ways;
     let small = is_small(picture);
     if picture.channels.len() > 1 {
         let learning = Learning::At(Effort::Usual);
         let orders = &[ColourOrder::Sample];
-        add_palette_ways_by(alloc, &mut ways, picture, learning, orders, None)?;
+        add_palette_ways_by(alloc, &mut ways, picture, alike, learning, orders)?;
     }
     let learning = learning_of(picture, repeats);
     let broad = matches!(learning, Learning::Broad);
@@ -460,12 +429,13 @@ pub(crate) fn best_ways(
     let mut palette = u64::MAX;
     if let Some((order, cost)) = best_order(&ways, picture) {
         palette = cost;
-        add_palette_ways_by(alloc, &mut ways, picture, learning, &[order], None)?;
+        add_palette_ways_by(alloc, &mut ways, picture, alike, learning, &[order])?;
     }
     let clear = broad && is_clear(least_of_ways(&ways, picture, true, true), other);
     let few = small && palette < u64::MAX;
     if is_likely(other, palette) && !clear && !few {
-        add_other_ways(alloc, &mut ways, picture, ranks, learning)?;
+        let ranks = ranks_of(alloc, picture)?;
+        add_other_ways(alloc, &mut ways, picture, alike, &ranks, learning)?;
     }
     if broad {
         return copied_of(alloc, ways, picture);

@@ -8,4 +8,4 @@ pub mod effort;
 pub mod grids;
 mod joined;
 mod palettes;
-pub mod ranks;
+mod ranks;

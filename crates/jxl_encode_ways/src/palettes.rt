@@ -1,15 +1,15 @@
 //! Ways to code a picture of few colours by a palette. They are heuristics: no sample depends on them.
 
 use crate::advice::{
-    Advice, GROUP_DIM, Learning, Samples, add_advice, add_ways_of, care_of, shade_axes, slope_axes,
+    Advice, GROUP_DIM, Learning, Samples, add_advice, add_ways_of, care_of, scheme_on,
 };
 use crate::effort::Effort;
 use crate::joined::{CHANNEL, Levels, joined};
-use jxl_encode_advice::residuals::{Care, scheme_by_residuals};
 use jxl_encode_image::transform::PalettePlan;
 use jxl_encode_learn::scheme::Scheme;
 use jxl_encode_palette::colours::ColourOrder;
-use jxl_encode_palette::palette::{PaletteGrids, palette_of};
+use jxl_encode_palette::palette::{TableGrids, tables_of};
+use jxl_encode_properties::neighbours::Care;
 use jxl_image_header::channel::BitDepth;
 use jxl_picture::picture::Picture;
 use jxlm_base::grid::{AlignedGrid, OutOfMemory};
@@ -18,14 +18,17 @@ use std::alloc::Global;
 /// The most colours of a palette.
 pub(crate) const MOST_COLOURS: usize = 16384;
 
-/// The most channels of a palette.
-pub(crate) const MOST_CHANNELS: usize = 4;
-
 /// How many pixels a picture has at least for each colour of a palette.
 const PIXELS: usize = 8;
 
-/// About how many samples are looked at before ways by a palette are learnt.
-const LOOKED: usize = 1 << 15;
+/// By how many slopes the samples of tables are told apart.
+const TABLE_SLOPES: usize = 3;
+
+/// How the samples of tables are taken to be stored: they are steep even if they are deep.
+const BYTES: BitDepth = BitDepth {
+    bits_per_sample: 8,
+    exp_bits: 0,
+};
 
 /// The property that is the number of the stream, greater than 0 in sections of groups.
 const STREAM: u32 = 1;
@@ -103,27 +106,26 @@ pub(crate) struct Coded<'a> {
     pub(crate) samples: Samples<'a>,
 }
 
-/// Whether tables of this cost and samples cost more than the bound, if there is one, by a look at some of the samples.
-fn is_above(
+/// The scheme of the tables.
+fn scheme_of_tables(
     alloc: Global,
-    samples: Samples<'_>,
-    tables: u64,
-    bound: Option<u64>,
-) -> Result<bool, OutOfMemory> {
-    let Some(most) = bound else {
-        return Ok(false);
-    };
-    let (slopes, care) = care_of(Effort::Fast);
+    coded: Coded<'_>,
+    effort: Effort,
+) -> Result<Scheme, OutOfMemory> {
     let care = Care {
-        samples: LOOKED,
-        ..care
+        pixels: usize::MAX,
+        slopes: TABLE_SLOPES,
+        ..care_of(effort, true)
     };
-    let axes = slope_axes(alloc, samples.depth, slopes)?;
-    let scheme = scheme_by_residuals(alloc, samples.channels, None, axes, care)?;
-    Ok(scheme.cost.saturating_add(tables) > most)
+    let tables = Samples {
+        channels: coded.tables,
+        depth: BYTES,
+        alike: true,
+    };
+    scheme_on(alloc, tables, None, care)
 }
 
-/// Adds the ways by these palettes, and one of these colour transforms, if they do not cost more than the bound.
+/// Adds the ways by these palettes, and one of these colour transforms.
 pub(crate) fn add_ways_by(
     alloc: Global,
     list: &mut Vec<Advice>,
@@ -131,18 +133,13 @@ pub(crate) fn add_ways_by(
     palettes: &[PalettePlan],
     colours: &[Option<u32>],
     learning: Learning,
-    bound: Option<u64>,
 ) -> Result<(), OutOfMemory> {
     // The indices of a picture of several groups are in other sections than the table.
     let large = match coded.samples.channels.get(0) {
         Some(first) => first.width().max(first.height()) > GROUP_DIM as usize,
         None => false,
     };
-    let care = care_of(learning.effort()).1;
-    let scheme = scheme_by_residuals(alloc, coded.tables, None, shade_axes(alloc)?, care)?;
-    if is_above(alloc, coded.samples, scheme.cost, bound)? {
-        return Ok(());
-    }
+    let scheme = scheme_of_tables(alloc, coded, learning.effort())?;
     let mut ways = Vec::new(alloc);
     add_ways_of(alloc, &mut ways, coded.samples, learning, colours)?;
     for way in ways {
@@ -153,27 +150,27 @@ pub(crate) fn add_ways_by(
     Ok(())
 }
 
-/// Adds the ways by this palette of all channels, if they do not cost more than the bound.
-fn add_ways_of_all(
-    alloc: Global,
-    list: &mut Vec<Advice>,
-    coding: PaletteGrids<i32>,
+/// All channels of a picture by a palette.
+#[derive(Drop)]
+struct AllByPalette {
     plan: PalettePlan,
-    learning: Learning,
-    bound: Option<u64>,
-) -> Result<(), OutOfMemory> {
-    let PaletteGrids { table, index, .. } = coding;
-    let depth = depth_of(table.width());
-    let tables = list_of(alloc, table)?;
-    let indices = list_of(alloc, index)?;
-    let coded = Coded {
-        tables: &tables,
-        samples: Samples {
-            channels: &indices,
-            depth,
-        },
-    };
-    add_ways_by(alloc, list, coded, &[plan], &[None], learning, bound)
+    tables: Vec<AlignedGrid<i32>>,
+    indices: Vec<AlignedGrid<i32>>,
+    depth: BitDepth,
+}
+
+impl AllByPalette {
+    /// The tables and the indices, most of which are alike if `alike` says so.
+    fn coded(&self, alike: bool) -> Coded<'_> {
+        Coded {
+            tables: &self.tables,
+            samples: Samples {
+                channels: &self.indices,
+                depth: self.depth,
+                alike,
+            },
+        }
+    }
 }
 
 /// The orders of colours that are tried at an effort: at the greatest others are beside them. At the least those of two
@@ -216,50 +213,73 @@ fn most_colours(pixels: usize, effort: Effort) -> usize {
     most.min(pixels / PIXELS)
 }
 
-/// Adds the ways by a palette of all channels, if they are one to four of one size, their colours few, and the ways do not
-/// cost more than the bound.
-pub(crate) fn add_palette_ways(
+/// All channels by a palette in this order, if they are one to four of one size, and their colours few.
+fn all_by_palette(
     alloc: Global,
-    list: &mut Vec<Advice>,
     picture: &Picture,
+    order: ColourOrder,
     effort: Effort,
-    bound: Option<u64>,
-) -> Result<(), OutOfMemory> {
-    let orders = orders_of(effort, picture.channels.len());
-    let learning = Learning::At(effort);
-    add_palette_ways_by(alloc, list, picture, learning, orders, bound)
+) -> Result<Option<AllByPalette>, OutOfMemory> {
+    let channels = &picture.channels;
+    let pixels = match channels.get(0) {
+        Some(first) => first.buf().len(),
+        None => 0,
+    };
+    let most = most_colours(pixels, effort);
+    let Some(found) = tables_of(alloc, channels, order, most)? else {
+        return Ok(None);
+    };
+    let TableGrids { table, index } = found;
+    if !is_sparse(&table) {
+        return Ok(None);
+    }
+    let depth = depth_of(table.width());
+    Ok(Some(AllByPalette {
+        plan: PalettePlan {
+            first: 0,
+            count: channels.len(),
+            order,
+            most,
+        },
+        tables: list_of(alloc, table)?,
+        indices: list_of(alloc, index)?,
+        depth,
+    }))
 }
 
-/// The same in these orders of colours.
+/// Adds the ways by a palette of all channels in each of these orders.
 pub(crate) fn add_palette_ways_by(
     alloc: Global,
     list: &mut Vec<Advice>,
     picture: &Picture,
+    alike: bool,
     learning: Learning,
     orders: &[ColourOrder],
-    bound: Option<u64>,
 ) -> Result<(), OutOfMemory> {
-    let channels = &picture.channels;
-    let Some(first) = channels.get(0) else {
-        return Ok(());
-    };
-    if channels.len() > MOST_CHANNELS {
-        return Ok(());
-    }
-    let most = most_colours(first.buf().len(), learning.effort());
     for order in orders {
-        let plan = PalettePlan {
-            first: 0,
-            count: channels.len(),
-            order: *order,
-            most,
-        };
-        let Some(coding) = palette_of(alloc, channels, 0, *order, most)? else {
+        let Some(found) = all_by_palette(alloc, picture, *order, learning.effort())? else {
             return Ok(());
         };
-        if is_sparse(&coding.table) {
-            add_ways_of_all(alloc, list, coding, plan, learning, bound)?;
-        }
+        add_ways_by(
+            alloc,
+            list,
+            found.coded(alike),
+            &[found.plan],
+            &[None],
+            learning,
+        )?;
     }
     Ok(())
+}
+
+/// Adds the ways by palettes of all channels at an effort.
+pub(crate) fn add_palette_ways(
+    alloc: Global,
+    list: &mut Vec<Advice>,
+    picture: &Picture,
+    alike: bool,
+    effort: Effort,
+) -> Result<(), OutOfMemory> {
+    let orders = orders_of(effort, picture.channels.len());
+    add_palette_ways_by(alloc, list, picture, alike, Learning::At(effort), orders)
 }

@@ -1,13 +1,13 @@
 //! Ways to code a picture whose channels have few values, far apart: by a palette of each channel, the ranks of its values.
 //! They are heuristics: no sample depends on them.
 
-use crate::advice::{Advice, Learning, Samples, colours_of};
+use crate::advice::{Advice, Learning, Samples};
 use crate::grids::copies_of;
 use crate::palettes::{Coded, add_ways_by, are_far_apart, depth_of, is_sparse};
-use jxl_encode_advice::residuals::is_taken;
 use jxl_encode_image::transform::PalettePlan;
 use jxl_encode_palette::colours::ColourOrder;
-use jxl_encode_palette::palette::{PaletteGrids, palette_of};
+use jxl_encode_palette::palette::{TableGrids, tables_of};
+use jxl_encode_properties::source::is_taken;
 use jxl_picture::picture::{Picture, colours};
 use jxlm_base::grid::{AlignedGrid, OutOfMemory};
 use std::alloc::Global;
@@ -87,7 +87,7 @@ fn are_dense(alloc: Global, picture: &Picture) -> Result<bool, OutOfMemory> {
 
 /// The channels of colours of a picture by the ranks of their values, beside all others; the tables of the values.
 #[derive(Drop)]
-pub struct Ranks {
+pub(crate) struct Ranks {
     plans: Vec<PalettePlan>,
     tables: Vec<AlignedGrid<i32>>,
     channels: Vec<AlignedGrid<i32>>,
@@ -95,11 +95,12 @@ pub struct Ranks {
 }
 
 impl Ranks {
-    /// The samples that are coded beside the tables.
-    pub(crate) fn samples(&self) -> Samples<'_> {
+    /// The samples that are coded beside the tables, most of which are alike if `alike` says so.
+    fn samples(&self, alike: bool) -> Samples<'_> {
         Samples {
             channels: &self.channels,
             depth: depth_of(self.most),
+            alike,
         }
     }
 
@@ -115,10 +116,10 @@ impl Ranks {
         }
         let grid = &picture.channels[channel..channel + 1];
         let most = MOST_VALUES.min(picture.channels[channel].buf().len() / PIXELS);
-        let Some(coding) = palette_of(alloc, grid, 0, ColourOrder::Sample, most)? else {
+        let Some(coding) = tables_of(alloc, grid, ColourOrder::Sample, most)? else {
             return Ok(false);
         };
-        let PaletteGrids { table, index, .. } = coding;
+        let TableGrids { table, index } = coding;
         if !is_sparse(&table) {
             return Ok(false);
         }
@@ -138,7 +139,7 @@ impl Ranks {
 }
 
 /// The ranks of the values of a picture, if all of its channels of colours have few, and they are not its only channel.
-pub fn ranks_of(alloc: Global, picture: &Picture) -> Result<Option<Ranks>, OutOfMemory> {
+pub(crate) fn ranks_of(alloc: Global, picture: &Picture) -> Result<Option<Ranks>, OutOfMemory> {
     if picture.channels.len() < 2 || are_dense(alloc, picture)? {
         return Ok(None);
     }
@@ -156,19 +157,18 @@ pub fn ranks_of(alloc: Global, picture: &Picture) -> Result<Option<Ranks>, OutOf
     Ok(Some(ranks))
 }
 
-/// Adds the ways by the ranks of the values of a picture, if they do not cost more than the bound.
+/// Adds the ways by the ranks of the values of a picture, most of which are alike if `alike` says so.
 pub(crate) fn add_rank_ways(
     alloc: Global,
     list: &mut Vec<Advice>,
-    picture: &Picture,
     ranks: &Ranks,
+    alike: bool,
     learning: Learning,
-    bound: Option<u64>,
+    colours: &[Option<u32>],
 ) -> Result<(), OutOfMemory> {
     let coded = Coded {
         tables: &ranks.tables,
-        samples: ranks.samples(),
+        samples: ranks.samples(alike),
     };
-    let colours = colours_of(picture, learning.effort());
-    add_ways_by(alloc, list, coded, &ranks.plans, colours, learning, bound)
+    add_ways_by(alloc, list, coded, &ranks.plans, colours, learning)
 }

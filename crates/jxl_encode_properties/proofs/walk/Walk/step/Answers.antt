@@ -2,9 +2,9 @@ use Rattle.std.proofs.Common.{[], arith, subst, sym}
 use Rattle.std.proofs.lemmas.Int.{to_z-of_z}
 use Rattle.std.specs.Int.{w32}
 use Rattle.jxlm_predictor.specs.Standing.{StandsAt, setting}
-use Rattle.jxl_encode_walk.specs.Walks.{IsAfter}
-use Rattle.jxl_encode_walk.proofs.Steps.{goes_on, is_ready, takes_one}
-use Rattle.jxl_encode_walk.proofs.walk.Walk.step.Goals as goal
+use Rattle.jxl_encode_properties.specs.Walks.{IsAfter}
+use Rattle.jxl_encode_properties.proofs.Steps.{goes_on, is_ready, takes_one}
+use Rattle.jxl_encode_properties.proofs.walk.Walk.step.Goals as goal
 
 pub properties-properties-requires-clause-ready : goal.properties-properties-requires-clause-ready
 properties-properties-requires-clause-ready c = is_ready _ _ _ c.self.invariant

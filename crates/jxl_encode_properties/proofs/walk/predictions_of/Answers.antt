@@ -1,7 +1,7 @@
 -- Each entry is the prediction of the predictor of that number.
 use Rattle.std.proofs.Common.{refl, rules}
-use Rattle.jxl_encode_walk.proofs.Steps.{entry}
-use Rattle.jxl_encode_walk.proofs.walk.predictions_of.Goals as goal
+use Rattle.jxl_encode_properties.proofs.Steps.{entry}
+use Rattle.jxl_encode_properties.proofs.walk.predictions_of.Goals as goal
 
 pub returns : goal.returns
 returns c = λ s samples at.

@@ -1,13 +1,15 @@
 //! Trees for pictures of few values, as tiles, letters and masks are: each leaf has the value that most samples with
 //! its neighbours have. Where the neighbours decide, no bit is written.
 
-use crate::near::Near;
-use crate::rows::{Rows, Source};
-use crate::table::Table;
+use crate::near::{Near, NearRows, Taker, sample_at, take_near};
+use crate::samples::Samples;
+use crate::source::{Source, step_of};
 use jxl_encode_learn::axis::Axis;
 use jxl_encode_learn::costs::Prices;
+use jxl_encode_learn::counted::Counted;
 use jxl_encode_learn::scheme::{Scheme, scheme_of};
 use jxlm_base::grid::{AlignedGrid, OutOfMemory};
+use jxlm_predictor::predictor::Predictor;
 use std::alloc::Global;
 
 /// The most values of such a picture.
@@ -18,6 +20,9 @@ const MAX_CLUSTERS: usize = 32;
 
 /// The most classes of samples.
 const MAX_CLASSES: usize = 24000;
+
+/// The most axes.
+const MAX_AXES: usize = 8;
 
 /// The most values of which each slope is told apart.
 const MAX_APART: usize = 3;
@@ -38,7 +43,12 @@ fn rank(values: &[i32], sample: i32) -> usize {
 
 /// Adds the values of these samples in rising order. Returns false where there would be too many.
 fn add_values(values: &mut Vec<i32>, samples: &[i32]) -> Result<bool, OutOfMemory> {
+    let mut last = None;
     for sample in samples {
+        if last == Some(*sample) {
+            continue;
+        }
+        last = Some(*sample);
         let at = rank(values, *sample).min(values.len());
         if values.get(at).copied() != Some(*sample) {
             if values.len() >= MAX_VALUES {
@@ -80,36 +90,6 @@ fn values_of(
         }
     }
     Ok(Some(values))
-}
-
-/// Counts the samples of a row.
-fn add_row(table: &mut Table, values: &[i32], channel: i32, rows: &Rows) {
-    let mut last = Near::of(channel, rows, 0);
-    let mut class = last.class(&table.axes);
-    for x in 0..rows.here.len() {
-        let near = Near::of(channel, rows, x);
-        if near != last {
-            class = near.class(&table.axes);
-            last = near;
-        }
-        let sample = rows.here[x];
-        table.add(class, 0, rank(values, sample));
-    }
-}
-
-/// Counts the samples of a channel.
-fn add_channel(
-    table: &mut Table,
-    rows: &mut Rows,
-    values: &[i32],
-    source: Source<'_>,
-    channel: usize,
-) -> Result<(), OutOfMemory> {
-    for y in 0..source.height(channel) {
-        rows.go(source, channel, y)?;
-        add_row(table, values, channel.min(255) as i32, rows);
-    }
-    Ok(())
 }
 
 /// Adds an axis, if there are not too many classes with it; returns the number of classes.
@@ -165,10 +145,41 @@ fn axes_of(alloc: Global, values: &[i32], channels: usize) -> Result<Vec<Axis>, 
     Ok(axes)
 }
 
-/// The scheme of a picture of few values; none, if it has too many.
+/// The samples that are taken, by their neighbours.
+#[derive(Drop)]
+struct ByValues {
+    values: Vec<i32>,
+    samples: Samples,
+}
+
+/// A property of the sample in a column.
+fn property_of(rows: &NearRows, x: usize, near: Near, property: u32) -> i32 {
+    match property {
+        0 => rows.channel.min(255) as i32,
+        17 => rows.sample_before(x),
+        _ => near.property(property),
+    }
+}
+
+impl Taker for ByValues {
+    fn take(&mut self, rows: &NearRows, x: usize) -> Result<(), OutOfMemory> {
+        let near = Near::of(rows, x);
+        let mut places = [0; MAX_AXES];
+        let axes = self.samples.axes();
+        for at in 0..axes.len().min(MAX_AXES) {
+            let axis = &axes[at];
+            places[at] = axis.place(property_of(rows, x, near, axis.property));
+        }
+        let sample = sample_at(&rows.here, x);
+        self.samples.add(&places, &[rank(&self.values, sample)])
+    }
+}
+
+/// The scheme of a picture of few values; none, if it has too many. About this number of samples of each channel are looked at.
 pub fn scheme_by_values(
     alloc: Global,
     channels: &[AlignedGrid<i32>],
+    pixels: usize,
 ) -> Result<Option<Scheme>, OutOfMemory> {
     let source = Source {
         channels,
@@ -178,19 +189,20 @@ pub fn scheme_by_values(
     let Some(values) = values_of(alloc, source, count)? else {
         return Ok(None);
     };
+    let step = step_of(channels, pixels);
     let axes = axes_of(alloc, &values, count)?;
-    let mut table = Table::new(alloc, axes, 1, values.len())?;
-    let mut rows = Rows::new(alloc);
-    for channel in 0..count {
-        add_channel(&mut table, &mut rows, &values, source, channel)?;
-    }
+    let mut taker = ByValues {
+        samples: Samples::new(alloc, axes, &[Predictor::Zero])?,
+        values,
+    };
+    take_near(alloc, source, &mut taker, step)?;
     let prices = Prices {
-        scale: 1,
+        scale: step as u64,
         decision: 40,
         leaf: 12,
         symbol: 0,
         other: 5,
     };
-    let scheme = scheme_of(alloc, &table, prices, &values, MAX_CLUSTERS)?;
+    let scheme = scheme_of(alloc, &taker.samples, prices, &taker.values, MAX_CLUSTERS)?;
     Ok(Some(scheme))
 }

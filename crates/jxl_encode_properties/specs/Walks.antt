@@ -8,7 +8,7 @@ use Rattle.jxlm_predictor.specs.Standing.{StandsAt, setting}
 use Rattle.jxlm_predictor.specs.declared.state.PredictorState.{PredictorState}
 use Rattle.jxlm_weighted.specs.WeightsHeader.{default_weights}
 use Rattle.jxlm_weighted.specs.declared.weights.WpHeader.{WpHeader}
-use Rattle.jxl_encode_walk.specs.declared.walk.Surroundings.{Surroundings}
+use Rattle.jxl_encode_properties.specs.declared.walk.Surroundings.{Surroundings}
 
 -- A walk as contracts see it: the state of the predictors, and the number of samples that it may take yet.
 pub record Progress : Type 0 where

@@ -4,7 +4,7 @@ ghost use Rattle.std.specs.Prelude.{◌≡◌, ◌<◌, ◌≤◌, ℤ, List, []
 ghost use Rattle.jxlm_predictor.specs.Holding.{IsCurrent, state_of};
 ghost use Rattle.jxlm_predictor.specs.Predictions.{prediction, predictors};
 ghost use Rattle.jxlm_predictor.specs.Standing.{Setting, StandsAt};
-ghost use Rattle.jxl_encode_walk.specs.Walks.{IsAfter, IsAroundOf, Takes, weights_by};
+ghost use Rattle.jxl_encode_properties.specs.Walks.{IsAfter, IsAroundOf, Takes, weights_by};
 
 use jxlm_base::grid::OutOfMemory;
 use jxlm_predictor::predictor::{Predictor, PredictorState, Properties, WpHeader};
@@ -33,8 +33,8 @@ pub struct Walk {
 }
 
 impl Model for Walk {
-    ghost use Rattle.jxl_encode_walk.specs.Inner.Underway.{IsUnderway};
-    ghost use Rattle.jxl_encode_walk.specs.Walks.{Progress, progress};
+    ghost use Rattle.jxl_encode_properties.specs.Inner.Underway.{IsUnderway};
+    ghost use Rattle.jxl_encode_properties.specs.Walks.{Progress, progress};
 
     ghost Value = { Progress };
 

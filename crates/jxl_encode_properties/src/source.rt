@@ -1,9 +1,7 @@
-//! Rows of channels, their colours as they are coded.
+//! The samples that trees are learnt from: rows of channels, their colours as they are coded.
 
-use crate::near::GROUP_SIDE;
 use jxlm_base::grid::{AlignedGrid, OutOfMemory};
 use std::alloc::Global;
-use std::mem;
 
 /// The channels of a picture, and the kind of colour transform by which the first three are coded.
 #[derive(Clone, Copy)]
@@ -14,21 +12,26 @@ pub struct Source<'a> {
     pub colour: Option<u32>,
 }
 
-/// The rows around a sample.
-#[derive(Drop)]
-pub(crate) struct Rows {
-    /// Its own row.
-    pub(crate) here: Vec<i32>,
-    /// The row above.
-    pub(crate) above: Vec<i32>,
-    /// The row above that.
-    pub(crate) higher: Vec<i32>,
-    /// Its own row in the channel before.
-    pub(crate) earlier: Vec<i32>,
-    /// How many rows of its group are above.
-    pub(crate) depth: usize,
-    // The channel and the row after this one.
-    next: (usize, usize),
+/// Whether a row is one that is looked at, of which there is one in `step`: evenly spread, and at no period.
+pub fn is_taken(y: usize, step: usize) -> bool {
+    y.wrapping_mul(40503).wrapping_add(10000) % 65536 < 65536 / step.max(1)
+}
+
+/// How many rows there are for each that is looked at, if about this number of samples of each channel are.
+pub(crate) fn step_of(channels: &[AlignedGrid<i32>], pixels: usize) -> usize {
+    match channels.get(0) {
+        Some(first) => first.buf().len().div_ceil(pixels.max(1)).max(1),
+        None => 1,
+    }
+}
+
+/// The number of samples.
+pub fn samples_in(channels: &[AlignedGrid<i32>]) -> usize {
+    let mut samples: usize = 0;
+    for channel in channels {
+        samples = samples.saturating_add(channel.buf().len());
+    }
+    samples
 }
 
 /// The sample of a channel of luma and two differences, of these colours.
@@ -115,48 +118,6 @@ impl Source<'_> {
             Some(kind) if channel < 3 => self.add_formed(row, kind, channel, y)?,
             _ => row.extend_from_slice(row_of(self.channels, channel, y))?,
         }
-        Ok(())
-    }
-}
-
-impl Rows {
-    /// No rows.
-    pub(crate) fn new(alloc: Global) -> Rows {
-        Rows {
-            here: Vec::new(alloc),
-            above: Vec::new(alloc),
-            higher: Vec::new(alloc),
-            earlier: Vec::new(alloc),
-            depth: 0,
-            next: (0, 0),
-        }
-    }
-
-    /// Goes one row down: the rows around the last one are those above.
-    fn go_down(&mut self) {
-        mem::swap(&mut self.higher, &mut self.above);
-        mem::swap(&mut self.above, &mut self.here);
-    }
-
-    /// Goes to a row of a channel.
-    pub(crate) fn go(
-        &mut self,
-        source: Source<'_>,
-        channel: usize,
-        y: usize,
-    ) -> Result<(), OutOfMemory> {
-        self.depth = y % GROUP_SIDE;
-        if y > 0 && self.next == (channel, y) {
-            self.go_down();
-        } else {
-            source.copy(&mut self.above, channel, y.saturating_sub(1))?;
-            source.copy(&mut self.higher, channel, y.saturating_sub(2))?;
-        }
-        source.copy(&mut self.here, channel, y)?;
-        if channel > 0 {
-            source.copy(&mut self.earlier, channel.saturating_sub(1), y)?;
-        }
-        self.next = (channel, y.saturating_add(1));
         Ok(())
     }
 }

@@ -10,8 +10,8 @@ use Rattle.jxlm_predictor.specs.declared.state.PredictorState.{PredictorState}
 use Rattle.jxlm_weighted.specs.SelfCorrecting.{IsHeader}
 use Rattle.jxlm_weighted.specs.WeightsHeader.{default_weights}
 use Rattle.jxlm_weighted.specs.declared.weights.WpHeader.{WpHeader}
-use Rattle.jxl_encode_walk.specs.Inner.Underway.{IsUnderway}
-use Rattle.jxl_encode_walk.specs.Walks.{Progress, Takes, progress, weights_by}
+use Rattle.jxl_encode_properties.specs.Inner.Underway.{IsUnderway}
+use Rattle.jxl_encode_properties.specs.Walks.{Progress, Takes, progress, weights_by}
 
 -- the state of a walk is ready for the properties of the next sample
 pub is_ready : (state : PredictorState ℤ) (left : ℕ) (store : List (Grid ℤ)) → IsUnderway (progress state left) → IsReady state store
