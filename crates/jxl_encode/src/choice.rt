@@ -10,6 +10,7 @@ ghost use Rattle.jxl_encode.specs.Files.{IsCodestreamOf};
 use crate::codestream::codestream_by;
 use crate::effort::Effort;
 use crate::progress::Progress;
+use jxl_encode_copies::plan::Searches;
 use jxl_encode_copies::repeats::do_repeat;
 use jxl_encode_ways::advice::{Advice, advices_for};
 use jxl_picture::picture::Picture;
@@ -37,7 +38,7 @@ fn shortest<P: Progress>(
     alloc: Global,
     picture: &Picture,
     advices: &[Advice],
-    copies: bool,
+    copies: Option<Searches>,
     progress: &mut P,
 ) -> Result<Option<Vec<u8>>, OutOfMemory>
     requires whole { IsWhole (image_of picture.now.header) picture.now.channels.items }
@@ -53,12 +54,22 @@ fn shortest<P: Progress>(
     Ok(best)
 }
 
-/// Whether copies of tokens are looked for: there is time, and the samples repeat.
-fn are_copied(alloc: Global, picture: &Picture, effort: Effort) -> Result<bool, OutOfMemory> {
-    if matches!(effort, Effort::Fast) {
-        return Ok(false);
+/// How often copies of tokens are looked for: if there is time, and the samples repeat.
+fn searches_for(
+    alloc: Global,
+    picture: &Picture,
+    effort: Effort,
+) -> Result<Option<Searches>, OutOfMemory> {
+    let searches = match effort {
+        Effort::Fast => return Ok(None),
+        Effort::Usual => Searches::One,
+        Effort::Best => Searches::Two,
+    };
+    if do_repeat(alloc, &picture.channels)? {
+        Ok(Some(searches))
+    } else {
+        Ok(None)
     }
-    do_repeat(alloc, &picture.channels)
 }
 
 /// A codestream of the picture. By what its samples are coded is a heuristic. `progress` is called after each way that
@@ -73,8 +84,8 @@ pub(crate) fn encode_codestream<P: Progress>(
     requires codable { IsCodable picture.now }
     ensures { IfOk result (λ v. IsCodestreamOf picture.now v.items) }
 {
-    let copies = are_copied(alloc, picture, effort)?;
-    let advices = advices_for(alloc, picture, effort, copies)?;
+    let copies = searches_for(alloc, picture, effort)?;
+    let advices = advices_for(alloc, picture, effort, copies.is_some())?;
     if let Some(bytes) = shortest(alloc, picture, &advices, copies, progress)? {
         return Ok(bytes);
     }

@@ -11,13 +11,15 @@ use crate::frame::{FrameInput, GROUP_DIM, GROUP_SHIFT, frame_sections};
 use crate::sizes::{add_sections, sizes_of};
 use jxl_codestream::layout::Layout;
 use jxl_codestream_write::front::write_front_with_profile;
+use jxl_encode_copies::plan::Searches;
 use jxl_encode_sections::own::GroupTree;
 use jxl_encode_ways::advice::Advice;
 use jxl_picture::picture::Picture;
 use jxlm_base::grid::OutOfMemory;
 use std::alloc::Global;
 
-/// A codestream of the picture by this advice, where groups may have these trees of their own, and tokens may be copied.
+/// A codestream of the picture by this advice, where groups may have these trees of their own. Copies of tokens are looked for
+/// as often as `copies` says, if it does.
 ///
 /// # Errors
 ///
@@ -28,7 +30,7 @@ pub(crate) fn codestream_by(
     picture: &Picture,
     advice: &Advice,
     own: &[GroupTree],
-    copies: bool,
+    copies: Option<Searches>,
 ) -> Result<Vec<u8>, OutOfMemory>
     requires whole { IsWhole (image_of picture.now.header) picture.now.channels.items }
     requires codable { IsCodable picture.now }

@@ -14,6 +14,7 @@ ghost use Rattle.jxl_encode.specs.Inner.Frames.{AreGiven, AreSectionsOf, cut_of}
 
 use jxl_codestream::layout::Layout;
 use jxl_codestream::start::tree_limit;
+use jxl_encode_copies::plan::Searches;
 use jxl_encode_image::transform::ImagePlan;
 use jxl_encode_sections::frame::{FrameCut, FrameTree, encode_sections};
 use jxl_encode_sections::own::GroupTree;
@@ -39,14 +40,14 @@ pub(crate) const GROUP_DIM: u32 = 256;
 const MAX_DEPTH: usize = 128;
 
 /// What the sections of a frame are written from: the picture, its channels, the frame's groups, trees that they may have of
-/// their own, and whether copies of earlier tokens are looked for.
+/// their own, and how often copies of earlier tokens are looked for, if they are.
 #[derive(Clone, Copy)]
 pub(crate) struct FrameInput<'a> {
     pub(crate) picture: &'a Picture,
     pub(crate) given: &'a [ModularChannelParams],
     pub(crate) layout: &'a Layout,
     pub(crate) own: &'a [GroupTree],
-    pub(crate) copies: bool,
+    pub(crate) copies: Option<Searches>,
 }
 
 /// How large the tree of a frame may be, in a picture with this header.

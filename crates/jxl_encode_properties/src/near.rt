@@ -226,9 +226,12 @@ impl Near {
         i32::grad_clamped(self.north, self.west, self.north_west)
     }
 
-    /// The average of left and above.
+    /// The average of left and above, rounded towards 0.
     pub(crate) fn average(self) -> i32 {
-        (self.west & self.north).wrapping_add((self.west ^ self.north) >> 1)
+        let odd = (self.west % 2 + self.north % 2) / 2;
+        (self.west / 2)
+            .wrapping_add(self.north / 2)
+            .wrapping_add(odd)
     }
 
     /// Left or above, whichever the sample above left speaks for.

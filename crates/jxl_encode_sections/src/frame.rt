@@ -42,6 +42,7 @@ use jxl_codestream::layout::Layout;
 use jxl_coding::clusters::count_of;
 use jxl_coding_build::any::AnyWriter;
 use jxl_coding_stream_write::copies::TokenCopy;
+use jxl_encode_copies::plan::Searches;
 use jxl_encode_frame::sections::{empty_sections, put_section};
 use jxl_encode_image::image::{CodedImage, code_image};
 use jxl_encode_image::transform::{ImagePlan, ImageTransform};
@@ -68,8 +69,8 @@ pub struct FrameTree<'a> {
     pub limits: MaConfigParams,
     /// Trees that groups may have of their own, at most as deep as that of the frame may be.
     pub own: &'a [GroupTree],
-    /// Whether copies of earlier tokens are looked for.
-    pub copies: bool,
+    /// How often copies of earlier tokens are looked for, if they are.
+    pub copies: Option<Searches>,
 }
 
 /// How a frame is cut.
@@ -171,16 +172,19 @@ fn length_of(sections: &[Vec<u8>]) -> usize {
 }
 
 /// How copies are looked for in a frame, if they are: rows are as wide as its first channel, or a group.
-fn search_in(given: &[ModularChannelParams], copies: bool, group_dim: u32) -> Option<CopySearch> {
-    if !copies {
-        return None;
-    }
+fn search_in(
+    given: &[ModularChannelParams],
+    copies: Option<Searches>,
+    group_dim: u32,
+) -> Option<CopySearch> {
+    let searches = copies?;
     let width = match given.get(0) {
         Some(channel) => channel.width.min(group_dim),
         None => 1,
     };
     Some(CopySearch {
         width: width as usize,
+        searches,
     })
 }
 

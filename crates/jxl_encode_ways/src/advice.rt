@@ -4,6 +4,7 @@ use crate::best::{
     add_best_ways_of, add_broad_way, best_order, best_ways, cheapest_of, is_small, likeliest_colour,
 };
 use crate::effort::Effort;
+use crate::looks::ways_by_looks;
 use crate::palettes::add_palette_ways;
 use crate::ranks::{Ranks, add_rank_ways, ranks_of};
 use jxl_encode_image::transform::PalettePlan;
@@ -50,16 +51,33 @@ pub(crate) struct Samples<'a> {
 pub(crate) enum Learning {
     /// As at an effort.
     At(Effort),
+    /// By a look at few samples, which tells what ways may cost at the usual effort.
+    Look,
     /// By all properties and predictors alone.
     Broad,
 }
 
 impl Learning {
-    /// How much time there is.
+    /// At which effort.
     pub(crate) fn effort(self) -> Effort {
         match self {
             Learning::At(effort) => effort,
+            Learning::Look => Effort::Usual,
             Learning::Broad => Effort::Best,
+        }
+    }
+
+    /// How much is tried of samples most of which are alike, if `alike` says so.
+    pub(crate) fn care(self, alike: bool) -> Care {
+        let care = care_of(self.effort(), alike);
+        match self {
+            Learning::Look => Care {
+                pixels: LOOK_PIXELS,
+                slopes: LOOK_SLOPES,
+                rounds: 0,
+                ..care
+            },
+            _ => care,
         }
     }
 }
@@ -134,6 +152,12 @@ const GROUP_COST: u64 = 128 * 65536;
 /// About how many samples of each channel are looked at with the least effort, and to see whether they are alike.
 const FEW_PIXELS: usize = 1 << 11;
 
+/// About how many samples of each channel are looked at to see what ways may cost.
+const LOOK_PIXELS: usize = 1 << 13;
+
+/// By how many slopes they are told apart.
+const LOOK_SLOPES: usize = 2;
+
 /// The price of a decision at the usual effort, where most samples are alike, in bits divided by 65,536.
 const ALIKE_STEP: u64 = 195;
 
@@ -196,15 +220,14 @@ pub(crate) fn scheme_on(
     scheme_by_neighbours(alloc, picture.channels, colour, shift, care)
 }
 
-/// The cheapest way to code a picture by a tree that is learnt from some of its samples, as at an effort, after one of these
+/// The cheapest way to code a picture by a tree that is learnt from some of its samples, with this care, after one of these
 /// colour transforms; none, if there is none of them.
 pub(crate) fn by_neighbours(
     alloc: Global,
     picture: Samples<'_>,
-    effort: Effort,
+    care: Care,
     colours: &[Option<u32>],
 ) -> Result<Option<Way>, OutOfMemory> {
-    let care = care_of(effort, picture.alike);
     let mut best = None;
     for colour in colours {
         let scheme = scheme_on(alloc, picture, *colour, care)?;
@@ -276,21 +299,20 @@ pub(crate) fn add_way(
     add_advice(list, advice)
 }
 
-/// Adds the way by the values of the samples as at an effort, if they are few.
+/// Adds the way by the values of the samples, if they are few: about this number of each channel are looked at.
 fn add_way_by_values(
     alloc: Global,
     list: &mut Vec<Advice>,
     picture: Samples<'_>,
-    effort: Effort,
+    pixels: usize,
 ) -> Result<(), OutOfMemory> {
-    let pixels = care_of(effort, picture.alike).pixels;
     match scheme_by_values(alloc, picture.channels, pixels)? {
         Some(scheme) => add_way(alloc, list, Some(Way::new(scheme, None))),
         None => Ok(()),
     }
 }
 
-/// Adds the ways that are learnt so: at an effort by values, and by neighbours after the likeliest of these colour transforms. By
+/// Adds the ways that are learnt so: at lower efforts by values, and by neighbours after the likeliest of these colour transforms. By
 /// few samples the tree is learnt with each of these, as a look takes no less time.
 pub(crate) fn add_ways_of(
     alloc: Global,
@@ -299,17 +321,18 @@ pub(crate) fn add_ways_of(
     learning: Learning,
     colours: &[Option<u32>],
 ) -> Result<(), OutOfMemory> {
-    let effort = match learning {
+    match learning {
         Learning::At(Effort::Best) => return add_best_ways_of(alloc, list, picture, colours),
-        Learning::At(effort) => effort,
         Learning::Broad => return add_broad_way(alloc, list, picture, colours),
-    };
-    add_way_by_values(alloc, list, picture, effort)?;
-    let way = if matches!(effort, Effort::Fast) && !picture.alike {
-        by_neighbours(alloc, picture, effort, colours)?
+        _ => {}
+    }
+    let care = learning.care(picture.alike);
+    add_way_by_values(alloc, list, picture, care.pixels)?;
+    let way = if care.pixels <= LOOK_PIXELS {
+        by_neighbours(alloc, picture, care, colours)?
     } else {
         let colour = likeliest_colour(alloc, picture, colours, LOOKED)?;
-        by_neighbours(alloc, picture, effort, &[colour])?
+        by_neighbours(alloc, picture, care, &[colour])?
     };
     add_way(alloc, list, way)
 }
@@ -348,7 +371,7 @@ pub(crate) fn colours_of(picture: &Picture, effort: Effort) -> &'static [Option<
 }
 
 /// What the cheapest of these ways costs.
-fn least_cost(list: &[Advice]) -> u64 {
+pub(crate) fn least_cost(list: &[Advice]) -> u64 {
     let mut least = u64::MAX;
     for advice in list {
         least = least.min(advice.cost);
@@ -402,7 +425,8 @@ fn other_ranks(
 }
 
 /// Ways to code a picture, of which samples repeat if `repeats` says so: several of a small picture and of one that is nearly
-/// flat, and at lower efforts than the greatest else the cheapest, as far as costs say.
+/// flat, and at lower efforts than the greatest else the cheapest, as far as costs say. At the usual effort only the likeliest
+/// of a large picture are learnt, as far as looks say.
 pub fn advices_for(
     alloc: Global,
     picture: &Picture,
@@ -413,6 +437,12 @@ pub fn advices_for(
     let small = is_small(picture);
     let shift = picture.header.bit_depth.bits_per_sample.saturating_sub(8);
     let alike = are_alike(alloc, &picture.channels, shift, FEW_PIXELS)?;
+    if matches!(effort, Effort::Usual) && !small {
+        let list = ways_by_looks(alloc, picture, alike)?;
+        if !is_nearly_flat(&list, picture) {
+            return cheapest_of(alloc, list, 1);
+        }
+    }
     let efforts = efforts_of(effort, repeats, small);
     for tried in efforts {
         add_palette_ways(alloc, &mut list, picture, alike, *tried)?;

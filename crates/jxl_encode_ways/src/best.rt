@@ -140,10 +140,10 @@ pub(crate) fn add_best_ways_of(
     samples: Samples<'_>,
     colours: &[Option<u32>],
 ) -> Result<(), OutOfMemory> {
-    let effort = Effort::Best;
     let likely = likely_colours(alloc, samples, colours, LOOKED)?;
     if samples.depth.exp_bits != 0 {
-        let way = by_neighbours(alloc, samples, effort, &likely)?;
+        let care = care_of(Effort::Best, samples.alike);
+        let way = by_neighbours(alloc, samples, care, &likely)?;
         return add_way(alloc, list, way);
     }
     if samples_in(samples.channels) <= SMALL {

@@ -7,5 +7,6 @@ mod best;
 pub mod effort;
 pub mod grids;
 mod joined;
+mod looks;
 mod palettes;
 mod ranks;

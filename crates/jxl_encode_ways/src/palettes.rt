@@ -1,8 +1,6 @@
 //! Ways to code a picture of few colours by a palette. They are heuristics: no sample depends on them.
 
-use crate::advice::{
-    Advice, GROUP_DIM, Learning, Samples, add_advice, add_ways_of, care_of, scheme_on,
-};
+use crate::advice::{Advice, GROUP_DIM, Learning, Samples, add_advice, add_ways_of, scheme_on};
 use crate::effort::Effort;
 use crate::joined::{CHANNEL, Levels, joined};
 use jxl_encode_image::transform::PalettePlan;
@@ -110,12 +108,12 @@ pub(crate) struct Coded<'a> {
 fn scheme_of_tables(
     alloc: Global,
     coded: Coded<'_>,
-    effort: Effort,
+    learning: Learning,
 ) -> Result<Scheme, OutOfMemory> {
     let care = Care {
         pixels: usize::MAX,
         slopes: TABLE_SLOPES,
-        ..care_of(effort, true)
+        ..learning.care(true)
     };
     let tables = Samples {
         channels: coded.tables,
@@ -139,7 +137,7 @@ pub(crate) fn add_ways_by(
         Some(first) => first.width().max(first.height()) > GROUP_DIM as usize,
         None => false,
     };
-    let scheme = scheme_of_tables(alloc, coded, learning.effort())?;
+    let scheme = scheme_of_tables(alloc, coded, learning)?;
     let mut ways = Vec::new(alloc);
     add_ways_of(alloc, &mut ways, coded.samples, learning, colours)?;
     for way in ways {
@@ -152,7 +150,7 @@ pub(crate) fn add_ways_by(
 
 /// All channels of a picture by a palette.
 #[derive(Drop)]
-struct AllByPalette {
+pub(crate) struct AllByPalette {
     plan: PalettePlan,
     tables: Vec<AlignedGrid<i32>>,
     indices: Vec<AlignedGrid<i32>>,
@@ -171,11 +169,23 @@ impl AllByPalette {
             },
         }
     }
+
+    /// Adds the ways by it that are learnt so.
+    pub(crate) fn add_ways(
+        &self,
+        alloc: Global,
+        list: &mut Vec<Advice>,
+        alike: bool,
+        learning: Learning,
+    ) -> Result<(), OutOfMemory> {
+        let coded = self.coded(alike);
+        add_ways_by(alloc, list, coded, &[self.plan], &[None], learning)
+    }
 }
 
 /// The orders of colours that are tried at an effort: at the greatest others are beside them. At the least those of two
 /// channels are in the order of their samples, as grey and alpha are often smooth.
-fn orders_of(effort: Effort, channels: usize) -> &'static [ColourOrder] {
+pub(crate) fn orders_of(effort: Effort, channels: usize) -> &'static [ColourOrder] {
     if channels == 1 {
         return &[ColourOrder::Sample];
     }
@@ -214,7 +224,7 @@ fn most_colours(pixels: usize, effort: Effort) -> usize {
 }
 
 /// All channels by a palette in this order, if they are one to four of one size, and their colours few.
-fn all_by_palette(
+pub(crate) fn all_by_palette(
     alloc: Global,
     picture: &Picture,
     order: ColourOrder,
@@ -260,14 +270,7 @@ pub(crate) fn add_palette_ways_by(
         let Some(found) = all_by_palette(alloc, picture, *order, learning.effort())? else {
             return Ok(());
         };
-        add_ways_by(
-            alloc,
-            list,
-            found.coded(alike),
-            &[found.plan],
-            &[None],
-            learning,
-        )?;
+        found.add_ways(alloc, list, alike, learning)?;
     }
     Ok(())
 }
