@@ -14,6 +14,9 @@ const TRIES: usize = 64;
 /// The most colours that are put beside near ones.
 const MOST_NEAREST: usize = 4096;
 
+/// The number of places is at most 2 to the power of this.
+const MOST_WIDTH: u32 = 20;
+
 /// The factor of a hash.
 const FACTOR: u64 = 0x9E37_79B9_7F4A_7C15;
 
@@ -138,13 +141,19 @@ pub(crate) struct Colours {
     places: Vec<u32>,
 }
 
+/// The number of places of at most this number of colours: a power of two, at least four for each.
+fn places_for(most: usize) -> usize {
+    let width = usize::BITS.saturating_sub(most.leading_zeros());
+    1usize.wrapping_shl(width.saturating_add(2).min(MOST_WIDTH))
+}
+
 impl Colours {
     /// None, with room for this number.
     fn new(alloc: Global, most: usize) -> Result<Colours, OutOfMemory> {
         Ok(Colours {
             list: Vec::new(alloc),
             runs: Vec::new(alloc),
-            places: vec![in alloc; 0; most.saturating_mul(4).saturating_add(1)]?,
+            places: vec![in alloc; 0; places_for(most)]?,
         })
     }
 
@@ -161,7 +170,7 @@ impl Colours {
         }
         let first = colour.hash();
         for step in 0..TRIES {
-            let place = first.wrapping_add(step) % many;
+            let place = first.wrapping_add(step) & (many - 1);
             let number = self.number_at(place);
             if number == 0 || self.list.get(number as usize - 1).copied() == Some(colour) {
                 return Some(place);

@@ -193,7 +193,7 @@ pub(crate) fn care_of(effort: Effort, alike: bool) -> Care {
             rounds: 0,
         },
         Effort::Usual => Care {
-            pixels: if alike { 1 << 16 } else { 1 << 15 },
+            pixels: if alike { 1 << 18 } else { 1 << 15 },
             slopes: 6,
             clusters: if alike { 16 } else { 32 },
             step: if alike { ALIKE_STEP } else { 0 },
