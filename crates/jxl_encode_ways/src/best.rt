@@ -49,6 +49,9 @@ const MARGIN: u64 = 8;
 /// is decoded in far less time by one leaf.
 const FEW_NODES: usize = 1;
 
+/// The most nodes of one that is used for such a picture by a palette of all channels.
+const FEW_PALETTE_NODES: usize = 7;
+
 /// The predictors by one of which alone a small picture of few colours is tried.
 const PLAIN: [Predictor; 2] = [Predictor::Zero, Predictor::Gradient];
 
@@ -277,19 +280,41 @@ fn cheapest_in_orders(
     Ok(places)
 }
 
-/// The ways that are decoded in little time: by a palette of all channels, or by a tree of at most this many nodes that, if it
-/// is by all properties, costs at most this.
+/// The ways that are decoded in little time: by a palette of all channels, or by a tree that, if it is by all properties, costs
+/// at most this.
 fn quick_ways(
     alloc: Global,
     ways: Vec<Advice>,
     picture: &Picture,
-    nodes: usize,
     most: u64,
 ) -> Result<Vec<Advice>, OutOfMemory> {
     let mut kept = Vec::new(alloc);
     for way in ways {
-        let cheap = way.nodes.len() <= nodes && (!way.broad || way.cost <= most);
-        if cheap || order_of(&way, picture).is_some() {
+        if !way.broad || way.cost <= most || order_of(&way, picture).is_some() {
+            kept.push(way)?;
+        }
+    }
+    Ok(kept)
+}
+
+/// Whether the tree of a way is so small that a small picture of few colours is decoded in little time.
+fn has_few_nodes(way: &Advice, picture: &Picture) -> bool {
+    let most = match order_of(way, picture) {
+        Some(_) => FEW_PALETTE_NODES,
+        None => FEW_NODES,
+    };
+    way.nodes.len() <= most
+}
+
+/// The ways whose trees are so small.
+fn ways_of_few_nodes(
+    alloc: Global,
+    ways: Vec<Advice>,
+    picture: &Picture,
+) -> Result<Vec<Advice>, OutOfMemory> {
+    let mut kept = Vec::new(alloc);
+    for way in ways {
+        if has_few_nodes(&way, picture) {
             kept.push(way)?;
         }
     }
@@ -305,7 +330,7 @@ fn copied_of(
 ) -> Result<Vec<Advice>, OutOfMemory> {
     let broad = least_of_ways(&ways, picture, true, true);
     let most = broad.saturating_sub(broad / BROAD_GAIN);
-    let ways = quick_ways(alloc, ways, picture, usize::MAX, most)?;
+    let ways = quick_ways(alloc, ways, picture, most)?;
     let places = cheapest_in_orders(alloc, &ways, picture)?;
     if places.is_empty() {
         return cheapest_of(alloc, ways, COPIED_WAYS);
@@ -374,8 +399,8 @@ fn few_ways(
     ways: Vec<Advice>,
     picture: &Picture,
 ) -> Result<Vec<Advice>, OutOfMemory> {
-    let quick = quick_ways(alloc, ways, picture, FEW_NODES, u64::MAX)?;
-    let mut kept = cheapest_of(alloc, quick, SMALL_WAYS)?;
+    let few = ways_of_few_nodes(alloc, ways, picture)?;
+    let mut kept = cheapest_of(alloc, few, SMALL_WAYS)?;
     let colours = colours_of(picture, Effort::Best);
     add_plain_ways(alloc, &mut kept, picture.channels.len(), colours)?;
     Ok(kept)
