@@ -47,7 +47,7 @@ fn shortest<P: Progress>(
 {
     let mut best = None;
     for advice in advices {
-        let bytes = codestream_by(alloc, picture, advice, &[], copies)?;
+        let bytes = codestream_by(alloc, picture, advice, copies)?;
         best = Some(shorter(best, bytes));
         progress.way_tried(advices.len());
     }
@@ -90,5 +90,5 @@ pub(crate) fn encode_codestream<P: Progress>(
         return Ok(bytes);
     }
     let plain = Advice::none(alloc);
-    codestream_by(alloc, picture, &plain, &[], copies)
+    codestream_by(alloc, picture, &plain, copies)
 }

@@ -12,14 +12,12 @@ use crate::sizes::{add_sections, sizes_of};
 use jxl_codestream::layout::Layout;
 use jxl_codestream_write::front::write_front_with_profile;
 use jxl_encode_copies::plan::Searches;
-use jxl_encode_sections::own::GroupTree;
 use jxl_encode_ways::advice::Advice;
 use jxl_picture::picture::Picture;
 use jxlm_base::grid::OutOfMemory;
 use std::alloc::Global;
 
-/// A codestream of the picture by this advice, where groups may have these trees of their own. Copies of tokens are looked for
-/// as often as `copies` says, if it does.
+/// A codestream of the picture by this advice. Copies of tokens are looked for as often as `copies` says, if it does.
 ///
 /// # Errors
 ///
@@ -29,7 +27,6 @@ pub(crate) fn codestream_by(
     alloc: Global,
     picture: &Picture,
     advice: &Advice,
-    own: &[GroupTree],
     copies: Option<Searches>,
 ) -> Result<Vec<u8>, OutOfMemory>
     requires whole { IsWhole (image_of picture.now.header) picture.now.channels.items }
@@ -44,7 +41,6 @@ pub(crate) fn codestream_by(
         picture,
         given: &given,
         layout: &layout,
-        own,
         copies,
     };
     let Ok(sections) = frame_sections(alloc, &input, advice) else {

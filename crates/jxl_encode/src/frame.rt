@@ -17,7 +17,6 @@ use jxl_codestream::start::tree_limit;
 use jxl_encode_copies::plan::Searches;
 use jxl_encode_image::transform::ImagePlan;
 use jxl_encode_sections::frame::{FrameCut, FrameTree, encode_sections};
-use jxl_encode_sections::own::GroupTree;
 use jxl_encode_ways::advice::Advice;
 use jxl_encode_ways::grids::copies_of;
 use jxl_image_header::image::ImageHeader;
@@ -39,14 +38,13 @@ pub(crate) const GROUP_DIM: u32 = 256;
 /// The maximum depth of the tree: the default limit on decisions for a sample.
 const MAX_DEPTH: usize = 128;
 
-/// What the sections of a frame are written from: the picture, its channels, the frame's groups, trees that they may have of
-/// their own, and how often copies of earlier tokens are looked for, if they are.
+/// What the sections of a frame are written from: the picture, its channels, the frame's groups, and how often copies of
+/// earlier tokens are looked for, if they are.
 #[derive(Clone, Copy)]
 pub(crate) struct FrameInput<'a> {
     pub(crate) picture: &'a Picture,
     pub(crate) given: &'a [ModularChannelParams],
     pub(crate) layout: &'a Layout,
-    pub(crate) own: &'a [GroupTree],
     pub(crate) copies: Option<Searches>,
 }
 
@@ -90,7 +88,6 @@ fn sections_by_tree(
         nodes,
         clusters,
         limits: limits_of(&input.picture.header),
-        own: input.own,
         copies: input.copies,
     };
     let cut = FrameCut {

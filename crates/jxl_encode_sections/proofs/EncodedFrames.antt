@@ -1,10 +1,8 @@
 -- Sections by the tokens of a coded image are those of its frame.
-use Rattle.std.proofs.Common.{◌≡◌, ◌≢◌, ◌∙◌, ℕ, ◌<◌, ◌≤◌, ℤ, List, [], ◌∷◌, length, map, inl, inr, true, IsTrue, Some, Ok, refl, sym, ap, subst, arith}
+use Rattle.std.proofs.Common.{◌≡◌, ◌≢◌, ◌∙◌, ℕ, ◌<◌, ◌≤◌, ℤ, List, [], ◌∷◌, length, map, true, IsTrue, Ok, sym, ap, subst, arith}
 use Rattle.std.specs.Global.{Vec}
 use Rattle.std.specs.Int.{Width}
 use Rattle.std.specs.List.{All}
-use Rattle.std.specs.Option.{option_map}
-use Rattle.std.specs.Prelude.{slice_get}
 use Rattle.std.proofs.lemmas.List.{length-map}
 use Rattle.std.proofs.lemmas.List.Elements.{All-contains, All-cons, All-head, All-map, All-nil, All-tail, All-weaker}
 use Rattle.jxlm_base.specs.Grid.{Grid}
@@ -35,13 +33,12 @@ use Rattle.jxl_encode_frame.proofs.WholePart.{no_cells}
 use Rattle.jxl_encode_image.specs.Images.{IsCodedImage, samples_in}
 use Rattle.jxl_encode_tree.specs.Trees.{IsClusteredTree}
 use Rattle.jxl_image_header.specs.declared.size.Size.{Size}
-use Rattle.jxl_encode_sections.specs.Sections.{AreFrameSections, IsFirstSection, most_codewords}
-use Rattle.jxl_encode_sections.specs.Inner.Frames.{AreTokensOfFrame, AreWrittenSections, IsFrameBy}
-use Rattle.jxl_encode_sections.specs.Inner.Groups.{HasSection, HaveTokens, MayHaveOwn}
+use Rattle.jxl_encode_sections.specs.Sections.{AreFrameSections, IsFirstSection}
+use Rattle.jxl_encode_sections.specs.Inner.Frames.{AreByTokens, AreTokensOfFrame, AreWrittenSections}
+use Rattle.jxl_encode_sections.specs.Inner.Groups.{HasSection, HaveTokens}
 use Rattle.jxl_encode_sections.specs.Inner.Parts.{AreTokensIn, CodedSamples, part_grids, part_of}
 use Rattle.jxl_encode_sections.specs.declared.frame.FrameTokens.{FrameTokens}
 use Rattle.jxl_encode_sections.specs.declared.parts.PartTokens.{PartTokens}
-use Rattle.jxl_encode_sections.proofs.FirstSections.{global_is_first}
 use Rattle.jxl_encode_sections.proofs.Frames.{frame_sections}
 use Rattle.jxl_encode_sections.proofs.LeafClusters.{leaves_below, numbers_below}
 use Rattle.jxl_encode_sections.proofs.PartCells.{clusters_below}
@@ -100,32 +97,12 @@ module _ {S : Type 0} (to_int : S → ℤ) (w : Width) (ts : List Transform) (gi
       ∙ ap (λ (gs : List (Grid ℤ)). record { list = coded.ready.coded.list; samples = gs }) (sym coded.samples_are)
 
   module _ (cells : IsTrue (can_cut dim coded.ready.coded.list)) (nodes : List EncodeNode) (clusters : List ℕ) (limits : MaConfigParams) (t : Shape Leaf) (is_tree : IsClusteredTree nodes clusters limits t) (few : limits.depth_limit ≤ 2048)
-      (tokens : FrameTokens) (are : AreTokensOfFrame w dim in_store t l tokens) (final : List (Vec ℕ)) (frame : IsFrameBy w dim limits.depth_limit in_store l nodes clusters ts tokens final) where
+      (tokens : FrameTokens) (are : AreTokensOfFrame w dim in_store t l tokens) (sections : List (Vec ℕ)) (by : AreByTokens nodes clusters ts l tokens sections) where
     abbrev codes : Codes
-    codes = frame.by_tokens.0
-
-    abbrev same : codes.clusters ≡ clusters
-    same = frame.by_tokens.1
-
-    abbrev sections : List (Vec ℕ)
-    sections = frame.before
+    codes = by.0
 
     abbrev written : AreWrittenSections nodes codes ts l tokens sections
-    written = frame.by_tokens.2
-
-    abbrev count : length final ≡ section_count_of l
-    count = frame.count
-
-    abbrev own : MayHaveOwn w dim limits.depth_limit one_pass in_store l sections final most_codewords 0
-    own = frame.own
-
-    -- the first section is still there
-    first_kept : slice_get (map (λ (v : Vec ℕ). v.items) final) 0 ≡ Some written.first
-    first_kept =
-        elim (own.1 parts.Global) [
-          | inl same ↦ global_is_first l final written.first (stream_index l parts.Global) (same ∙ ap (option_map {U = List ℕ × ℕ} (λ (b : List ℕ). (b, stream_index l parts.Global))) written.first_is)
-          | inr o ↦ absurd (o.0 refl)
-        ]
+    written = by.2
 
     found : (part : SectionPart) → part ≢ parts.Global → 0 < cell_count (part_channels dim one_pass coded.ready.coded.list part) → HasSection codes l tokens.groups.items sections part
     found part other some =
@@ -134,10 +111,10 @@ module _ {S : Type 0} (to_int : S → ℤ) (w : Width) (ts : List Transform) (gi
         (All-map (HasSection codes l tokens.groups.items sections) (λ (p : PartTokens). p.part) tokens.groups.items written.groups) among
 
     -- the sections are those of the frame
-    pub encoded : AreFrameSections w (image_list given) l dim limits.node_limit limits.depth_limit (map (λ v. v.items) final) image
+    pub encoded : AreFrameSections w (image_list given) l dim limits.node_limit limits.depth_limit (map (λ v. v.items) sections) image
     encoded =
-        frame_sections w (image_list given) image coded.ready l dim nodes clusters limits t is_tree few codes same cells tokens.global.items written.first written.end
+        frame_sections w (image_list given) image coded.ready l dim nodes clusters limits t is_tree few codes by.1 cells tokens.global.items written.first written.end
         (subst (λ (us : List Transform). IsFirstSection nodes codes us tokens.global.items written.first 0 written.end) (sym coded.transforms_are) written.is_first)
         (subst (λ (x : CodedSamples). AreTokensIn w dim one_pass x t parts.Global 0 tokens.global.items) same_samples are.global) tokens.groups.items
-        (subst (λ (x : CodedSamples). All (HaveTokens w dim one_pass x t l) tokens.groups.items) same_samples are.tokens) sections final found
-        (subst (λ (x : CodedSamples). MayHaveOwn w dim limits.depth_limit one_pass x l sections final most_codewords 0) same_samples own) count first_kept (length-map final (λ (v : Vec ℕ). v.items))
+        (subst (λ (x : CodedSamples). All (HaveTokens w dim one_pass x t l) tokens.groups.items) same_samples are.tokens) sections found written.count written.first_is
+        (length-map sections (λ (v : Vec ℕ). v.items))

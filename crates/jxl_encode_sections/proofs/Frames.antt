@@ -1,5 +1,5 @@
 -- Sections that were written are those of the frame.
-use Rattle.std.proofs.Common.{◌≡◌, ◌≢◌, ◌∙◌, ◌⊎◌, inl, inr, ℕ, zero, suc, ◌<◌, ◌≤◌, ℤ, List, [], length, map, IsTrue, Some, refl, sym, ap, subst, arith}
+use Rattle.std.proofs.Common.{◌≡◌, ◌≢◌, ◌∙◌, inl, inr, ℕ, zero, suc, ◌<◌, ◌≤◌, ℤ, List, [], length, map, IsTrue, Some, refl, sym, ap, subst, arith}
 use Rattle.std.specs.Prelude.{slice_get}
 use Rattle.std.specs.Global.{Vec}
 use Rattle.std.specs.Int.{Width}
@@ -14,7 +14,6 @@ use Rattle.jxlm_groups.specs.Pieces.{part_channels}
 use Rattle.jxlm_groups.specs.declared.part.SectionPart.{SectionPart}
 use Rattle.jxlm_groups.specs.declared.part.SectionPart.TheVariants as parts
 use Rattle.jxlm_groups.specs.declared.pass.Pass.{Pass}
-use Rattle.jxlm_groups.proofs.PartChannels.{few_channels}
 use Rattle.jxlm_samples.specs.Part.{cell_count}
 use Rattle.jxlm_section_split.specs.CutPicture.{one_pass}
 use Rattle.jxlm_transform.specs.Channels.{ChannelList}
@@ -26,20 +25,18 @@ use Rattle.jxl_codestream.specs.Layouts.{Layout, section_count_of, stream_index}
 use Rattle.jxl_coding.specs.Parse.{decoder_at, start_of}
 use Rattle.jxl_coding.specs.Tokens.{Entropy, entropy}
 use Rattle.jxl_coding.specs.Symbols.{Codes}
-use Rattle.jxl_encode_frame.specs.Codings.{AreSections, CodesBehindHeader, CodesByOwnTree}
-use Rattle.jxl_encode_frame.specs.Numbers.{section_among}
+use Rattle.jxl_encode_frame.specs.Codings.{AreSections, CodesBehindHeader}
 use Rattle.jxl_encode_image.specs.Preparations.{Preparation}
 use Rattle.jxl_encode_tree.specs.Trees.{IsClusteredTree}
 use Rattle.jxl_encode_sections.specs.Sections.{AreBehindHeader, AreFrameSections, IsFirstSection, most_codewords}
-use Rattle.jxl_encode_sections.specs.Inner.Groups.{HasSection, HaveTokens, IsKeptOrOwn, MayHaveOwn}
+use Rattle.jxl_encode_sections.specs.Inner.Groups.{HasSection, HaveTokens}
 use Rattle.jxl_encode_sections.specs.Inner.Parts.{AreTokensIn, CodedSamples, part_grids, part_of}
 use Rattle.jxl_encode_sections.specs.declared.parts.PartTokens.{PartTokens}
-use Rattle.jxl_lossless.specs.Codewords.{HasCodewords}
 use Rattle.jxl_lossless.specs.Sections.{section_of}
-use Rattle.jxl_encode_frame.proofs.Codewords.{own_codewords}
+use Rattle.jxl_encode_frame.proofs.Codewords.{sum_none}
 
 -- the tree, and the decoder of these codes
-abbrev pub config_by : Shape Leaf → Codes → Config Entropy
+abbrev config_by : Shape Leaf → Codes → Config Entropy
 config_by t codes = config_of t (start_of codes)
 
 -- a part whose tokens are behind a header is coded there
@@ -67,8 +64,8 @@ module _ (w : Width) (given : ChannelList) (image : List (Grid ℤ)) (ready : Pr
   coded = record { list = ready.coded.list; samples = ready.samples }
 
   -- the first section, and all groups with samples
-  module _ (global : AreTokensIn w group_dim one_pass coded t parts.Global 0 tokens) (groups : List PartTokens) (have : All (HaveTokens w group_dim one_pass coded t l) groups) (sections final : List (Vec ℕ))
-      (found : (part : SectionPart) → part ≢ parts.Global → 0 < cell_count (part_channels group_dim one_pass coded.list part) → HasSection codes l groups sections part) (own : MayHaveOwn w group_dim limits.depth_limit one_pass coded l sections final most_codewords 0) where
+  module _ (global : AreTokensIn w group_dim one_pass coded t parts.Global 0 tokens) (groups : List PartTokens) (have : All (HaveTokens w group_dim one_pass coded t l) groups) (sections : List (Vec ℕ))
+      (found : (part : SectionPart) → part ≢ parts.Global → 0 < cell_count (part_channels group_dim one_pass coded.list part) → HasSection codes l groups sections part) where
     -- by the tokens of the shared tree
     by_shared : (part : SectionPart) (h : HasSection codes l groups sections part) →
         CodesBehindHeader (entropy decoder_at) w (config_by t codes) [] (part_channels group_dim one_pass coded.list part) (stream_index l part) h.bytes 0 (part_grids group_dim one_pass coded part)
@@ -78,38 +75,18 @@ module _ (w : Width) (given : ChannelList) (image : List (Grid ℤ)) (ready : Pr
         subst (λ (r : SectionPart). AreTokensIn w group_dim one_pass coded t r (stream_index l r) h.own.tokens.items) h.is own in
         codes_behind w codes [] group_dim one_pass coded t part (stream_index l part) h.own.tokens.items h.bytes 0 h.end here h.samples
 
-    few_in : (part : SectionPart) → length (part_channels group_dim one_pass coded.list part) ≤ 65536
-    few_in part =
-        let below = few_channels group_dim one_pass coded.list part in
-        let most = ready.count in
-        omega (arith, below, most)
-
-    group_coded : (part : SectionPart) (n : ℕ) → HasSection codes l groups sections part → IsKeptOrOwn w group_dim limits.depth_limit one_pass coded l sections final part n →
-        (bytes : List ℕ) × (stream : ℕ) × (section_among l final part ≡ Some (bytes, stream))
-        × (CodesBehindHeader (entropy decoder_at) w (config_by t codes) [] (part_channels group_dim one_pass coded.list part) stream bytes 0 (part_grids group_dim one_pass coded part)
-        ⊎ (CodesByOwnTree (entropy decoder_at) w limits.depth_limit (part_channels group_dim one_pass coded.list part) stream bytes (part_grids group_dim one_pass coded part)
-        × HasCodewords (record { channels = part_channels group_dim one_pass coded.list part; nb_meta = 0 }) bytes 0 n))
-    group_coded part n h kept =
-        elim kept [
-          | inl same ↦ (h.bytes, stream_index l part, same ∙ h.found, inl (by_shared part h))
-          | inr o ↦
-              let (own, many) = o.1.1.1 in
-              let has = own_codewords (part_channels group_dim one_pass coded.list part) (few_in part) o.1.0 own.tree_at own.samples_at own.own own.header own.tree in
-              (o.1.0, stream_index l part, o.1.1.0, inr (own, subst (λ k. HasCodewords (record { channels = part_channels group_dim one_pass coded.list part; nb_meta = 0 }) o.1.0 0 k) many has))
-        ]
-
-    written : AreSections (entropy decoder_at) w (config_by t codes) given group_dim (record { depth = limits.depth_limit; codewords = most_codewords }) one_pass first is_first.tree_end (section_of l (map (λ v. v.items) final)) image
+    written : AreSections (entropy decoder_at) w (config_by t codes) given group_dim (record { depth = limits.depth_limit; codewords = most_codewords }) one_pass first is_first.tree_end (section_of l (map (λ v. v.items) sections)) image
     written = record {
       ready = ready;
       cut = cut;
       global = codes_behind w codes ready.transforms group_dim one_pass coded t parts.Global 0 tokens first is_first.tree_end q global is_first.samples;
-      codewords = own.0;
-      few = λ listed once. let most = own.2 listed once in omega (arith, most);
-      groups = λ part other some. group_coded part (own.0 part) (found part other some) (own.1 part);
+      codewords = λ part. 0;
+      few = λ listed once. let none = sum_none listed in omega (arith, none);
+      groups = λ part other some. let h = found part other some in (h.bytes, stream_index l part, h.found, inl (by_shared part h));
     }
 
-    pub frame_sections : length final ≡ section_count_of l → slice_get (map (λ (v : Vec ℕ). v.items) final) 0 ≡ Some first → length (map (λ (v : Vec ℕ). v.items) final) ≡ length final →
-        AreFrameSections w given l group_dim limits.node_limit limits.depth_limit (map (λ v. v.items) final) image
+    pub frame_sections : length sections ≡ section_count_of l → slice_get (map (λ (v : Vec ℕ). v.items) sections) 0 ≡ Some first → length (map (λ (v : Vec ℕ). v.items) sections) ≡ length sections →
+        AreFrameSections w given l group_dim limits.node_limit limits.depth_limit (map (λ v. v.items) sections) image
     frame_sections count at long = record {
       count = long ∙ count;
       first = first;

@@ -8,8 +8,6 @@ pub mod GroupLists
 pub mod FirstSections
 pub mod LeafClusters
 pub mod OneGroup
-pub mod AlphabetSums
-pub mod OwnTrees
 pub mod EncodedFrames
 pub mod CodedLists
 pub mod Codings

@@ -19,7 +19,7 @@ same_number m n = elim (cases_lt m n) [
 ]
 
 -- two parts are the same, or not
-pub part_cases : (a b : SectionPart) → (a ≡ b) ⊎ (a ≢ b)
+part_cases : (a b : SectionPart) → (a ≡ b) ⊎ (a ≢ b)
 part_cases parts.Global parts.Global = inl refl
 part_cases parts.Global (parts.Lf k) = inr (λ e. cc)
 part_cases parts.Global (parts.Pass p k) = inr (λ e. cc)

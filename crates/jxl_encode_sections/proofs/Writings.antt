@@ -10,10 +10,10 @@ use Rattle.jxlm_header.specs.Header.{header}
 use Rattle.jxlm_transform.specs.Transforms.{Transform}
 use Rattle.jxl_codestream.specs.Starts.{section_start}
 use Rattle.jxl_coding.specs.Symbols.{Codes}
-use Rattle.jxl_encode_image.specs.Preparations.{own_header, shared_header}
+use Rattle.jxl_encode_image.specs.Preparations.{shared_header}
 use Rattle.jxl_encode_tree.specs.Samples.{AreCoded}
 use Rattle.jxl_encode_tree.specs.Trees.{IsWrittenTree}
-use Rattle.jxl_encode_sections.specs.Sections.{AreBehindHeader, IsFirstSection, IsOwnSection}
+use Rattle.jxl_encode_sections.specs.Sections.{AreBehindHeader, IsFirstSection}
 
 -- a header, and samples after it
 pub part_written : (codes : Codes) (ts : List Transform) (tokens : List Token) (a b c : List ℕ) → Spells a b header (shared_header ts) → Adds b c (AreCoded codes tokens) → Adds a c (AreBehindHeader codes ts tokens)
@@ -24,12 +24,6 @@ pub first_written : (nodes : List EncodeNode) (codes : Codes) (ts : List Transfo
     Adds c d (AreBehindHeader codes ts tokens) → Adds a d (IsFirstSection nodes codes ts tokens)
 first_written nodes codes ts tokens a b c d s t u =
     becomes (after s (after t u)) (λ bytes p q h. record { tree_at = h.0; start = h.1; tree_end = h.2.0; tree = h.2.1; samples = h.2.2 })
-
--- a header that has a tree of its own, the tree, and samples after it
-pub own_written : (nodes : List EncodeNode) (codes : Codes) (tokens : List Token) (a b c d : List ℕ) → Spells a b header own_header → Adds b c (IsWrittenTree nodes codes) → Adds c d (AreCoded codes tokens) →
-    Adds a d (IsOwnSection nodes codes tokens)
-own_written nodes codes tokens a b c d s t u =
-    becomes (after s (after t u)) (λ bytes p q h. record { tree_at = h.0; header = h.1; tree_end = h.2.0; tree = h.2.1; coded = h.2.2 })
 
 -- what was added to no bits is at the first bit of their bytes
 pub at_first : {P : List ℕ → ℕ → ℕ → Type 0} (a b bytes : List ℕ) → a ≡ [] → Adds a b P → AreFilled bytes b → (end : ℕ) × P bytes 0 end

@@ -18,7 +18,7 @@ use Rattle.jxl_coding.specs.Parse.{decoder_at}
 use Rattle.jxl_coding.specs.Symbols.{Codes}
 use Rattle.jxl_coding.specs.Tokens.{Entropy, entropy}
 use Rattle.jxl_encode_frame.specs.Codings.{AreSections}
-use Rattle.jxl_encode_image.specs.Preparations.{own_header, shared_header}
+use Rattle.jxl_encode_image.specs.Preparations.{shared_header}
 use Rattle.jxl_encode_tree.specs.Samples.{AreCoded}
 use Rattle.jxl_encode_tree.specs.Trees.{IsWrittenTree}
 use Rattle.jxl_lossless.specs.Sections.{section_of}
@@ -39,22 +39,13 @@ pub record IsFirstSection (nodes : List EncodeNode) (codes : Codes) (ts : List T
   pub tree : IsWrittenTree nodes codes bytes tree_at tree_end
   pub samples : AreBehindHeader codes ts tokens bytes tree_end q
 
--- From bit p up to bit q are a header that has a tree of its own, the tree of these nodes with these codes at its leaves, and the
--- samples of each part that has these tokens.
-pub record IsOwnSection (nodes : List EncodeNode) (codes : Codes) (tokens : List Token) (bytes : List ℕ) (p q : ℕ) : Type 0 where
-  pub tree_at : ℕ
-  pub header : header.Stands bytes p own_header tree_at
-  pub tree_end : ℕ
-  pub tree : IsWrittenTree nodes codes bytes tree_at tree_end
-  pub coded : AreCoded codes tokens bytes tree_end q
-
 -- the maximum of codewords that the codes of groups' own trees may have in a frame: a decoder's default limit
 abbrev pub most_codewords : ℕ
 most_codewords = 2 ^ 26
 
 -- These are the sections of a frame of one pass, which is cut like this: the first begins with the default factors and the tree
--- that they share, which is within these limits, and from there on they have these channels. Some groups have trees of their own,
--- which are at most as deep, and whose codes have no more codewords than the maximum.
+-- that they share, which is within these limits, and from there on they have these channels. Groups may have trees of their own,
+-- at most as deep, whose codes have no more codewords than the maximum; `encode_sections` writes none.
 pub record AreFrameSections (w : Width) (given : ChannelList) (l : Layout) (group_dim node_limit deepest : ℕ) (sections : List (List ℕ)) (image : List (Grid ℤ)) : Type 0 where
   pub count : length sections ≡ section_count_of l
   pub first : List ℕ

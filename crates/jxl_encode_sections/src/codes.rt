@@ -1,18 +1,14 @@
 //! One code for the tokens of all parts.
 
-ghost use Rattle.std.specs.Prelude.{◌≡◌, ◌<◌, ◌≤◌, ◌++◌, Option, Ok, IfOk};
+ghost use Rattle.std.specs.Prelude.{◌≡◌, ◌<◌, ◌≤◌, ◌++◌, Ok, IfOk};
 ghost use Rattle.std.specs.List.{All};
 ghost use Rattle.jxl_coding.specs.Clusters.{count_of};
-ghost use Rattle.jxl_coding_build.specs.AnyWriters.{codes_in};
-ghost use Rattle.jxl_coding_stream_write.specs.Codes.{codes_with};
 ghost use Rattle.jxl_coding_stream_write.specs.Heads.{IsHead};
 ghost use Rattle.jxl_coding_stream_write.specs.Tokens.{HasSlot};
 ghost use Rattle.jxl_encode_sections.specs.Inner.Parts.{all_tokens};
 
 use crate::parts::PartTokens;
-use jxl_coding_build::any::AnyWriter;
 use jxl_coding_build::streams::writer_for;
-use jxl_coding_codes::fields::power;
 use jxl_coding_stream_write::stream::StreamWriter;
 use jxlm_base::grid::OutOfMemory;
 use jxlm_bit_writer::token::Token;
@@ -75,21 +71,4 @@ pub(crate) fn codes_for(
     let own = copied(alloc, clusters)?;
     let codes = writer_for(alloc, own, many, &tokens)?;
     Ok(codes)
-}
-
-/// How many codewords the codes of clusters may have: the sum of the sizes of their alphabets.
-fn codewords_in(codes: &StreamWriter) -> u64
-    ensures { (copies : Option _) → result ≡ (codes_with copies codes.now).alphabets }
-{
-    codes.codes.len() as u64 * u64::from(power(codes.log))
-}
-
-/// How many codewords these codes may have.
-pub(crate) fn codewords_of(codes: &AnyWriter) -> u64
-    ensures { result ≡ (codes_in codes.now).alphabets }
-{
-    match codes {
-        AnyWriter::Plain(writer) => codewords_in(writer),
-        AnyWriter::Copying(writer) => codewords_in(&writer.codes),
-    }
 }

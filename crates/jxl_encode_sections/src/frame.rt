@@ -1,8 +1,7 @@
 //! All sections of a frame.
 
-ghost use Rattle.std.specs.Prelude.{◌≡◌, ◌≢◌, ◌⊎◌, ◌<◌, ◌≤◌, ◌^◌, Ok, length, map, true, IfOk, IfErr};
+ghost use Rattle.std.specs.Prelude.{◌≡◌, ◌≢◌, ◌<◌, ◌≤◌, ◌^◌, Ok, length, map, true, IfOk, IfErr};
 ghost use Rattle.std.specs.List.{All};
-ghost use Rattle.std.specs.Option.{IfSome};
 ghost use Rattle.jxl_codestream.specs.LayoutParts.{parts_of};
 ghost use Rattle.jxl_codestream.specs.Layouts.{has_part, layout_of, section_count_of};
 ghost use Rattle.jxl_coding.specs.Clusters.{count_of};
@@ -11,9 +10,8 @@ ghost use Rattle.jxl_encode_frame.specs.Laws.{IsOfSize};
 ghost use Rattle.jxl_encode_frame.specs.Numbers.{HasNumber};
 ghost use Rattle.jxl_encode_image.specs.Images.{LieCoded, samples_in};
 ghost use Rattle.jxl_encode_image.specs.Preparations.{IsSpelled, image_transforms};
-ghost use Rattle.jxl_encode_sections.specs.Inner.Frames.{AreByTokens, AreTokensOfFrame, AreWrittenSections, IsFrameBy, IsFrameOfCoded};
-ghost use Rattle.jxl_encode_sections.specs.Inner.Groups.{MayHaveOwn};
-ghost use Rattle.jxl_encode_sections.specs.Sections.{AreFrameSections, most_codewords};
+ghost use Rattle.jxl_encode_sections.specs.Inner.Frames.{AreByTokens, AreTokensOfFrame, AreWrittenSections, IsFrameOfCoded};
+ghost use Rattle.jxl_encode_sections.specs.Sections.{AreFrameSections};
 ghost use Rattle.jxl_encode_tree.specs.Trees.{IsNoTree};
 ghost use Rattle.jxl_image_header.specs.declared.size.Size.{Size};
 ghost use Rattle.jxlm_base.specs.Regions.{store_meanings};
@@ -35,7 +33,6 @@ use crate::codes::codes_for;
 use crate::copies::{copies_at, copying_for};
 use crate::groups::{CopySearch, CutImage, put_groups, tokens_of_parts};
 use crate::list::{groups_of, one_pass};
-use crate::own::{GroupTree, put_own_sections};
 use crate::parts::{PartTokens, part_tokens};
 use crate::section::first_section;
 use jxl_codestream::layout::Layout;
@@ -57,8 +54,7 @@ use jxlm_transform::param::ModularChannelParams;
 use jxlm_tree::ma::MaConfigParams;
 use std::alloc::{AllocError, Global};
 
-/// The tree of a frame: its nodes, and the cluster of each leaf, in the order of the leaves; and trees that groups may have
-/// of their own.
+/// The tree of a frame: its nodes, and the cluster of each leaf, in the order of the leaves.
 #[derive(Clone, Copy)]
 pub struct FrameTree<'a> {
     /// Its nodes, level by level, the left child before the right.
@@ -67,8 +63,6 @@ pub struct FrameTree<'a> {
     pub clusters: &'a [u8],
     /// How large it may be in this frame.
     pub limits: MaConfigParams,
-    /// Trees that groups may have of their own, at most as deep as that of the frame may be.
-    pub own: &'a [GroupTree],
     /// How often copies of earlier tokens are looked for, if they are.
     pub copies: Option<Searches>,
 }
@@ -188,52 +182,8 @@ fn search_in(
     })
 }
 
-/// Sections, in which those of groups that have a tree of their own are by it where they are shorter. Copies are searched for
-/// such a section, if `search` says how.
-fn with_own<S: Sample>(
-    alloc: Global,
-    sections: Vec<Vec<u8>>,
-    image: &CutImage<'_, S>,
-    tree: &FrameTree<'_>,
-    search: Option<CopySearch>,
-) -> Result<Vec<Vec<u8>>, OutOfMemory>
-    requires group_dim { IsGroupDim image.now.group_dim }
-    requires lie { LieCoded image.now.coded.now.channels image.now.coded.now.store.items }
-    requires depth { tree.now.limits.depth_limit ≤ 2048 }
-    requires count { length sections.items ≡ section_count_of (parts_of image.now.layout.now) }
-    ensures count { IfOk result (λ v. length v.items ≡ section_count_of (parts_of image.now.layout.now)) }
-    ensures own { IfOk result (λ v. MayHaveOwn S.width image.now.group_dim tree.now.limits.depth_limit the_pass (record {
-      list = list_of image.now.coded.now.channels;
-      samples = samples_in S.to_int image.now.coded.now.channels image.now.coded.now.store.items;
-    })
-        (parts_of image.now.layout.now) sections.items v.items most_codewords 0) }
-{
-    let mut sections = sections;
-    let deepest = tree.limits.depth_limit;
-    put_own_sections(alloc, &mut sections, image, tree.own, deepest, search)?;
-    Ok(sections)
-}
-
-/// The shorter of two lists of sections.
-fn shorter_of(first: Vec<Vec<u8>>, second: Vec<Vec<u8>>) -> Vec<Vec<u8>>
-    ensures { (result ≡ first) ⊎ (result ≡ second) }
-{
-    if length_of(&second) < length_of(&first) {
-        second
-    } else {
-        first
-    }
-}
-
-/// The sections of a frame without copies; and with copies, if they are shorter.
-#[derive(Drop)]
-struct BothWays {
-    plain: Vec<Vec<u8>>,
-    copied: Option<Vec<Vec<u8>>>,
-}
-
-/// The sections of a frame by the tokens of its parts, without copies and with them.
-fn both_ways(
+/// The sections of a frame by the tokens of its parts: without copies, or with, whichever are shorter.
+fn shorter_sections(
     alloc: Global,
     tree: &FrameTree<'_>,
     layout: &Layout,
@@ -241,7 +191,7 @@ fn both_ways(
     transforms: &[ImageTransform],
     tokens: &FrameTokens,
     search: Option<CopySearch>,
-) -> Result<BothWays, OutOfMemory>
+) -> Result<Vec<Vec<u8>>, OutOfMemory>
     requires properties { All (λ n. has_token n ≡ true) tree.now.nodes.now }
     requires nodes { length tree.now.nodes.now ≤ 2 ^ 26 }
     requires contexts { length tree.now.clusters.now ≡ leaves_in tree.now.nodes.now }
@@ -253,20 +203,15 @@ fn both_ways(
     requires tokens { All (λ p. All (λ t. t.cluster < many) p.tokens.items) tokens.now.groups.items }
     requires numbers { All (λ p. HasNumber (parts_of layout.now) p.part) tokens.now.groups.items }
     requires others { All (λ p. p.part ≢ parts.Global) tokens.now.groups.items }
-    ensures plain { IfOk result (λ b. AreByTokens tree.now.nodes.now tree.now.clusters.now (image_transforms transforms.now)
-        (parts_of layout.now) tokens.now b.plain.items) }
-    ensures copied { IfOk result (λ b. IfSome b.copied (λ v. AreByTokens tree.now.nodes.now tree.now.clusters.now
-        (image_transforms transforms.now) (parts_of layout.now) tokens.now v.items)) }
+    ensures { IfOk result (λ v. AreByTokens tree.now.nodes.now tree.now.clusters.now (image_transforms transforms.now)
+        (parts_of layout.now) tokens.now v.items) }
 {
     let codes = codes_for(alloc, tree.clusters, many, &tokens.global, &tokens.groups)?;
     let with_copies = copying_for(alloc, &codes, &tokens.global, &tokens.groups, search)?;
     let codes = AnyWriter::Plain(codes);
     let plain = written(alloc, layout, tree.nodes, &codes, transforms, tokens, &[])?;
     let Some(copying) = with_copies else {
-        return Ok(BothWays {
-            plain,
-            copied: None,
-        });
+        return Ok(plain);
     };
     let copied = written(
         alloc,
@@ -278,63 +223,12 @@ fn both_ways(
         &copying.copies,
     )?;
     if length_of(&copied) >= length_of(&plain) {
-        return Ok(BothWays {
-            plain,
-            copied: None,
-        });
+        return Ok(plain);
     }
-    Ok(BothWays {
-        plain,
-        copied: Some(copied),
-    })
+    Ok(copied)
 }
 
-/// The sections of a frame by the tokens of its parts: without copies, or with, whichever are shorter. A group has a tree of
-/// its own where its section is shorter by it. Copies are only searched for these trees if sections without them are shorter
-/// with copies.
-fn shorter_sections<S: Sample>(
-    alloc: Global,
-    image: &CutImage<'_, S>,
-    tree: &FrameTree<'_>,
-    many: u32,
-    transforms: &[ImageTransform],
-    tokens: &FrameTokens,
-    search: Option<CopySearch>,
-) -> Result<Vec<Vec<u8>>, OutOfMemory>
-    requires group_dim { IsGroupDim image.now.group_dim }
-    requires lie { LieCoded image.now.coded.now.channels image.now.coded.now.store.items }
-    requires depth { tree.now.limits.depth_limit ≤ 2048 }
-    requires properties { All (λ n. has_token n ≡ true) tree.now.nodes.now }
-    requires nodes { length tree.now.nodes.now ≤ 2 ^ 26 }
-    requires contexts { length tree.now.clusters.now ≡ leaves_in tree.now.nodes.now }
-    requires few { many ≤ 256 }
-    requires used { count_of tree.now.clusters.now ≡ Ok many }
-    requires transforms { length transforms.now ≤ 273 }
-    requires spelled { All IsSpelled (image_transforms transforms.now) }
-    requires first { All (λ t. t.cluster < many) tokens.now.global.items }
-    requires tokens { All (λ p. All (λ t. t.cluster < many) p.tokens.items) tokens.now.groups.items }
-    requires numbers { All (λ p. HasNumber (parts_of image.now.layout.now) p.part) tokens.now.groups.items }
-    requires others { All (λ p. p.part ≢ parts.Global) tokens.now.groups.items }
-    ensures { IfOk result (λ v. IsFrameBy S.width image.now.group_dim tree.now.limits.depth_limit (record {
-      list = list_of image.now.coded.now.channels;
-      samples = samples_in S.to_int image.now.coded.now.channels image.now.coded.now.store.items;
-    })
-        (parts_of image.now.layout.now) tree.now.nodes.now tree.now.clusters.now (image_transforms transforms.now) tokens.now
-        v.items) }
-{
-    let ways = both_ways(alloc, tree, image.layout, many, transforms, tokens, search)?;
-    let BothWays { plain, copied } = ways;
-    let Some(copied) = copied else {
-        let own = with_own(alloc, plain, image, tree, None)?;
-        return Ok(own);
-    };
-    let own = with_own(alloc, plain, image, tree, search)?;
-    let other = with_own(alloc, copied, image, tree, search)?;
-    Ok(shorter_of(own, other))
-}
-
-/// The sections of a frame of one pass by a coded image. A group has a tree of its own, and tokens are copied, where sections
-/// are shorter by it.
+/// The sections of a frame of one pass by a coded image. Tokens are copied where sections are shorter by it.
 fn sections_of_coded<S: Sample>(
     alloc: Global,
     given: &[ModularChannelParams],
@@ -374,8 +268,8 @@ fn sections_of_coded<S: Sample>(
     let search = search_in(given, tree.copies, cut.group_dim);
     let sections = shorter_sections(
         alloc,
-        &image,
         tree,
+        cut.layout,
         many,
         &coded.transforms,
         &tokens,
@@ -385,8 +279,7 @@ fn sections_of_coded<S: Sample>(
 }
 
 /// The sections of a frame of one pass with these channels, all of one size, by the transforms of a plan that suit them.
-/// They have the grids, whatever else is in the file. A group has a tree of its own, and tokens are copied, where sections are
-/// shorter by it.
+/// They have the grids, whatever else is in the file. Tokens are copied where sections are shorter by it.
 ///
 /// # Errors
 ///

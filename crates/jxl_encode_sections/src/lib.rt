@@ -8,6 +8,5 @@ pub mod frame;
 mod groups;
 pub mod laws;
 mod list;
-pub mod own;
 mod parts;
 mod section;

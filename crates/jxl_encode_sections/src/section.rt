@@ -7,12 +7,12 @@ ghost use Rattle.jxlm_encode_write.specs.Nodes.{has_token};
 ghost use Rattle.jxlm_encode_write.specs.Trees.{leaves_in};
 ghost use Rattle.jxl_coding_build.specs.AnyWriters.{HasHead, HaveSlots, codes_in};
 ghost use Rattle.jxl_encode_image.specs.Preparations.{IsSpelled, image_transforms};
-ghost use Rattle.jxl_encode_sections.specs.Sections.{AreBehindHeader, IsFirstSection, IsOwnSection};
+ghost use Rattle.jxl_encode_sections.specs.Sections.{AreBehindHeader, IsFirstSection};
 
 use jxl_codestream_write::start::write_section_start;
 use jxl_coding_build::any::AnyWriter;
 use jxl_coding_stream_write::copies::TokenCopy;
-use jxl_encode_image::header::{write_own_header, write_shared_header};
+use jxl_encode_image::header::write_shared_header;
 use jxl_encode_image::transform::ImageTransform;
 use jxl_encode_tree::samples::write_samples;
 use jxl_encode_tree::tree::write_tree;
@@ -82,30 +82,6 @@ pub(crate) fn first_section(
     write_section_start(&mut bits, true)?;
     write_tree(alloc, &mut bits, nodes, codes)?;
     write_part(alloc, &mut bits, codes, transforms, tokens, copies)?;
-    let bytes = bits.into_bytes()?;
-    Ok(bytes)
-}
-
-/// The section of a group by a tree of its own: a header without transforms, the tree, and the samples of the group by
-/// their tokens.
-pub(crate) fn own_section(
-    alloc: Global,
-    nodes: &[EncodeNode],
-    codes: &AnyWriter,
-    tokens: &[Token],
-    copies: &[TokenCopy],
-) -> Result<Vec<u8>, AllocError>
-    requires properties { All (λ n. has_token n ≡ true) nodes.now }
-    requires few { length nodes.now ≤ 2 ^ 26 }
-    requires head { HasHead codes.now }
-    requires contexts { length (codes_in codes.now).clusters ≡ leaves_in nodes.now }
-    requires slots { HaveSlots codes.now tokens.now }
-    ensures { IfOk result (λ v. (end : ℕ) × IsOwnSection nodes.now (codes_in codes.now) tokens.now v.items 0 end) }
-{
-    let mut bits = BitWriter::new(alloc);
-    write_own_header(&mut bits)?;
-    write_tree(alloc, &mut bits, nodes, codes)?;
-    write_samples(alloc, &mut bits, codes, tokens, copies)?;
     let bytes = bits.into_bytes()?;
     Ok(bytes)
 }

@@ -13,8 +13,8 @@ use Rattle.jxlm_tree.specs.declared.ma.MaConfigParams.{MaConfigParams}
 use Rattle.jxl_codestream.specs.Layouts.{Layout, section_count_of}
 use Rattle.jxl_coding.specs.Symbols.{Codes}
 use Rattle.jxl_encode_tree.specs.Trees.{IsClusteredTree}
-use Rattle.jxl_encode_sections.specs.Sections.{IsFirstSection, most_codewords}
-use Rattle.jxl_encode_sections.specs.Inner.Groups.{AreGroupsOf, HasSection, HaveTokens, MayHaveOwn}
+use Rattle.jxl_encode_sections.specs.Sections.{IsFirstSection}
+use Rattle.jxl_encode_sections.specs.Inner.Groups.{AreGroupsOf, HasSection, HaveTokens}
 use Rattle.jxl_encode_sections.specs.Inner.Parts.{AreTokensIn, CodedSamples}
 use Rattle.jxl_encode_sections.specs.declared.frame.FrameTokens.{FrameTokens}
 
@@ -37,17 +37,10 @@ pub record AreWrittenSections (nodes : List EncodeNode) (codes : Codes) (ts : Li
 abbrev pub AreByTokens : List EncodeNode → List ℕ → List Transform → Layout → FrameTokens → List (Vec ℕ) → Type 0
 AreByTokens nodes clusters ts l t sections = (codes : Codes) × (codes.clusters ≡ clusters) × AreWrittenSections nodes codes ts l t sections
 
--- These sections are by the tokens of the parts, but that groups may have trees of their own.
-pub record IsFrameBy (w : Width) (group_dim deepest : ℕ) (coded : CodedSamples) (l : Layout) (nodes : List EncodeNode) (clusters : List ℕ) (ts : List Transform) (t : FrameTokens) (sections : List (Vec ℕ)) : Type 0 where
-  pub before : List (Vec ℕ)
-  pub by_tokens : AreByTokens nodes clusters ts l t before
-  pub count : length sections ≡ section_count_of l
-  pub own : MayHaveOwn w group_dim deepest one_pass coded l before sections most_codewords 0
-
 -- These sections are by the tokens of a coded image, by a tree that the nodes and clusters list within the limits.
 pub record IsFrameOfCoded (w : Width) (group_dim : ℕ) (limits : MaConfigParams) (nodes : List EncodeNode) (clusters : List ℕ) (ts : List Transform) (coded : CodedSamples) (l : Layout) (sections : List (Vec ℕ)) : Type 0 where
   pub tree : Shape Leaf
   pub is_tree : IsClusteredTree nodes clusters limits tree
   pub tokens : FrameTokens
   pub are : AreTokensOfFrame w group_dim coded tree l tokens
-  pub by : IsFrameBy w group_dim limits.depth_limit coded l nodes clusters ts tokens sections
+  pub by : AreByTokens nodes clusters ts l tokens sections

@@ -1,55 +1,54 @@
-use Rattle.std.proofs.Common.{inl, inr, ℕ, Option, sym, subst}
-use Rattle.std.specs.Global.{Vec}
+use Rattle.std.proofs.Common.{◌≡◌, ◌∙◌, ◌<◌, List, Option, length, ap, sym, subst}
+use Rattle.std.specs.List.{All}
 use Rattle.std.specs.Option.{IfSome}
-use Rattle.jxlm_transform.specs.Lists.{list_of}
-use Rattle.jxl_codestream.specs.LayoutParts.{parts_of}
-use Rattle.jxl_encode_image.specs.Images.{samples_in}
-use Rattle.jxl_encode_image.specs.Preparations.{image_transforms}
-use Rattle.jxl_encode_sections.specs.Inner.Frames.{AreByTokens, IsFrameBy}
-use Rattle.jxl_encode_sections.specs.Inner.Parts.{CodedSamples}
+use Rattle.jxlm_bit_writer.specs.declared.token.Token.{Token}
+use Rattle.jxl_coding_build.specs.AnyWriters.{HasHead, HaveSlots, codes_in}
+use Rattle.jxl_coding_stream_write.specs.Codes.{codes_of}
+use Rattle.jxl_coding_stream_write.specs.Tokens.{HasSlot}
+use Rattle.jxl_encode_sections.specs.declared.copies.CopyCodes.{CopyCodes}
+use Rattle.jxl_encode_sections.specs.declared.parts.PartTokens.{PartTokens}
 use Rattle.jxl_encode_sections.proofs.frame.shorter_sections.Goals as goal
 
-pub with_own-requires-clause-count : goal.with_own-requires-clause-count
-with_own-requires-clause-count g c κs within = c.in_ok-ways.ensures.plain.2.count
+pub codes_for-requires-clause-first : goal.codes_for-requires-clause-first
+codes_for-requires-clause-first c = subst (λ (ts : List Token). All (λ (t : Token). t.cluster < c.args.many) ts) (sym c.deref.ensures.value) c.requires.first
 
-pub with_own-requires-2-clause-count : goal.with_own-requires-2-clause-count
-with_own-requires-2-clause-count g c κs within = c.in_ok-ways.ensures.plain.2.count
+pub codes_for-requires-clause-tokens : goal.codes_for-requires-clause-tokens
+codes_for-requires-clause-tokens c =
+    subst (λ (ps : List PartTokens). All (λ (p : PartTokens). All (λ (t : Token). t.cluster < c.args.many) p.tokens.items) ps) (sym c.deref-2.ensures.value) c.requires.tokens
 
-pub with_own-requires-3-clause-count : goal.with_own-requires-3-clause-count
-with_own-requires-3-clause-count g c κs within =
-    let image = c.args.image.now in
-    let tree = c.args.tree.now in
-    let by = subst (λ (o : Option (Vec (Vec ℕ))). IfSome o (λ v. AreByTokens tree.nodes.now tree.clusters.now (image_transforms c.args.transforms.now) (parts_of image.layout.now) c.args.tokens.now v.items)) c.in-Some.is c.in_ok-ways.ensures.copied in
-    by.2.count
+pub written-requires-clause-contexts : goal.written-requires-clause-contexts
+written-requires-clause-contexts c = ap length c.in_ok-codes.ensures.clusters ∙ c.requires.contexts
+
+pub written-requires-clause-first : goal.written-requires-clause-first
+written-requires-clause-first c = subst (All (HasSlot c.in_ok-codes.codes.codes.items)) c.deref.ensures.value c.in_ok-codes.ensures.first
+
+pub written-requires-clause-slots : goal.written-requires-clause-slots
+written-requires-clause-slots c =
+    subst (λ (ps : List PartTokens). All (λ (p : PartTokens). All (HasSlot c.in_ok-codes.codes.codes.items) p.tokens.items) ps) c.deref-2.ensures.value c.in_ok-codes.ensures.slots
+
+pub written-requires-2-clause-head : goal.written-requires-2-clause-head
+written-requires-2-clause-head c = subst (λ (o : Option CopyCodes). IfSome o (λ k. HasHead k.codes)) c.in-Some.is c.in_ok-with_copies.ensures.head
+
+pub written-requires-2-clause-contexts : goal.written-requires-2-clause-contexts
+written-requires-2-clause-contexts c =
+    ap length (subst (λ (o : Option CopyCodes). IfSome o (λ k. (codes_in k.codes).clusters ≡ c.in_ok-codes.codes.clusters.items)) c.in-Some.is c.in_ok-with_copies.ensures.clusters) ∙ ap length c.in_ok-codes.ensures.clusters
+    ∙ c.requires.contexts
+
+pub written-requires-2-clause-first : goal.written-requires-2-clause-first
+written-requires-2-clause-first c =
+    subst (HaveSlots c.in-Some.copying.codes) c.deref-3.ensures.value (subst (λ (o : Option CopyCodes). IfSome o (λ k. HaveSlots k.codes c.deref-3.result.now)) c.in-Some.is c.in_ok-with_copies.ensures.first)
+
+pub written-requires-2-clause-slots : goal.written-requires-2-clause-slots
+written-requires-2-clause-slots c =
+    subst (λ (ps : List PartTokens). All (λ (p : PartTokens). HaveSlots c.in-Some.copying.codes p.tokens.items) ps) c.deref-4.ensures.value
+    (subst (λ (o : Option CopyCodes). IfSome o (λ k. All (λ (p : PartTokens). HaveSlots k.codes p.tokens.items) c.deref-4.result.now)) c.in-Some.is c.in_ok-with_copies.ensures.parts)
 
 pub returns-in_default : goal.returns-in_default
-returns-in_default g c = record {
-  before = c.in_ok-ways.ways.plain.items;
-  by_tokens = c.in_ok-ways.ensures.plain;
-  count = c.in_ok-own.ensures.count;
-  own = c.in_ok-own.ensures.own;
-}
+returns-in_default c = (codes_of c.in_ok-codes.codes, c.in_ok-codes.ensures.clusters, c.in_ok-plain.ensures)
 
 pub returns : goal.returns
-returns g c =
-    let image = c.args.image.now in
-    let tree = c.args.tree.now in
-    let coded : CodedSamples = record { list = list_of image.coded.now.channels; samples = samples_in g.S.Sealed.to_int image.coded.now.channels image.coded.now.store.items } in
-    let l = parts_of image.layout.now in
-    let by = subst (λ (o : Option (Vec (Vec ℕ))). IfSome o (λ v. AreByTokens tree.nodes.now tree.clusters.now (image_transforms c.args.transforms.now) l c.args.tokens.now v.items)) c.in-Some.is c.in_ok-ways.ensures.copied in
-    elim (c.shorter_of.ensures) [
-      | inl e ↦
-          subst (λ (v : Vec (Vec ℕ)). IsFrameBy g.S.Sealed.width image.group_dim tree.limits.depth_limit coded l tree.nodes.now tree.clusters.now (image_transforms c.args.transforms.now) c.args.tokens.now v.items) (sym e) (record {
-            before = c.in_ok-ways.ways.plain.items;
-            by_tokens = c.in_ok-ways.ensures.plain;
-            count = c.in_ok-own-2.ensures.count;
-            own = c.in_ok-own-2.ensures.own;
-          })
-      | inr e ↦
-          subst (λ (v : Vec (Vec ℕ)). IsFrameBy g.S.Sealed.width image.group_dim tree.limits.depth_limit coded l tree.nodes.now tree.clusters.now (image_transforms c.args.transforms.now) c.args.tokens.now v.items) (sym e) (record {
-            before = c.in-Some.copied.items;
-            by_tokens = by;
-            count = c.in_ok-other.ensures.count;
-            own = c.in_ok-other.ensures.own;
-          })
-    ]
+returns c = (
+  codes_in c.in-Some.copying.codes,
+  subst (λ (o : Option CopyCodes). IfSome o (λ k. (codes_in k.codes).clusters ≡ c.in_ok-codes.codes.clusters.items)) c.in-Some.is c.in_ok-with_copies.ensures.clusters ∙ c.in_ok-codes.ensures.clusters,
+  c.in_ok-copied.ensures,
+)
