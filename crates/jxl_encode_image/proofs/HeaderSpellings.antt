@@ -1,4 +1,4 @@
--- Spellings of a header that uses the frame's tree, or has one of its own.
+-- Spellings of a header that uses the frame's tree.
 use Rattle.std.proofs.Common.{◌≡◌, ◌∙◌, ℕ, ◌+◌, ◌<◌, ◌≤◌, arith, get_or, length, take, List, [], Bool, true, false, codes, if◌then◌else◌, Option, None, Some, refl, sym, ap, subst}
 use Rattle.std.specs.Prelude.{◌==◌, ok_or, slice_get}
 use Rattle.std.specs.List.{All}
@@ -18,7 +18,7 @@ use Rattle.jxlm_predictor.specs.declared.predictor.Predictor.TheVariants.{West, 
 use Rattle.jxlm_weighted.specs.WeightsHeader.{default_weights}
 use Rattle.jxlm_weighted.specs.declared.weights.WpHeader.{WpHeader}
 use Rattle.jxl_encode_palette.specs.Palettes.{plain_predictor}
-use Rattle.jxl_encode_image.specs.Preparations.{IsPlainPalette, IsSpelled, image_transforms, own_header, shared_header, transform_listed}
+use Rattle.jxl_encode_image.specs.Preparations.{IsPlainPalette, IsSpelled, image_transforms, shared_header, transform_listed}
 use Rattle.jxl_encode_image.specs.declared.transform.ImageTransform.{ImageTransform}
 use Rattle.jxl_encode_image.specs.Inner.Lists.{transform_list}
 
@@ -79,7 +79,3 @@ header_spelled ts b0 b1 b2 b3 f g l =
     becomes (after f (after g l)) (λ bytes p q s.
     let (count, k, counted, listed) = s.2.2 in
     (true, s.0, s.1, (default_weights, s.2.0, (true, s.2.0, s.2.1, (refl, refl)), (count, k, counted, (ts, q, listed, (refl, refl))))))
-
-pub own_spelled : (b0 b1 b2 b3 : List ℕ) → Spells b0 b1 flag false → Spells b1 b2 flag true → Spells b2 b3 (u32 (Const 0) (Const 1) (Offset 2 4) (Offset 18 8)) 0 → Spells b0 b3 header own_header
-own_spelled b0 b1 b2 b3 f g u =
-    becomes (after f (after g u)) (λ bytes p q s. (false, s.0, s.1, (default_weights, s.2.0, (true, s.2.0, s.2.1, (refl, refl)), (0, q, s.2.2, ([], q, (refl, refl), (refl, refl))))))

@@ -1,5 +1,4 @@
-//! The Modular header of a part that uses the tree of its frame, or has one of its own, written (ISO/IEC 18181-1, Modular: Modular header,
-//! TransformInfo).
+//! The Modular header of a part that uses the tree of its frame, written (ISO/IEC 18181-1, Modular: Modular header, TransformInfo).
 
 ghost use Rattle.std.specs.Prelude.{◌≡◌, ◌≤◌, IfOk, length};
 ghost use Rattle.std.specs.List.{All};
@@ -9,7 +8,7 @@ ghost use Rattle.jxlm_bit_writer.specs.Writes.{Spells};
 ghost use Rattle.jxlm_header.specs.Header.{header};
 ghost use Rattle.jxlm_transform.specs.Transforms.{IsRct, OfPalette, OfRct, transform as the_transform};
 ghost use Rattle.jxlm_weighted.specs.WeightsHeader.{default_weights};
-ghost use Rattle.jxl_encode_image.specs.Preparations.{IsPlainPalette, IsSpelled, image_transforms, own_header, shared_header, transform_listed};
+ghost use Rattle.jxl_encode_image.specs.Preparations.{IsPlainPalette, IsSpelled, image_transforms, shared_header, transform_listed};
 ghost use Rattle.jxl_encode_image.specs.Inner.Lists.{transform_list};
 
 use crate::transform::ImageTransform;
@@ -157,16 +156,5 @@ pub fn write_shared_header(
     write_flag(bits, true)?;
     write_flag(bits, true)?;
     write_transforms(bits, transforms)?;
-    Ok(())
-}
-
-/// Adds the header of a part that has a tree of its own, with the default weights and without transforms. The parser reads
-/// this header there.
-pub fn write_own_header(bits: &mut BitWriter) -> Result<(), AllocError>
-    ensures { IfOk result (λ _. Spells bits.old bits.new header own_header) }
-{
-    write_flag(bits, false)?;
-    write_flag(bits, true)?;
-    write_count(bits, 0)?;
     Ok(())
 }

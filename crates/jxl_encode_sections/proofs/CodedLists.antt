@@ -2,7 +2,7 @@
 use Rattle.std.proofs.Common.{◌≡◌, ◌∙◌, ◌⊎◌, inl, inr, ℕ, zero, suc, ◌+◌, ◌-◌, ◌<◌, ◌≤◌, Bool, true, false, ℤ, List, [], ◌∷◌, ◌++◌, length, get_or, leb-true, take, drop, IsTrue, Result, Ok, refl, sym, ap, subst, arith, nat_lt, nat_le, not, ◌||◌, if◌then◌else◌}
 use Rattle.std.specs.Prelude.{◌&&◌}
 use Rattle.std.specs.Int.{Width}
-use Rattle.std.specs.List.{All, list_all, prefix_len}
+use Rattle.std.specs.List.{All, list_all}
 use Rattle.std.proofs.lemmas.Bool.{cases_lt, le-ltb, lt-ltb}
 use Rattle.std.proofs.lemmas.List.{get_or-append_right, get_or-drop, get_or-take, get_or_append_left, length-append, length-drop, length-take}
 use Rattle.std.proofs.lemmas.List.Elements.{All-head, All-tail}
@@ -11,13 +11,12 @@ use Rattle.jxlm_bits.specs.ErrorKind.{BadPalette, BadRct, ErrorKind}
 use Rattle.jxlm_base.specs.Grid.{Grid}
 use Rattle.jxlm_groups.specs.Cutting.{can_cut, fits_group, global_count, has_cells}
 use Rattle.jxlm_transform.specs.Channels.{Channel, ChannelList, image_list}
-use Rattle.jxlm_transform.specs.ChannelSteps.{CodedList, PaletteStep, RctStep, Step, coded_list, has_range, keeps_meta, list_after, list_after_all, one_size, range, steps_of, table_channel}
+use Rattle.jxlm_transform.specs.ChannelSteps.{CodedList, PaletteStep, RctStep, Step, coded_list, has_range, keeps_meta, list_after_all, one_size, range, steps_of, table_channel}
 use Rattle.jxlm_transform.specs.Params.{IsGroupDim, IsValidChannel}
 use Rattle.jxlm_transform.specs.Transforms.{Transform}
 use Rattle.jxlm_transform.specs.declared.channels.ModularChannels.{ModularChannels}
 use Rattle.jxlm_transform.specs.declared.param.ModularChannelParams.{ModularChannelParams}
 use Rattle.jxlm_transform.specs.declared.transform.Palette.{Palette}
-use Rattle.jxlm_transform.specs.declared.transform.Rct.{Rct}
 use Rattle.jxlm_transform.proofs.SideBounds.{came}
 use Rattle.jxlm_transform.proofs.StepFacts.{both_of, chosen, first_step, in_range, same_ok}
 use Rattle.jxl_codestream.specs.Layouts.{Layout, layout_of, section_count_of}
