@@ -49,8 +49,11 @@ const MARGIN: u64 = 8;
 /// is decoded in far less time by one leaf.
 const FEW_NODES: usize = 1;
 
-/// The most nodes of one that is used for such a picture by a palette of all channels.
+/// The most nodes of one that is used for such a picture by a palette of all channels, unless more save much.
 const FEW_PALETTE_NODES: usize = 7;
+
+/// The share of the cost by a palette that more nodes have to save.
+const NODES_GAIN: u64 = 8;
 
 /// The predictors by one of which alone a small picture of few colours is tried.
 const PLAIN: [Predictor; 2] = [Predictor::Zero, Predictor::Gradient];
@@ -306,15 +309,29 @@ fn has_few_nodes(way: &Advice, picture: &Picture) -> bool {
     way.nodes.len() <= most
 }
 
-/// The ways whose trees are so small.
+/// What the cheapest of the ways costs that have a palette of all channels and so small a tree.
+fn least_of_few_nodes(ways: &[Advice], picture: &Picture) -> u64 {
+    let mut least = u64::MAX;
+    for way in ways {
+        if order_of(way, picture).is_some() && has_few_nodes(way, picture) {
+            least = least.min(way.cost);
+        }
+    }
+    least
+}
+
+/// The ways whose trees are so small, and those by a palette of all channels that cost far less.
 fn ways_of_few_nodes(
     alloc: Global,
     ways: Vec<Advice>,
     picture: &Picture,
 ) -> Result<Vec<Advice>, OutOfMemory> {
+    let least = least_of_few_nodes(&ways, picture);
+    let most = least.saturating_sub(least / NODES_GAIN);
     let mut kept = Vec::new(alloc);
     for way in ways {
-        if has_few_nodes(&way, picture) {
+        let saves = order_of(&way, picture).is_some() && way.cost < most;
+        if saves || has_few_nodes(&way, picture) {
             kept.push(way)?;
         }
     }
