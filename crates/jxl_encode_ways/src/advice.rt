@@ -51,8 +51,8 @@ pub(crate) struct Samples<'a> {
 pub(crate) enum Learning {
     /// As at an effort.
     At(Effort),
-    /// By a look at few samples, which tells what ways may cost at the usual effort.
-    Look,
+    /// By a look at about this number of samples of each channel, which tells what ways may cost at the usual effort.
+    Look(usize),
     /// By all properties and predictors alone.
     Broad,
 }
@@ -62,7 +62,7 @@ impl Learning {
     pub(crate) fn effort(self) -> Effort {
         match self {
             Learning::At(effort) => effort,
-            Learning::Look => Effort::Usual,
+            Learning::Look(_) => Effort::Usual,
             Learning::Broad => Effort::Best,
         }
     }
@@ -71,8 +71,8 @@ impl Learning {
     pub(crate) fn care(self, alike: bool) -> Care {
         let care = care_of(self.effort(), alike);
         match self {
-            Learning::Look => Care {
-                pixels: LOOK_PIXELS,
+            Learning::Look(pixels) => Care {
+                pixels,
                 slopes: LOOK_SLOPES,
                 rounds: 0,
                 ..care
@@ -152,10 +152,7 @@ const GROUP_COST: u64 = 128 * 65536;
 /// About how many samples of each channel are looked at with the least effort, and to see whether they are alike.
 const FEW_PIXELS: usize = 1 << 11;
 
-/// About how many samples of each channel are looked at to see what ways may cost.
-const LOOK_PIXELS: usize = 1 << 13;
-
-/// By how many slopes they are told apart.
+/// By how many slopes samples are told apart to see what ways may cost.
 const LOOK_SLOPES: usize = 2;
 
 /// The price of a decision at the usual effort, where most samples are alike, in bits divided by 65,536.
@@ -328,7 +325,8 @@ pub(crate) fn add_ways_of(
     }
     let care = learning.care(picture.alike);
     add_way_by_values(alloc, list, picture, care.pixels)?;
-    let way = if care.pixels <= LOOK_PIXELS {
+    let few = matches!(learning, Learning::Look(_)) || care.pixels <= FEW_PIXELS;
+    let way = if few {
         by_neighbours(alloc, picture, care, colours)?
     } else {
         let colour = likeliest_colour(alloc, picture, colours, LOOKED)?;

@@ -11,6 +11,30 @@ use jxl_picture::picture::Picture;
 use jxlm_base::grid::OutOfMemory;
 use std::alloc::Global;
 
+/// About how many samples of each channel are looked at at least.
+const LEAST_LOOKED: usize = 1 << 13;
+
+/// The share of the samples of a larger picture that are looked at.
+const SHARE: usize = 64;
+
+/// By how much two costs have to differ at least, in bits times 65,536: of a picture that is nearly flat a look says little.
+const LEAST_DIFFERENCE: u64 = 1024 * 65536;
+
+/// About how many samples of each channel of a picture are looked at.
+fn look_at(picture: &Picture) -> Learning {
+    let samples = match picture.channels.get(0) {
+        Some(first) => first.buf().len(),
+        None => 0,
+    };
+    Learning::Look(LEAST_LOOKED.max(samples / SHARE))
+}
+
+/// Whether a cost is at most another and this share of it more, as far as a look tells them apart.
+fn is_near(cost: u64, other: u64, share: u64) -> bool {
+    let most = other.saturating_add(other / share.max(1));
+    cost <= most.saturating_add(LEAST_DIFFERENCE)
+}
+
 /// A palette of all channels, and what the picture may cost by it.
 #[derive(Drop)]
 struct Looked {
@@ -27,9 +51,14 @@ fn likelier(best: Option<Looked>, other: Looked) -> Looked {
 }
 
 /// What the picture may cost by a palette.
-fn cost_by(alloc: Global, palette: &AllByPalette, alike: bool) -> Result<u64, OutOfMemory> {
+fn cost_by(
+    alloc: Global,
+    palette: &AllByPalette,
+    alike: bool,
+    look: Learning,
+) -> Result<u64, OutOfMemory> {
     let mut list = Vec::new(alloc);
-    palette.add_ways(alloc, &mut list, alike, Learning::Look)?;
+    palette.add_ways(alloc, &mut list, alike, look)?;
     Ok(least_cost(&list))
 }
 
@@ -44,7 +73,7 @@ fn likeliest_palette(
         let Some(palette) = all_by_palette(alloc, picture, *order, Effort::Usual)? else {
             return Ok(best);
         };
-        let cost = cost_by(alloc, &palette, alike)?;
+        let cost = cost_by(alloc, &palette, alike, look_at(picture))?;
         best = Some(likelier(best, Looked { palette, cost }));
     }
     Ok(best)
@@ -55,7 +84,7 @@ fn cost_without(alloc: Global, picture: &Picture, alike: bool) -> Result<u64, Ou
     let mut list = Vec::new(alloc);
     let samples = Samples::of(picture, alike);
     let colours = colours_of(picture, Effort::Usual);
-    add_ways_of(alloc, &mut list, samples, Learning::Look, colours)?;
+    add_ways_of(alloc, &mut list, samples, look_at(picture), colours)?;
     Ok(least_cost(&list))
 }
 
@@ -74,10 +103,10 @@ pub(crate) fn ways_by_looks(
         return Ok(list);
     };
     let other = cost_without(alloc, picture, alike)?;
-    if best.cost <= other.saturating_add(other / 4) {
+    if is_near(best.cost, other, 4) {
         best.palette.add_ways(alloc, &mut list, alike, learning)?;
     }
-    if other <= best.cost.saturating_add(best.cost / 2) {
+    if is_near(other, best.cost, 2) {
         add_other_ways(alloc, &mut list, picture, alike, &None, learning)?;
     }
     Ok(list)
