@@ -8,12 +8,12 @@ use std::alloc::Global;
 
 /// The counts of the symbols of each cluster, and what each costs.
 #[derive(Drop)]
-pub struct Clusters {
+pub(crate) struct Clusters<'a> {
     scale: u64,
     most: usize,
     counts: Vec<u32>,
     costs: Vec<u64>,
-    bits: Bits,
+    bits: &'a Bits,
     // The counts of a cluster with more symbols.
     sums: Vec<u32>,
 }
@@ -36,21 +36,26 @@ fn add_both(sums: &mut [u32], first: &[u32], second: &[u32]) {
     }
 }
 
-impl Clusters {
+impl Clusters<'_> {
     /// No clusters, of which there are to be at most this number.
-    pub fn new(alloc: Global, scale: u64, most: usize) -> Result<Clusters, OutOfMemory> {
+    pub(crate) fn new<'a>(
+        alloc: Global,
+        bits: &'a Bits,
+        scale: u64,
+        most: usize,
+    ) -> Result<Clusters<'a>, OutOfMemory> {
         Ok(Clusters {
             scale,
             most: most.min(255),
             counts: Vec::new(alloc),
             costs: Vec::new(alloc),
-            bits: Bits::new(alloc)?,
+            bits,
             sums: zeros(alloc, 1)?,
         })
     }
 
     /// What all clusters cost.
-    pub fn cost(&self) -> u64 {
+    pub(crate) fn cost(&self) -> u64 {
         let mut sum: u64 = 0;
         for cost in &self.costs {
             sum = sum.saturating_add(*cost);
@@ -117,7 +122,7 @@ impl Clusters {
     }
 
     /// Puts a leaf of these symbols into the best cluster, or into a new one; returns which.
-    pub fn put(&mut self, counts: &[u32]) -> Result<u8, OutOfMemory> {
+    pub(crate) fn put(&mut self, counts: &[u32]) -> Result<u8, OutOfMemory> {
         let cluster = self.best(counts).0;
         self.put_in(cluster, counts)?;
         Ok(cluster.min(255) as u8)

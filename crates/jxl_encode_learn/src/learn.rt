@@ -99,8 +99,9 @@ pub(crate) struct Learner<'a, C> {
     prices: Prices,
     bounds: Bounds,
     classes: Vec<Class>,
-    bits: Bits,
-    // The counts of a span, of the classes at each place of an axis, of those up to a cut, and of those behind it.
+    bits: &'a Bits,
+    // The counts of a span, of the classes at each place of an axis, which are 0 between counts, of those up to a cut, and of
+    // those behind it.
     whole: Vec<u32>,
     places: Vec<u32>,
     below: Vec<u32>,
@@ -133,11 +134,22 @@ fn piece(counts: &[u32], from: usize, symbols: usize) -> &[u32] {
     }
 }
 
-/// Takes counts from those above a cut and adds them to those below. Returns whether one is not 0.
-fn move_counts(above: &mut [u32], below: &mut [u32], counts: &[u32]) -> bool {
+/// The counts of this number of symbols from a place on, to be changed.
+fn piece_to_change(counts: &mut [u32], from: usize, symbols: usize) -> &mut [u32] {
+    let end = from.saturating_add(symbols);
+    if from <= end && end <= counts.len() {
+        &mut counts[from..end]
+    } else {
+        &mut []
+    }
+}
+
+/// Takes counts from those above a cut and adds them to those below; then they are 0. Returns whether one was not 0.
+fn move_counts(above: &mut [u32], below: &mut [u32], counts: &mut [u32]) -> bool {
     let mut any = 0;
     for symbol in 0..counts.len().min(below.len()).min(above.len()) {
         let count = counts[symbol];
+        counts[symbol] = 0;
         any |= count;
         below[symbol] = below[symbol].wrapping_add(count);
         above[symbol] = above[symbol].wrapping_sub(count);
@@ -201,6 +213,7 @@ impl<C: Counted> Learner<'_, C> {
     pub(crate) fn new<'a>(
         alloc: Global,
         counted: &'a C,
+        bits: &'a Bits,
         prices: Prices,
         bounds: Bounds,
     ) -> Result<Learner<'a, C>, OutOfMemory> {
@@ -211,7 +224,7 @@ impl<C: Counted> Learner<'_, C> {
             counted,
             prices,
             bounds,
-            bits: Bits::new(alloc)?,
+            bits,
             classes,
             whole: zeros(alloc, 1)?,
             places: zeros(alloc, stride)?,
@@ -290,10 +303,6 @@ impl<C: Counted> Learner<'_, C> {
 
     /// Counts the samples of a span at each place of an axis.
     fn count_places(&mut self, span: Span, kind: usize, axis: usize) {
-        let end = self.size(axis).saturating_mul(SYMBOLS);
-        if end <= self.places.len() {
-            clear(&mut self.places[..end]);
-        }
         clear(&mut self.below);
         copy_counts(&mut self.above, &self.whole);
         let classes = classes_of(&self.classes, span);
@@ -319,13 +328,16 @@ impl<C: Counted> Learner<'_, C> {
     fn put_axis(&mut self, span: Span, kind: usize, axis: usize) {
         self.count_places(span, kind, axis);
         let first = axis.wrapping_mul(self.stride);
-        for place in 0..self.size(axis).saturating_sub(1) {
+        let last = self.size(axis).saturating_sub(1);
+        for place in 0..last {
             let from = place.wrapping_mul(SYMBOLS);
-            let counts = piece(&self.places, from, self.symbols);
+            let counts = piece_to_change(&mut self.places, from, self.symbols);
             if move_counts(&mut self.above, &mut self.below, counts) {
                 self.put_costs(first.wrapping_add(place));
             }
         }
+        let from = last.wrapping_mul(SYMBOLS);
+        clear(piece_to_change(&mut self.places, from, self.symbols));
     }
 
     /// What the samples on both sides of each cut cost by a predictor.

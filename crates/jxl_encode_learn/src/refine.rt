@@ -39,7 +39,7 @@ struct Place {
 pub(crate) struct Refiner<'a, C> {
     learner: Learner<'a, C>,
     knots: Vec<Knot>,
-    clusters: Clusters,
+    clusters: Clusters<'a>,
 }
 
 /// The nodes, level by level, with the places of their children.
@@ -66,7 +66,7 @@ impl<C: Counted> Refiner<'_, C> {
         alloc: Global,
         learner: Learner<'a, C>,
         nodes: &[Learnt],
-        clusters: Clusters,
+        clusters: Clusters<'a>,
     ) -> Result<Refiner<'a, C>, OutOfMemory> {
         let knots = knots_of(alloc, nodes)?;
         let mut refiner = Refiner {

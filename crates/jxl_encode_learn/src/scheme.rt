@@ -1,7 +1,7 @@
 //! A tree with the clusters of its leaves.
 
 use crate::clusters::Clusters;
-use crate::costs::{BIT, Prices};
+use crate::costs::{BIT, Bits, Prices};
 use crate::counted::Counted;
 use crate::counts::{clear, zeros};
 pub use crate::learn::Bounds;
@@ -51,14 +51,14 @@ fn count_values(residuals: &mut [u32], values: &[i32], counts: &[u32], offset: i
 
 /// A scheme that is being made of learnt nodes.
 #[derive(Drop)]
-struct Maker<'a> {
+struct Maker<'a, 'b> {
     values: &'a [i32],
     scheme: Scheme,
-    clusters: Clusters,
+    clusters: Clusters<'b>,
     residuals: Vec<u32>,
 }
 
-impl Maker<'_> {
+impl Maker<'_, '_> {
     /// Adds a leaf of which samples have these counts.
     fn add_leaf(&mut self, predictor: Predictor, counts: &[u32]) -> Result<(), OutOfMemory> {
         let mut predictor = predictor;
@@ -117,7 +117,8 @@ pub fn scheme_of<C: Counted>(
         apart: false,
         rounds: 0,
     };
-    let mut learner = Learner::new(alloc, counted, prices, bounds)?;
+    let bits = Bits::new(alloc)?;
+    let mut learner = Learner::new(alloc, counted, &bits, prices, bounds)?;
     let learnt = learner.learn(alloc)?;
     let mut maker = Maker {
         values,
@@ -126,7 +127,7 @@ pub fn scheme_of<C: Counted>(
             clusters: Vec::new(alloc),
             cost: 0,
         },
-        clusters: Clusters::new(alloc, prices.scale, most)?,
+        clusters: Clusters::new(alloc, &bits, prices.scale, most)?,
         residuals: zeros(alloc, 1)?,
     };
     for node in &learnt {
@@ -202,9 +203,10 @@ pub fn scheme_within<C: Counted>(
     bounds: Bounds,
     most: usize,
 ) -> Result<Scheme, OutOfMemory> {
-    let mut learner = Learner::new(alloc, counted, prices, bounds)?;
+    let bits = Bits::new(alloc)?;
+    let mut learner = Learner::new(alloc, counted, &bits, prices, bounds)?;
     let learnt = learner.learn(alloc)?;
-    let clusters = Clusters::new(alloc, prices.scale, most)?;
+    let clusters = Clusters::new(alloc, &bits, prices.scale, most)?;
     let mut refiner = Refiner::new(alloc, learner, &learnt, clusters)?;
     refiner.refine(bounds.rounds)?;
     let nodes = refiner.nodes(alloc)?;

@@ -86,7 +86,8 @@ impl Learning {
 #[derive(Drop)]
 pub(crate) struct Way {
     scheme: Scheme,
-    colour: Option<u32>,
+    /// The colour transform, if there is one.
+    pub(crate) colour: Option<u32>,
     broad: bool,
 }
 
@@ -154,6 +155,9 @@ const FEW_PIXELS: usize = 1 << 11;
 
 /// By how many slopes samples are told apart to see what ways may cost.
 const LOOK_SLOPES: usize = 2;
+
+/// How many ways are tried to the end of a small picture at the usual effort.
+const SMALL_WAYS: usize = 2;
 
 /// The price of a decision at the usual effort, where most samples are alike, in bits divided by 65,536.
 const ALIKE_STEP: u64 = 195;
@@ -335,16 +339,6 @@ pub(crate) fn add_ways_of(
     add_way(alloc, list, way)
 }
 
-/// The efforts of which the ways are tried with all palettes: at the greatest those of the usual one. Where the samples of a
-/// small picture repeat also those of the lowest one, by which copies are often shorter.
-fn efforts_of(effort: Effort, repeats: bool, small: bool) -> &'static [Effort] {
-    match effort {
-        Effort::Fast => &[Effort::Fast],
-        _ if repeats && small => &[Effort::Fast, Effort::Usual],
-        _ => &[Effort::Usual],
-    }
-}
-
 /// The colour transforms that are tried of a picture at an effort: of floats and of very deep samples none. Those at the greatest
 /// effort beside luma and green have a difference to one channel and one to the mean of two, in five orders of the channels.
 pub(crate) fn colours_of(picture: &Picture, effort: Effort) -> &'static [Option<u32>] {
@@ -424,7 +418,7 @@ fn other_ranks(
 
 /// Ways to code a picture, of which samples repeat if `repeats` says so: several of a small picture and of one that is nearly
 /// flat, and at lower efforts than the greatest else the cheapest, as far as costs say. At the usual effort only the likeliest
-/// of a large picture are learnt, as far as looks say.
+/// of a picture that is large, or does not repeat, are learnt, as far as looks say.
 pub fn advices_for(
     alloc: Global,
     picture: &Picture,
@@ -435,19 +429,24 @@ pub fn advices_for(
     let small = is_small(picture);
     let shift = picture.header.bit_depth.bits_per_sample.saturating_sub(8);
     let alike = are_alike(alloc, &picture.channels, shift, FEW_PIXELS)?;
-    if matches!(effort, Effort::Usual) && !small {
+    if matches!(effort, Effort::Usual) && !(small && repeats) {
         let list = ways_by_looks(alloc, picture, alike)?;
         if !is_nearly_flat(&list, picture) {
             return cheapest_of(alloc, list, 1);
         }
     }
-    let efforts = efforts_of(effort, repeats, small);
-    for tried in efforts {
-        add_palette_ways(alloc, &mut list, picture, alike, *tried)?;
-    }
+    // At the greatest effort the ways of the usual one come first.
+    let tried = match effort {
+        Effort::Fast => Effort::Fast,
+        _ => Effort::Usual,
+    };
+    add_palette_ways(alloc, &mut list, picture, alike, tried)?;
     let ranks = other_ranks(alloc, &list, picture)?;
-    for tried in efforts {
-        let learning = Learning::At(*tried);
+    let learning = Learning::At(tried);
+    add_other_ways(alloc, &mut list, picture, alike, &ranks, learning)?;
+    if small && repeats && matches!(effort, Effort::Usual) {
+        // With copies, fewer clusters are often shorter.
+        let learning = Learning::At(Effort::Fast);
         add_other_ways(alloc, &mut list, picture, alike, &ranks, learning)?;
     }
     let flat = is_nearly_flat(&list, picture);
@@ -459,7 +458,8 @@ pub fn advices_for(
     match effort {
         _ if flat => Ok(list),
         Effort::Best => best_ways(alloc, list, picture, repeats, alike),
-        _ if small => Ok(list),
+        Effort::Fast if small => Ok(list),
+        Effort::Usual if small => cheapest_of(alloc, list, SMALL_WAYS),
         _ => cheapest_of(alloc, list, 1),
     }
 }

@@ -17,17 +17,20 @@ use jxlm_encode_write::tree::EncodeNode;
 use jxlm_predictor::predictor::Predictor;
 use std::alloc::Global;
 
-/// How many colour transforms are tried with trees learnt from samples one by one.
-const COLOURS: usize = 2;
-
 /// About how many samples of each channel are looked at before colour transforms are chosen.
 const LOOKED: usize = 1 << 15;
 
 /// The most samples of a small picture.
 const SMALL: usize = 1 << 16;
 
+/// The share of the samples of a channel that are looked at, if it has few.
+const LOOKED_SHARE: usize = 4;
+
+/// How many of them are looked at at least.
+const LEAST_LOOKED: usize = 1 << 10;
+
 /// How many ways are tried to the end of a small picture, beside those by all properties and predictors.
-const SMALL_WAYS: usize = 6;
+const SMALL_WAYS: usize = 3;
 
 /// How many ways are tried to the end where samples repeat and there is no palette of all channels.
 const COPIED_WAYS: usize = 2;
@@ -55,9 +58,6 @@ const FEW_PALETTE_NODES: usize = 7;
 /// The share of the cost by a palette that more nodes have to save.
 const NODES_GAIN: u64 = 8;
 
-/// The predictors by one of which alone a small picture of few colours is tried.
-const PLAIN: [Predictor; 2] = [Predictor::Zero, Predictor::Gradient];
-
 /// The share of the cost of the way by all properties and by a palette of all channels that the one without a palette has to
 /// save where samples repeat: it is decoded in more time.
 const BROAD_GAIN: u64 = 12;
@@ -68,7 +68,7 @@ fn next_least(numbers: &[u64], taken: &[usize]) -> Option<usize> {
     let mut least = u64::MAX;
     for at in 0..numbers.len() {
         let number = numbers[at];
-        if (best.is_none() || number < least) && !taken.iter().any(|place| *place == at) {
+        if (best.is_none() || number < least) && !taken.contains(&at) {
             least = number;
             best = Some(at);
         }
@@ -87,30 +87,7 @@ fn least_of(alloc: Global, numbers: &[u64], most: usize) -> Result<Vec<usize>, O
     Ok(places)
 }
 
-/// The colour transforms, if there are more than two, with which about this number of the samples of each channel cost least.
-fn likely_colours(
-    alloc: Global,
-    samples: Samples<'_>,
-    colours: &[Option<u32>],
-    pixels: usize,
-) -> Result<Vec<Option<u32>>, OutOfMemory> {
-    let care = Care {
-        pixels,
-        ..care_of(Effort::Fast, true)
-    };
-    let mut costs = Vec::new(alloc);
-    for colour in colours {
-        let scheme = scheme_on(alloc, samples, *colour, care)?;
-        costs.push(scheme.cost)?;
-    }
-    let mut likely = Vec::new(alloc);
-    for at in &least_of(alloc, &costs, COLOURS)? {
-        likely.push(colours.get(*at).copied().unwrap_or(None))?;
-    }
-    Ok(likely)
-}
-
-/// The colour transform with which about this number of the samples of each channel cost least.
+/// The colour transform, if there are several, with which about this number of the samples of each channel cost least.
 pub(crate) fn likeliest_colour(
     alloc: Global,
     samples: Samples<'_>,
@@ -118,24 +95,20 @@ pub(crate) fn likeliest_colour(
     pixels: usize,
 ) -> Result<Option<u32>, OutOfMemory> {
     if colours.len() < 2 {
-        return Ok(None);
+        return Ok(colours.get(0).copied().unwrap_or(None));
     }
-    let likely = likely_colours(alloc, samples, colours, pixels)?;
-    Ok(likely.first().copied().unwrap_or(None))
-}
-
-/// Adds the ways by all properties and predictors without the weighted one, after each of these colour transforms.
-fn add_unweighted_ways(
-    alloc: Global,
-    list: &mut Vec<Advice>,
-    samples: Samples<'_>,
-    colours: &[Option<u32>],
-) -> Result<(), OutOfMemory> {
-    for colour in colours {
-        let way = by_all(alloc, samples, ALL_SAMPLES, *colour, false)?;
-        add_way(alloc, list, Some(way))?;
+    let all = match samples.channels.get(0) {
+        Some(first) => first.buf().len(),
+        None => 0,
+    };
+    let care = Care {
+        pixels: pixels.min(LEAST_LOOKED.max(all / LOOKED_SHARE)),
+        ..care_of(Effort::Fast, true)
+    };
+    match by_neighbours(alloc, samples, care, colours)? {
+        Some(way) => Ok(way.colour),
+        None => Ok(None),
     }
-    Ok(())
 }
 
 /// Adds the ways of these samples at the greatest effort: those by all properties and predictors; of floats the cheapest by
@@ -146,17 +119,14 @@ pub(crate) fn add_best_ways_of(
     samples: Samples<'_>,
     colours: &[Option<u32>],
 ) -> Result<(), OutOfMemory> {
-    let likely = likely_colours(alloc, samples, colours, LOOKED)?;
     if samples.depth.exp_bits != 0 {
         let care = care_of(Effort::Best, samples.alike);
-        let way = by_neighbours(alloc, samples, care, &likely)?;
+        let way = by_neighbours(alloc, samples, care, colours)?;
         return add_way(alloc, list, way);
     }
-    if samples_in(samples.channels) <= SMALL {
-        return add_unweighted_ways(alloc, list, samples, &likely);
-    }
-    let colour = likely.first().copied().unwrap_or(None);
-    let broad = by_all(alloc, samples, ALL_SAMPLES, colour, true)?;
+    let colour = likeliest_colour(alloc, samples, colours, LOOKED)?;
+    let weighted = samples_in(samples.channels) > SMALL;
+    let broad = by_all(alloc, samples, ALL_SAMPLES, colour, weighted)?;
     add_way(alloc, list, Some(broad))
 }
 
@@ -229,7 +199,7 @@ fn kept_at(alloc: Global, ways: Vec<Advice>, places: &[usize]) -> Result<Vec<Adv
     let mut kept = Vec::new(alloc);
     let mut at: usize = 0;
     for way in ways {
-        if way.broad || places.iter().any(|place| *place == at) {
+        if way.broad || places.contains(&at) {
             kept.push(way)?;
         }
         at = at.saturating_add(1);
@@ -393,18 +363,17 @@ fn plain_way(
     Ok(way)
 }
 
-/// Adds the ways by one predictor alone after each of these colour transforms.
+/// Adds the ways by one predictor alone: by the gradient after each of these colour transforms, and by none.
 fn add_plain_ways(
     alloc: Global,
     list: &mut Vec<Advice>,
     channels: usize,
     colours: &[Option<u32>],
 ) -> Result<(), OutOfMemory> {
+    add_advice(list, plain_way(alloc, Predictor::Zero, channels, None)?)?;
     for colour in colours {
-        for predictor in &PLAIN {
-            let way = plain_way(alloc, *predictor, channels, *colour)?;
-            add_advice(list, way)?;
-        }
+        let way = plain_way(alloc, Predictor::Gradient, channels, *colour)?;
+        add_advice(list, way)?;
     }
     Ok(())
 }

@@ -4,6 +4,7 @@
 use crate::advice::{
     Advice, Learning, Samples, add_other_ways, add_ways_of, colours_of, least_cost,
 };
+use crate::best::is_small;
 use crate::effort::Effort;
 use crate::palettes::{AllByPalette, all_by_palette, orders_of};
 use crate::ranks::ranks_of;
@@ -17,6 +18,9 @@ const LEAST_LOOKED: usize = 1 << 13;
 /// The share of the samples of a larger picture that are looked at.
 const SHARE: usize = 64;
 
+/// The share of the samples of a smaller picture that are looked at.
+const SMALL_SHARE: usize = 4;
+
 /// By how much two costs have to differ at least, in bits times 65,536: of a picture that is nearly flat a look says little.
 const LEAST_DIFFERENCE: u64 = 1024 * 65536;
 
@@ -26,11 +30,16 @@ fn look_at(picture: &Picture) -> Learning {
         Some(first) => first.buf().len(),
         None => 0,
     };
-    Learning::Look(LEAST_LOOKED.max(samples / SHARE))
+    let least = LEAST_LOOKED.min(samples / SMALL_SHARE);
+    Learning::Look(least.max(samples / SHARE))
 }
 
-/// Whether a cost is at most another and this share of it more, as far as a look tells them apart.
-fn is_near(cost: u64, other: u64, share: u64) -> bool {
+/// Whether a picture may be coded in a way of this cost, where another costs as much: if it is large also if the cost is this
+/// share of the other more, as far as a look tells them apart.
+fn is_near(cost: u64, other: u64, share: u64, small: bool) -> bool {
+    if small {
+        return cost <= other;
+    }
     let most = other.saturating_add(other / share.max(1));
     cost <= most.saturating_add(LEAST_DIFFERENCE)
 }
@@ -79,17 +88,31 @@ fn likeliest_palette(
     Ok(best)
 }
 
-/// What the picture may cost without a palette.
-fn cost_without(alloc: Global, picture: &Picture, alike: bool) -> Result<u64, OutOfMemory> {
+/// A colour transform or none, and what the picture may cost by it without a palette.
+#[derive(Clone, Copy)]
+struct Plain {
+    colour: Option<u32>,
+    cost: u64,
+}
+
+/// What the picture may cost without a palette, by the likeliest colour transform.
+fn likeliest_plain(alloc: Global, picture: &Picture, alike: bool) -> Result<Plain, OutOfMemory> {
     let mut list = Vec::new(alloc);
     let samples = Samples::of(picture, alike);
     let colours = colours_of(picture, Effort::Usual);
     add_ways_of(alloc, &mut list, samples, look_at(picture), colours)?;
-    Ok(least_cost(&list))
+    Ok(Plain {
+        colour: match list.last() {
+            Some(way) => way.colour,
+            None => None,
+        },
+        cost: least_cost(&list),
+    })
 }
 
 /// The ways of the usual effort: by the likeliest palette of all channels, unless the picture may cost far less without one;
-/// without one, unless it may cost far less by one. A look overstates the cost without a palette more than the other.
+/// without one, unless it may cost far less by one. A look overstates the cost without a palette more than the other. Of a
+/// small picture only the likelier ways are learnt.
 pub(crate) fn ways_by_looks(
     alloc: Global,
     picture: &Picture,
@@ -102,12 +125,14 @@ pub(crate) fn ways_by_looks(
         add_other_ways(alloc, &mut list, picture, alike, &ranks, learning)?;
         return Ok(list);
     };
-    let other = cost_without(alloc, picture, alike)?;
-    if is_near(best.cost, other, 4) {
+    let plain = likeliest_plain(alloc, picture, alike)?;
+    let small = is_small(picture);
+    if is_near(best.cost, plain.cost, 4, small) {
         best.palette.add_ways(alloc, &mut list, alike, learning)?;
     }
-    if is_near(other, best.cost, 2) {
-        add_other_ways(alloc, &mut list, picture, alike, &None, learning)?;
+    if is_near(plain.cost, best.cost, 2, small) {
+        let samples = Samples::of(picture, alike);
+        add_ways_of(alloc, &mut list, samples, learning, &[plain.colour])?;
     }
     Ok(list)
 }
