@@ -10,8 +10,7 @@ ghost use Rattle.jxl_encode.specs.Files.{IsCodestreamOf};
 use crate::codestream::codestream_by;
 use crate::effort::Effort;
 use crate::progress::Progress;
-use jxl_encode_copies::plan::Searches;
-use jxl_encode_copies::repeats::do_repeat;
+use jxl_encode_properties::repeats::do_repeat;
 use jxl_encode_ways::advice::{Advice, advices_for};
 use jxl_picture::picture::Picture;
 use jxlm_base::grid::OutOfMemory;
@@ -38,7 +37,7 @@ fn shortest<P: Progress>(
     alloc: Global,
     picture: &Picture,
     advices: &[Advice],
-    copies: Option<Searches>,
+    copies: Option<usize>,
     progress: &mut P,
 ) -> Result<Option<Vec<u8>>, OutOfMemory>
     requires whole { IsWhole (image_of picture.now.header) picture.now.channels.items }
@@ -54,19 +53,19 @@ fn shortest<P: Progress>(
     Ok(best)
 }
 
-/// How often copies of tokens are looked for: if there is time, and the samples repeat.
-fn searches_for(
+/// How many places of equal tokens are tried for a copy, if copies are looked for: if there is time, and the samples repeat.
+fn tries_for(
     alloc: Global,
     picture: &Picture,
     effort: Effort,
-) -> Result<Option<Searches>, OutOfMemory> {
-    let searches = match effort {
+) -> Result<Option<usize>, OutOfMemory> {
+    let tries = match effort {
         Effort::Fast => return Ok(None),
-        Effort::Usual => Searches::One,
-        Effort::Best => Searches::Two,
+        Effort::Usual => 2,
+        Effort::Best => 4,
     };
     if do_repeat(alloc, &picture.channels)? {
-        Ok(Some(searches))
+        Ok(Some(tries))
     } else {
         Ok(None)
     }
@@ -84,7 +83,7 @@ pub(crate) fn encode_codestream<P: Progress>(
     requires codable { IsCodable picture.now }
     ensures { IfOk result (λ v. IsCodestreamOf picture.now v.items) }
 {
-    let copies = searches_for(alloc, picture, effort)?;
+    let copies = tries_for(alloc, picture, effort)?;
     let advices = advices_for(alloc, picture, effort, copies.is_some())?;
     if let Some(bytes) = shortest(alloc, picture, &advices, copies, progress)? {
         return Ok(bytes);

@@ -11,13 +11,13 @@ use crate::frame::{FrameInput, GROUP_DIM, GROUP_SHIFT, frame_sections};
 use crate::sizes::{add_sections, sizes_of};
 use jxl_codestream::layout::Layout;
 use jxl_codestream_write::front::write_front_with_profile;
-use jxl_encode_copies::plan::Searches;
 use jxl_encode_ways::advice::Advice;
 use jxl_picture::picture::Picture;
 use jxlm_base::grid::OutOfMemory;
 use std::alloc::Global;
 
-/// A codestream of the picture by this advice. Copies of tokens are looked for as often as `copies` says, if it does.
+/// A codestream of the picture by this advice. Copies of tokens are looked for if `copies` says at how
+/// many places of equal tokens each is tried.
 ///
 /// # Errors
 ///
@@ -27,7 +27,7 @@ pub(crate) fn codestream_by(
     alloc: Global,
     picture: &Picture,
     advice: &Advice,
-    copies: Option<Searches>,
+    copies: Option<usize>,
 ) -> Result<Vec<u8>, OutOfMemory>
     requires whole { IsWhole (image_of picture.now.header) picture.now.channels.items }
     requires codable { IsCodable picture.now }

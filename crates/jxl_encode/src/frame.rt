@@ -14,7 +14,6 @@ ghost use Rattle.jxl_encode.specs.Inner.Frames.{AreGiven, AreSectionsOf, cut_of}
 
 use jxl_codestream::layout::Layout;
 use jxl_codestream::start::tree_limit;
-use jxl_encode_copies::plan::Searches;
 use jxl_encode_image::transform::ImagePlan;
 use jxl_encode_sections::frame::{FrameCut, FrameTree, encode_sections};
 use jxl_encode_ways::advice::Advice;
@@ -38,14 +37,14 @@ pub(crate) const GROUP_DIM: u32 = 256;
 /// The maximum depth of the tree: the default limit on decisions for a sample.
 const MAX_DEPTH: usize = 128;
 
-/// What the sections of a frame are written from: the picture, its channels, the frame's groups, and how often copies of
-/// earlier tokens are looked for, if they are.
+/// What the sections of a frame are written from: the picture, its channels, the frame's groups, and how many places of equal
+/// tokens are tried for a copy, if copies are looked for.
 #[derive(Clone, Copy)]
 pub(crate) struct FrameInput<'a> {
     pub(crate) picture: &'a Picture,
     pub(crate) given: &'a [ModularChannelParams],
     pub(crate) layout: &'a Layout,
-    pub(crate) copies: Option<Searches>,
+    pub(crate) copies: Option<usize>,
 }
 
 /// How large the tree of a frame may be, in a picture with this header.

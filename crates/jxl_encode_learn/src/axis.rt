@@ -24,9 +24,4 @@ impl Axis {
     pub fn size(&self) -> usize {
         self.cuts.len().saturating_add(1)
     }
-
-    /// The class of a value.
-    pub fn place(&self, value: i32) -> usize {
-        self.cuts.iter().filter(|cut| value > **cut).count()
-    }
 }

@@ -1,197 +1,127 @@
 //! Leaves of which samples are alike have one code.
 
 use crate::costs::Bits;
-use crate::counts::zeros;
-use crate::symbols::SYMBOLS;
+use crate::counts::{Counts, NONE, rest_of, sum_of, symbols_in};
 use jxlm_base::grid::OutOfMemory;
 use std::alloc::Global;
 
-/// The counts of the symbols of each cluster, and what each costs.
+/// A cluster: how often its symbols occur, and what it costs.
+#[derive(Clone, Copy)]
+pub(crate) struct Cluster {
+    counts: Counts,
+    cost: u64,
+}
+
+/// The clusters of leaves.
 #[derive(Drop)]
 pub(crate) struct Clusters<'a> {
     scale: u64,
     most: usize,
-    counts: Vec<u32>,
-    costs: Vec<u64>,
+    /// All of them, with those that have no symbols any more.
+    pub(crate) list: Vec<Cluster>,
     bits: &'a Bits,
-    // The counts of a cluster with more symbols.
-    sums: Vec<u32>,
-}
-
-/// The counts of the symbols of one cluster.
-fn counts_at(counts: &[u32], cluster: usize) -> &[u32] {
-    let start = cluster.saturating_mul(SYMBOLS);
-    let end = start.saturating_add(SYMBOLS);
-    if end <= counts.len() && start <= end {
-        &counts[start..end]
-    } else {
-        &[]
-    }
-}
-
-/// Puts the counts of two lists together.
-fn add_both(sums: &mut [u32], first: &[u32], second: &[u32]) {
-    for symbol in 0..sums.len().min(first.len()).min(second.len()) {
-        sums[symbol] = first[symbol].wrapping_add(second[symbol]);
-    }
 }
 
 impl Clusters<'_> {
     /// No clusters, of which there are to be at most this number.
-    pub(crate) fn new<'a>(
-        alloc: Global,
-        bits: &'a Bits,
-        scale: u64,
-        most: usize,
-    ) -> Result<Clusters<'a>, OutOfMemory> {
-        Ok(Clusters {
+    pub(crate) fn new<'a>(alloc: Global, bits: &'a Bits, scale: u64, most: usize) -> Clusters<'a> {
+        Clusters {
             scale,
             most: most.min(255),
-            counts: Vec::new(alloc),
-            costs: Vec::new(alloc),
+            list: Vec::new(alloc),
             bits,
-            sums: zeros(alloc, 1)?,
-        })
+        }
     }
 
     /// What all clusters cost.
     pub(crate) fn cost(&self) -> u64 {
         let mut sum: u64 = 0;
-        for cost in &self.costs {
-            sum = sum.saturating_add(*cost);
+        for cluster in &self.list {
+            sum = sum.saturating_add(cluster.cost);
         }
         sum
     }
 
-    /// What a cluster costs with these symbols more, and how much more that is.
-    fn joined(&mut self, cluster: usize, counts: &[u32]) -> (u64, u64) {
-        add_both(&mut self.sums, counts, counts_at(&self.counts, cluster));
-        let cost = self.bits.cost_with_head(self.scale, &self.sums);
-        let old = self.costs.get(cluster).copied().unwrap_or(0);
-        (cost, cost.saturating_sub(old))
-    }
-
-    /// The number of clusters, with those that have no symbols any more.
-    pub(crate) fn count(&self) -> usize {
-        self.costs.len()
-    }
-
     /// The cluster that these symbols make dearer by the least, or the number of a new one if that costs less; and by how
     /// much more all clusters cost.
-    pub(crate) fn best(&mut self, counts: &[u32]) -> (usize, u64) {
-        let mut best = self.costs.len();
+    pub(crate) fn best(&self, counts: &Counts) -> (usize, u64) {
+        let mut best = self.list.len();
         let mut least = if best < self.most {
             self.bits.cost_with_head(self.scale, counts)
         } else {
             u64::MAX
         };
-        for cluster in 0..self.costs.len() {
-            let more = self.joined(cluster, counts).1;
+        for number in 0..self.list.len() {
+            let old = &self.list[number];
+            let sums = sum_of(counts, &old.counts);
+            let cost = self.bits.cost_with_head(self.scale, &sums);
+            let more = cost.saturating_sub(old.cost);
             if more < least {
                 least = more;
-                best = cluster;
+                best = number;
             }
         }
         (best, least)
     }
 
-    /// Adds symbols to a cluster.
-    fn join(&mut self, cluster: usize, counts: &[u32]) {
-        let cost = self.joined(cluster, counts).0;
-        let start = cluster.saturating_mul(SYMBOLS);
-        for symbol in 0..counts.len() {
-            if let Some(sum) = self.counts.get_mut(start.saturating_add(symbol)) {
-                *sum = sum.saturating_add(counts[symbol]);
-            }
-        }
-        if let Some(old) = self.costs.get_mut(cluster) {
-            *old = cost;
-        }
-    }
-
-    /// Adds symbols to a cluster, or to a new one if there is none of this number.
-    pub(crate) fn put_in(&mut self, cluster: usize, counts: &[u32]) -> Result<(), OutOfMemory> {
-        if cluster < self.costs.len() {
-            self.join(cluster, counts);
-            return Ok(());
-        }
-        let own = self.bits.cost_with_head(self.scale, counts);
-        self.counts.extend_from_slice(counts)?;
-        self.costs.push(own)?;
-        Ok(())
-    }
-
-    /// Puts a leaf of these symbols into the best cluster, or into a new one; returns which.
-    pub(crate) fn put(&mut self, counts: &[u32]) -> Result<u8, OutOfMemory> {
-        let cluster = self.best(counts).0;
-        self.put_in(cluster, counts)?;
-        Ok(cluster.min(255) as u8)
-    }
-
-    /// Sets what a cluster costs by its symbols, nothing if it has none; returns how much less that is.
-    fn settle(&mut self, cluster: usize) -> u64 {
-        let counts = counts_at(&self.counts, cluster);
-        let cost = if counts.iter().any(|count| *count > 0) {
-            self.bits.cost_with_head(self.scale, counts)
+    /// Sets the symbols of a cluster, which costs nothing if it has none; returns how much less it costs.
+    fn set(&mut self, number: usize, counts: Counts) -> u64 {
+        let cost = if symbols_in(&counts) > 0 {
+            self.bits.cost_with_head(self.scale, &counts)
         } else {
             0
         };
-        match self.costs.get_mut(cluster) {
-            Some(old) => {
-                let saved = old.saturating_sub(cost);
-                *old = cost;
+        match self.list.get_mut(number) {
+            Some(cluster) => {
+                let saved = cluster.cost.saturating_sub(cost);
+                *cluster = Cluster { counts, cost };
                 saved
             }
             None => 0,
         }
     }
 
-    /// Takes symbols out of a cluster; returns by how much less all clusters cost.
-    pub(crate) fn take_out(&mut self, cluster: usize, counts: &[u32]) -> u64 {
-        let start = cluster.saturating_mul(SYMBOLS);
-        for symbol in 0..counts.len() {
-            if let Some(sum) = self.counts.get_mut(start.saturating_add(symbol)) {
-                *sum = sum.saturating_sub(counts[symbol]);
+    /// Adds symbols to a cluster, or to a new one if there is none of this number.
+    pub(crate) fn put_in(&mut self, number: usize, counts: &Counts) -> Result<(), OutOfMemory> {
+        match self.list.get(number) {
+            Some(cluster) => {
+                let sums = sum_of(counts, &cluster.counts);
+                self.set(number, sums);
             }
+            None => self.list.push(Cluster {
+                counts: *counts,
+                cost: self.bits.cost_with_head(self.scale, counts),
+            })?,
         }
-        self.settle(cluster)
+        Ok(())
     }
 
-    /// What two clusters would cost as one.
-    fn cost_of_both(&mut self, first: usize, second: usize) -> u64 {
-        let counts = counts_at(&self.counts, first);
-        add_both(&mut self.sums, counts, counts_at(&self.counts, second));
-        self.bits.cost_with_head(self.scale, &self.sums)
-    }
-
-    /// Moves the symbols of a cluster to another.
-    fn move_all(&mut self, from: usize, to: usize) {
-        for symbol in 0..SYMBOLS {
-            let place = from.saturating_mul(SYMBOLS).saturating_add(symbol);
-            let count = self.counts.get(place).copied().unwrap_or(0);
-            if let Some(own) = self.counts.get_mut(place) {
-                *own = 0;
+    /// Takes symbols out of a cluster; returns by how much less all clusters cost.
+    pub(crate) fn take_out(&mut self, number: usize, counts: &Counts) -> u64 {
+        match self.list.get(number) {
+            Some(cluster) => {
+                let rest = rest_of(&cluster.counts, counts);
+                self.set(number, rest)
             }
-            let place = to.saturating_mul(SYMBOLS).saturating_add(symbol);
-            if let Some(sum) = self.counts.get_mut(place) {
-                *sum = sum.saturating_add(count);
-            }
+            None => 0,
         }
     }
 
     /// Moves the symbols of the second cluster to the first if both then cost less. Returns whether it did.
     pub(crate) fn unite(&mut self, first: usize, second: usize) -> bool {
-        let one = self.costs.get(first).copied().unwrap_or(0);
-        let other = self.costs.get(second).copied().unwrap_or(0);
-        if one == 0 || other == 0 {
+        let (Some(one), Some(other)) = (self.list.get(first), self.list.get(second)) else {
+            return false;
+        };
+        if one.cost == 0 || other.cost == 0 {
             return false;
         }
-        if self.cost_of_both(first, second) >= one.saturating_add(other) {
+        let sums = sum_of(&one.counts, &other.counts);
+        let cost = self.bits.cost_with_head(self.scale, &sums);
+        if cost >= one.cost.saturating_add(other.cost) {
             return false;
         }
-        self.move_all(second, first);
-        self.settle(first);
-        self.settle(second);
+        self.set(first, sums);
+        self.set(second, NONE);
         true
     }
 }

@@ -1,6 +1,7 @@
 //! What symbols cost, in bits times 65,536.
 
-use crate::symbols::{SYMBOLS, bits_after};
+use crate::counts::symbols_in;
+use crate::symbols::SYMBOLS;
 use jxlm_base::grid::OutOfMemory;
 use std::alloc::Global;
 
@@ -30,8 +31,6 @@ pub struct Prices {
     pub leaf: u64,
     /// The price of each of its symbols, in bits.
     pub symbol: u64,
-    /// The price of each sample that has not the most frequent symbol, in bits.
-    pub other: u64,
 }
 
 /// The binary logarithm of a number above 0, nearly.
@@ -53,8 +52,6 @@ struct Sums {
     total: u32,
     // The number of symbols that occur.
     kinds: u32,
-    // The count of the most frequent symbol.
-    most: u32,
 }
 
 /// The bits of a symbol, times 65,536: by its share of a code, and those that follow it.
@@ -66,29 +63,13 @@ pub(crate) struct Bits {
 
 /// What is known of symbols of these counts.
 fn sums_of(counts: &[u32]) -> Sums {
-    let mut sums = Sums {
-        total: 0,
-        kinds: 0,
-        most: 0,
-    };
+    let mut sums = Sums { total: 0, kinds: 0 };
     for symbol in 0..counts.len() {
         let count = counts[symbol];
         sums.total = sums.total.wrapping_add(count);
         sums.kinds = sums.kinds.wrapping_add(count.min(1));
-        sums.most = sums.most.max(count);
     }
     sums
-}
-
-/// The greatest symbol that occurs.
-fn last_of(counts: &[u32]) -> usize {
-    let mut last: usize = 0;
-    for symbol in 0..counts.len() {
-        if counts[symbol] > 0 {
-            last = symbol;
-        }
-    }
-    last
 }
 
 /// The bits of a symbol by each share of a code.
@@ -105,7 +86,12 @@ fn bits_of_shares(alloc: Global) -> Result<Vec<u32>, OutOfMemory> {
 fn bits_of_rest(alloc: Global) -> Result<Vec<u32>, OutOfMemory> {
     let mut after = Vec::new(alloc);
     for symbol in 0..SYMBOLS {
-        let bits = bits_after(symbol).saturating_mul(BIT);
+        // Symbols below 16 are numbers; of others there are two for each number of bits.
+        let bits = if symbol < 16 {
+            0
+        } else {
+            (symbol as u64 / 2).saturating_sub(5).saturating_mul(BIT)
+        };
         after.push(bits.min(MOST) as u32)?;
     }
     Ok(after)
@@ -120,15 +106,6 @@ impl Bits {
         })
     }
 
-    /// What samples of a symbol of this count cost, of which one has this share of 2^32 parts of a code.
-    fn of(&self, symbol: usize, count: u32, part: u64) -> u64 {
-        let count = u64::from(count);
-        let share = (count.wrapping_mul(part) >> 32).wrapping_add(1);
-        let own = self.shares.get(share as usize).copied().unwrap_or(0);
-        let rest = self.after.get(symbol).copied().unwrap_or(0);
-        u64::from(own.wrapping_add(rest)).wrapping_mul(count)
-    }
-
     /// What samples of these counts cost by a code of their own.
     fn samples(&self, counts: &[u32], sums: Sums) -> u64 {
         let room = u64::from(WHOLE.saturating_sub(sums.kinds));
@@ -137,7 +114,12 @@ impl Bits {
         for symbol in 0..counts.len() {
             let count = counts[symbol];
             if count > 0 {
-                cost = cost.wrapping_add(self.of(symbol, count, part));
+                let count = u64::from(count);
+                let share = (count.wrapping_mul(part) >> 32).wrapping_add(1);
+                let own = self.shares.get(share as usize).copied().unwrap_or(0);
+                let rest = self.after.get(symbol).copied().unwrap_or(0);
+                let bits = u64::from(own.wrapping_add(rest));
+                cost = cost.wrapping_add(bits.wrapping_mul(count));
             }
         }
         cost
@@ -145,7 +127,11 @@ impl Bits {
 
     /// What the bits after samples of only one symbol cost.
     fn after_only(&self, counts: &[u32], sums: Sums) -> u64 {
-        let rest = self.after.get(last_of(counts)).copied().unwrap_or(0);
+        let rest = self
+            .after
+            .get(symbols_in(counts).saturating_sub(1))
+            .copied()
+            .unwrap_or(0);
         u64::from(rest).saturating_mul(u64::from(sums.total))
     }
 
@@ -155,13 +141,11 @@ impl Bits {
         if sums.kinds < 2 {
             return self.after_only(counts, sums).saturating_mul(prices.scale);
         }
-        let others = u64::from(sums.total.saturating_sub(sums.most));
         let own = prices
             .leaf
             .saturating_add(prices.symbol.saturating_mul(u64::from(sums.kinds)))
             .saturating_mul(BIT);
         self.samples(counts, sums)
-            .saturating_add(others.saturating_mul(prices.other).saturating_mul(BIT))
             .saturating_mul(prices.scale)
             .saturating_add(own)
     }
@@ -175,7 +159,7 @@ impl Bits {
                 .saturating_mul(scale)
                 .saturating_add(ONLY_HEAD.saturating_mul(BIT));
         }
-        let last = last_of(counts);
+        let last = symbols_in(counts).saturating_sub(1);
         let last = last.saturating_add(last.saturating_sub(16)) as u64;
         let kinds = u64::from(sums.kinds);
         let absent = last.saturating_add(1).saturating_sub(kinds);

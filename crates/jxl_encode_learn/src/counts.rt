@@ -1,21 +1,38 @@
-//! Lists of counts.
+//! How often symbols occur.
 
 use crate::symbols::SYMBOLS;
-use jxlm_base::grid::OutOfMemory;
-use std::alloc::Global;
 
-/// The most counts of a list.
-pub const MAX_COUNTS: usize = 1 << 22;
+/// How often each symbol occurs.
+pub(crate) type Counts = [u32; SYMBOLS];
 
-/// Sets all counts to 0.
-pub fn clear(counts: &mut [u32]) {
-    for count in counts.iter_mut() {
-        *count = 0;
+/// No symbols.
+pub(crate) const NONE: Counts = [0; SYMBOLS];
+
+/// The number of symbols up to the greatest that occurs.
+pub(crate) fn symbols_in(counts: &[u32]) -> usize {
+    let mut symbols: usize = 0;
+    for symbol in 0..counts.len() {
+        if counts[symbol] > 0 {
+            symbols = symbol + 1;
+        }
     }
+    symbols
 }
 
-/// A list of zeros, one for each symbol of this number of lists.
-pub fn zeros(alloc: Global, lists: usize) -> Result<Vec<u32>, OutOfMemory> {
-    let list = vec![in alloc; 0; lists.saturating_mul(SYMBOLS).min(MAX_COUNTS)]?;
-    Ok(list)
+/// The counts of both.
+pub(crate) fn sum_of(first: &Counts, second: &Counts) -> Counts {
+    let mut sums = *first;
+    for symbol in 0..SYMBOLS {
+        sums[symbol] = sums[symbol].wrapping_add(second[symbol]);
+    }
+    sums
+}
+
+/// The counts of the first without those of the second.
+pub(crate) fn rest_of(first: &Counts, second: &Counts) -> Counts {
+    let mut rest = *first;
+    for symbol in 0..SYMBOLS {
+        rest[symbol] = rest[symbol].saturating_sub(second[symbol]);
+    }
+    rest
 }

@@ -2,8 +2,8 @@
 
 use crate::axis::Axis;
 use crate::costs::{BIT, Bits, Prices};
-use crate::counted::{Class, Counted};
-use crate::counts::{MAX_COUNTS, clear, zeros};
+use crate::counted::{Class, Counted, list_at};
+use crate::counts::{Counts, NONE, symbols_in};
 use crate::symbols::SYMBOLS;
 use jxlm_base::grid::OutOfMemory;
 use jxlm_predictor::predictor::Predictor;
@@ -83,6 +83,12 @@ const FIRST_CUT: Cut = Cut {
     cost: 0,
 };
 
+/// The costs of samples on both sides of a cut that was not tried.
+const UNKNOWN: [u64; 2] = [u64::MAX; 2];
+
+/// The most counts of a list.
+const MAX_COUNTS: usize = 1 << 22;
+
 /// A node of the tree: a decision, or a leaf with its classes.
 #[derive(Clone, Copy)]
 pub(crate) enum Learnt {
@@ -94,23 +100,16 @@ pub(crate) enum Learnt {
 
 /// A tree that is being learnt.
 #[derive(Drop)]
-pub(crate) struct Learner<'a, C> {
-    counted: &'a C,
+pub(crate) struct Learner<'a> {
+    counted: &'a Counted,
     prices: Prices,
     bounds: Bounds,
     classes: Vec<Class>,
     bits: &'a Bits,
-    // The counts of a span, of the classes at each place of an axis, which are 0 between counts, of those up to a cut, and of
-    // those behind it.
-    whole: Vec<u32>,
+    // The counts of the classes at each place of an axis, which are 0 between counts.
     places: Vec<u32>,
-    below: Vec<u32>,
-    above: Vec<u32>,
-    // The number of symbols up to the greatest of the span.
-    symbols: usize,
     // What the samples on both sides of each cut cost, by the cheapest of the predictors that are tried.
-    lower: Vec<u64>,
-    upper: Vec<u64>,
+    costs: Vec<[u64; 2]>,
     // How far apart the cuts of two axes are.
     stride: usize,
 }
@@ -122,26 +121,6 @@ fn widest(axes: &[Axis]) -> usize {
         most = most.max(axis.size());
     }
     most
-}
-
-/// The counts of this number of symbols from a place on.
-fn piece(counts: &[u32], from: usize, symbols: usize) -> &[u32] {
-    let end = from.saturating_add(symbols);
-    if from <= end && end <= counts.len() {
-        &counts[from..end]
-    } else {
-        &[]
-    }
-}
-
-/// The counts of this number of symbols from a place on, to be changed.
-fn piece_to_change(counts: &mut [u32], from: usize, symbols: usize) -> &mut [u32] {
-    let end = from.saturating_add(symbols);
-    if from <= end && end <= counts.len() {
-        &mut counts[from..end]
-    } else {
-        &mut []
-    }
 }
 
 /// Takes counts from those above a cut and adds them to those below; then they are 0. Returns whether one was not 0.
@@ -157,142 +136,65 @@ fn move_counts(above: &mut [u32], below: &mut [u32], counts: &mut [u32]) -> bool
     any != 0
 }
 
-/// Puts counts in the place of others.
-fn copy_counts(target: &mut [u32], counts: &[u32]) {
-    for symbol in 0..target.len().min(counts.len()) {
-        target[symbol] = counts[symbol];
-    }
-}
-
-/// The number of symbols up to the greatest that occurs.
-fn symbols_in(counts: &[u32]) -> usize {
-    let mut symbols: usize = 0;
-    for symbol in 0..counts.len() {
-        if counts[symbol] > 0 {
-            symbols = symbol + 1;
-        }
-    }
-    symbols
-}
-
-/// Sets all costs to the greatest.
-fn forget(costs: &mut [u64]) {
-    for cost in costs.iter_mut() {
-        *cost = u64::MAX;
-    }
-}
-
 /// The classes of a span.
 fn classes_of(classes: &[Class], span: Span) -> &[Class] {
-    if span.start <= span.end && span.end <= classes.len() {
-        &classes[span.start..span.end]
-    } else {
-        &[]
-    }
+    classes.get(span.start..span.end).unwrap_or(&[])
 }
 
-/// How many samples these classes have.
-fn samples_in(classes: &[Class]) -> u64 {
-    let mut samples: u64 = 0;
-    for class in classes {
-        samples = samples.saturating_add(u64::from(class.weight));
-    }
-    samples
-}
-
-/// The cheaper cut.
-fn cheaper(best: Option<Cut>, cut: Cut) -> Option<Cut> {
-    match best {
-        Some(old) if old.cost <= cut.cost => Some(old),
-        _ => Some(cut),
-    }
-}
-
-impl<C: Counted> Learner<'_, C> {
+impl Learner<'_> {
     /// Nothing learnt of these samples.
     pub(crate) fn new<'a>(
         alloc: Global,
-        counted: &'a C,
+        counted: &'a Counted,
         bits: &'a Bits,
         prices: Prices,
         bounds: Bounds,
-    ) -> Result<Learner<'a, C>, OutOfMemory> {
-        let classes = counted.occurring(alloc)?;
-        let stride = widest(counted.axes());
-        let cuts = counted.axes().len().saturating_mul(stride).min(MAX_COUNTS);
+    ) -> Result<Learner<'a>, OutOfMemory> {
+        let stride = widest(&counted.axes);
+        let counts = stride.saturating_mul(SYMBOLS).min(MAX_COUNTS);
+        let cuts = counted.axes.len().saturating_mul(stride).min(MAX_COUNTS);
         Ok(Learner {
             counted,
             prices,
             bounds,
             bits,
-            classes,
-            whole: zeros(alloc, 1)?,
-            places: zeros(alloc, stride)?,
-            below: zeros(alloc, 1)?,
-            above: zeros(alloc, 1)?,
-            symbols: 0,
-            lower: vec![in alloc; 0; cuts]?,
-            upper: vec![in alloc; 0; cuts]?,
+            classes: counted.classes(alloc)?,
+            places: vec![in alloc; 0; counts]?,
+            costs: vec![in alloc; UNKNOWN; cuts]?,
             stride,
         })
     }
 
     /// The number of classes on an axis.
     fn size(&self, axis: usize) -> usize {
-        match self.counted.axes().get(axis) {
+        match self.counted.axes.get(axis) {
             Some(axis) => axis.size(),
             None => 1,
         }
     }
 
-    /// Counts the samples of a span by a predictor.
-    fn count(&mut self, span: Span, kind: usize) {
-        clear(&mut self.whole);
-        let classes = classes_of(&self.classes, span);
-        self.counted.add_all(&mut self.whole, classes, kind);
-        self.symbols = symbols_in(&self.whole);
+    /// How often each symbol occurs among the samples of a span by a predictor.
+    pub(crate) fn counts(&self, span: Span, kind: usize) -> Counts {
+        self.counted.counts(classes_of(&self.classes, span), kind)
     }
 
-    /// What the samples cost that are counted.
-    fn cost(&self) -> u64 {
-        self.bits
-            .cost(self.prices, piece(&self.whole, 0, self.symbols))
-    }
-
-    /// The predictor of a leaf.
-    pub(crate) fn predictor(&self, span: Span) -> Predictor {
-        self.counted.predictor(span.kind)
-    }
-
-    /// The number of predictors.
-    pub(crate) fn kinds(&self) -> usize {
-        self.counted.kinds()
-    }
-
-    /// The counts of the samples of a span by a predictor.
-    pub(crate) fn counts_by(&mut self, span: Span, kind: usize) -> &[u32] {
-        self.count(span, kind);
-        &self.whole
-    }
-
-    /// The same classes by their best predictor, and the next best.
-    fn settled(&mut self, span: Span) -> Span {
-        let mut best = span;
+    /// The classes of a list from one to another, by their best predictor, and the next best.
+    fn span(&self, start: usize, end: usize) -> Span {
+        let mut best = Span {
+            start,
+            end,
+            kind: 0,
+            second: 0,
+            cost: u64::MAX,
+        };
         let mut next = u64::MAX;
-        for kind in 0..self.counted.kinds() {
-            self.count(span, kind);
-            let cost = self.cost();
-            if kind == 0 || cost < best.cost {
-                if kind > 0 {
-                    next = best.cost;
-                }
-                best = Span {
-                    start: span.start,
-                    end: span.end,
-                    kind,
-                    second: best.kind,
-                    cost,
-                };
+        for kind in 0..self.counted.predictors.len() {
+            let cost = self.bits.cost(self.prices, &self.counts(best, kind));
+            if cost < best.cost {
+                next = best.cost;
+                best.second = best.kind;
+                best.kind = kind;
+                best.cost = cost;
             } else if cost < next {
                 next = cost;
                 best.second = kind;
@@ -301,85 +203,62 @@ impl<C: Counted> Learner<'_, C> {
         best
     }
 
-    /// Counts the samples of a span at each place of an axis.
-    fn count_places(&mut self, span: Span, kind: usize, axis: usize) {
-        clear(&mut self.below);
-        copy_counts(&mut self.above, &self.whole);
+    /// Puts what the samples on both sides of each cut on an axis cost by a predictor, by which these are the counts of all, in
+    /// the place of what they cost by another, where that is more.
+    fn put_axis(&mut self, span: Span, kind: usize, axis: usize, whole: &Counts) {
         let classes = classes_of(&self.classes, span);
         self.counted
             .add_places(&mut self.places, classes, kind, axis);
-    }
-
-    /// What the samples on both sides of the cut of this number cost, if that is less than by the predictor before.
-    fn put_costs(&mut self, cut: usize) {
-        let below = piece(&self.below, 0, self.symbols);
-        let above = piece(&self.above, 0, self.symbols);
-        let lower = self.bits.cost(self.prices, below);
-        let upper = self.bits.cost(self.prices, above);
-        if let Some(cost) = self.lower.get_mut(cut) {
-            *cost = lower.min(*cost);
-        }
-        if let Some(cost) = self.upper.get_mut(cut) {
-            *cost = upper.min(*cost);
-        }
-    }
-
-    /// What the samples on both sides of each cut on an axis cost by a predictor, by which they are counted.
-    fn put_axis(&mut self, span: Span, kind: usize, axis: usize) {
-        self.count_places(span, kind, axis);
+        let symbols = symbols_in(whole).min(SYMBOLS);
+        let mut below = NONE;
+        let mut above = *whole;
         let first = axis.wrapping_mul(self.stride);
         let last = self.size(axis).saturating_sub(1);
-        for place in 0..last {
+        for place in 0..last.saturating_add(1) {
             let from = place.wrapping_mul(SYMBOLS);
-            let counts = piece_to_change(&mut self.places, from, self.symbols);
-            if move_counts(&mut self.above, &mut self.below, counts) {
-                self.put_costs(first.wrapping_add(place));
+            let Some(counts) = self
+                .places
+                .as_mut_slice()
+                .get_mut(from..from.saturating_add(symbols))
+            else {
+                break;
+            };
+            if move_counts(&mut above, &mut below, counts) && place < last {
+                let lower = self.bits.cost(self.prices, &below[..symbols]);
+                let upper = self.bits.cost(self.prices, &above[..symbols]);
+                if let Some(costs) = self.costs.get_mut(first.wrapping_add(place)) {
+                    *costs = [costs[0].min(lower), costs[1].min(upper)];
+                }
             }
         }
-        let from = last.wrapping_mul(SYMBOLS);
-        clear(piece_to_change(&mut self.places, from, self.symbols));
     }
 
-    /// What the samples on both sides of each cut cost by a predictor.
+    /// Puts what the samples on both sides of each cut cost by a predictor in its place.
     fn put_all(&mut self, span: Span, kind: usize) {
-        self.count(span, kind);
-        for axis in 0..self.counted.axes().len() {
-            self.put_axis(span, kind, axis);
+        let whole = self.counts(span, kind);
+        for axis in 0..self.counted.axes.len() {
+            self.put_axis(span, kind, axis, &whole);
         }
-    }
-
-    /// What the samples on both sides of each cut cost by the predictors that are tried.
-    fn put_tried(&mut self, span: Span) {
-        self.put_all(span, span.kind);
-        if self.bounds.predictors > 1 && self.counted.kinds() > 1 {
-            self.put_all(span, span.second);
-        }
-    }
-
-    /// The cheaper of this cut and the best on an axis.
-    fn best_on(&self, axis: usize, best: Option<Cut>) -> Option<Cut> {
-        let first = axis.wrapping_mul(self.stride);
-        let mut best = best;
-        for place in 0..self.size(axis).saturating_sub(1) {
-            let at = first.wrapping_add(place);
-            let lower = self.lower.get(at).copied().unwrap_or(u64::MAX);
-            if lower < u64::MAX {
-                let upper = self.upper.get(at).copied().unwrap_or(u64::MAX);
-                let cost = lower.saturating_add(upper);
-                best = cheaper(best, Cut { axis, place, cost });
-            }
-        }
-        best
     }
 
     /// The best cut of a span.
     fn best_cut(&mut self, span: Span) -> Option<Cut> {
-        forget(&mut self.lower);
-        forget(&mut self.upper);
-        self.put_tried(span);
+        self.costs.fill(UNKNOWN);
+        self.put_all(span, span.kind);
+        if self.bounds.predictors > 1 && self.counted.predictors.len() > 1 {
+            self.put_all(span, span.second);
+        }
         let mut best = None;
-        for axis in 0..self.counted.axes().len() {
-            best = self.best_on(axis, best);
+        let mut least = u64::MAX;
+        for at in 0..self.costs.len() {
+            let [lower, upper] = self.costs[at];
+            let cost = lower.saturating_add(upper);
+            if cost < least {
+                least = cost;
+                let axis = at / self.stride.max(1);
+                let place = at % self.stride.max(1);
+                best = Some(Cut { axis, place, cost });
+            }
         }
         best
     }
@@ -390,32 +269,31 @@ impl<C: Counted> Learner<'_, C> {
         if self.bounds.step == 0 {
             return decision;
         }
+        let mut samples: u64 = 0;
+        for class in classes_of(&self.classes, span) {
+            samples = samples.saturating_add(u64::from(class.weight));
+        }
         self.bounds
             .step
             .saturating_mul(self.prices.scale)
-            .saturating_mul(samples_in(classes_of(&self.classes, span)))
+            .saturating_mul(samples)
             .saturating_add(decision)
     }
 
-    /// What a decision has to save when it is made: half of its price if it may be taken back, since others may follow it that
-    /// save more.
-    fn least_saved(&self, span: Span) -> u64 {
+    /// The best cut of a span, if it saves enough. One that may be taken back has to save half of its price, since others may
+    /// follow it that save more.
+    fn worth(&mut self, span: Span) -> Option<Cut> {
         let price = self.price(span);
-        if self.bounds.rounds > 0 {
+        let least = if self.bounds.rounds > 0 {
             price / 2
         } else {
             price
-        }
-    }
-
-    /// The best cut of a span, if it saves enough.
-    fn worth(&mut self, span: Span) -> Option<Cut> {
-        let price = self.least_saved(span);
-        if span.cost <= price {
+        };
+        if span.cost <= least {
             return None;
         }
         let cut = self.best_cut(span)?;
-        if cut.cost.saturating_add(price) < span.cost {
+        if cut.cost.saturating_add(least) < span.cost {
             Some(cut)
         } else {
             None
@@ -424,13 +302,15 @@ impl<C: Counted> Learner<'_, C> {
 
     /// Puts the classes behind the cut before the others; returns where the others begin.
     fn part(&mut self, span: Span, cut: Cut) -> usize {
+        let places = list_at(&self.counted.places, cut.axis);
         let mut next = span.start;
         for at in span.start..span.end {
             let class = match self.classes.get(at) {
                 Some(class) => *class,
                 None => break,
             };
-            if self.counted.place(class, cut.axis) > cut.place {
+            let place = places.get(class.number as usize).copied().unwrap_or(0);
+            if place as usize > cut.place {
                 if at < self.classes.len() && next < self.classes.len() {
                     self.classes.swap(next, at);
                 }
@@ -438,31 +318,6 @@ impl<C: Counted> Learner<'_, C> {
             }
         }
         next
-    }
-
-    /// The node of a cut.
-    fn decision(&self, cut: Cut) -> Learnt {
-        match self.counted.axes().get(cut.axis) {
-            Some(axis) => Learnt::Decision {
-                property: axis.property,
-                value: axis.cuts.get(cut.place).copied().unwrap_or(0),
-            },
-            None => Learnt::Decision {
-                property: 0,
-                value: 0,
-            },
-        }
-    }
-
-    /// The classes of a list from one to another, by their best predictor.
-    fn span(&mut self, start: usize, end: usize) -> Span {
-        self.settled(Span {
-            start,
-            end,
-            kind: 0,
-            second: 0,
-            cost: 0,
-        })
     }
 
     /// Learns one node more; its children are to be learnt later.
@@ -484,16 +339,21 @@ impl<C: Counted> Learner<'_, C> {
         let below = self.span(middle, span.end);
         spans.push(above)?;
         spans.push(below)?;
-        Ok(self.decision(cut))
+        let (property, value) = match self.counted.axes.get(cut.axis) {
+            Some(axis) => (
+                axis.property,
+                axis.cuts.get(cut.place).copied().unwrap_or(0),
+            ),
+            None => (0, 0),
+        };
+        Ok(Learnt::Decision { property, value })
     }
 
     /// Learns the tree, level by level.
     pub(crate) fn learn(&mut self, alloc: Global) -> Result<Vec<Learnt>, OutOfMemory> {
         let mut nodes = Vec::new(alloc);
         let mut spans = Vec::new(alloc);
-        let end = self.classes.len();
-        let all = self.span(0, end);
-        spans.push(all)?;
+        spans.push(self.span(0, self.classes.len()))?;
         for at in 0..self.bounds.nodes.saturating_add(3) {
             let span = match spans.get(at) {
                 Some(span) => *span,

@@ -2,7 +2,6 @@
 //! then save less than they cost are taken back.
 
 use crate::clusters::Clusters;
-use crate::counted::Counted;
 use crate::learn::{Learner, Learnt, Span};
 use jxlm_base::grid::OutOfMemory;
 use std::alloc::Global;
@@ -36,39 +35,33 @@ struct Place {
 
 /// A tree whose leaves are in clusters.
 #[derive(Drop)]
-pub(crate) struct Refiner<'a, C> {
-    learner: Learner<'a, C>,
+pub(crate) struct Refiner<'a> {
+    learner: Learner<'a>,
     knots: Vec<Knot>,
-    clusters: Clusters<'a>,
+    pub(crate) clusters: Clusters<'a>,
 }
 
-/// The nodes, level by level, with the places of their children.
-fn knots_of(alloc: Global, nodes: &[Learnt]) -> Result<Vec<Knot>, OutOfMemory> {
-    let mut knots = Vec::new(alloc);
-    let mut child: usize = 1;
-    for node in nodes {
-        knots.push(Knot {
-            node: *node,
-            child,
-            cluster: 0,
-            gone: false,
-        })?;
-        if matches!(*node, Learnt::Decision { .. }) {
-            child = child.saturating_add(2);
-        }
-    }
-    Ok(knots)
-}
-
-impl<C: Counted> Refiner<'_, C> {
+impl Refiner<'_> {
     /// The tree of these nodes, each leaf of which is put into one of these clusters.
     pub(crate) fn new<'a>(
         alloc: Global,
-        learner: Learner<'a, C>,
+        learner: Learner<'a>,
         nodes: &[Learnt],
         clusters: Clusters<'a>,
-    ) -> Result<Refiner<'a, C>, OutOfMemory> {
-        let knots = knots_of(alloc, nodes)?;
+    ) -> Result<Refiner<'a>, OutOfMemory> {
+        let mut knots = Vec::new(alloc);
+        let mut child: usize = 1;
+        for node in nodes {
+            knots.push(Knot {
+                node: *node,
+                child,
+                cluster: 0,
+                gone: false,
+            })?;
+            if matches!(*node, Learnt::Decision { .. }) {
+                child = child.saturating_add(2);
+            }
+        }
         let mut refiner = Refiner {
             learner,
             knots,
@@ -91,8 +84,8 @@ impl<C: Counted> Refiner<'_, C> {
     }
 
     /// The best cluster for the samples of a span by a predictor.
-    fn place_by(&mut self, span: Span, kind: usize) -> Place {
-        let (cluster, more) = self.clusters.best(self.learner.counts_by(span, kind));
+    fn place_by(&self, span: Span, kind: usize) -> Place {
+        let (cluster, more) = self.clusters.best(&self.learner.counts(span, kind));
         Place {
             kind,
             cluster,
@@ -101,7 +94,7 @@ impl<C: Counted> Refiner<'_, C> {
     }
 
     /// The predictor of two and the cluster by which the samples of a span cost least.
-    fn best_place(&mut self, span: Span) -> Place {
+    fn best_place(&self, span: Span) -> Place {
         let best = self.place_by(span, span.kind);
         if span.second == span.kind {
             return best;
@@ -112,25 +105,13 @@ impl<C: Counted> Refiner<'_, C> {
 
     /// Makes a node a leaf, of which samples are put at a place.
     fn put(&mut self, at: usize, span: Span, place: Place) -> Result<(), OutOfMemory> {
-        let counts = self.learner.counts_by(span, place.kind);
-        self.clusters.put_in(place.cluster, counts)?;
+        let counts = self.learner.counts(span, place.kind);
+        self.clusters.put_in(place.cluster, &counts)?;
         if let Some(knot) = self.knots.get_mut(at) {
             knot.node = Learnt::Leaf(span.by(place.kind));
             knot.cluster = place.cluster;
         }
         Ok(())
-    }
-
-    /// Takes the samples of a leaf out of its cluster; returns by how much less all clusters cost.
-    fn take_out(&mut self, leaf: Leaf) -> u64 {
-        let counts = self.learner.counts_by(leaf.span, leaf.span.kind);
-        self.clusters.take_out(leaf.cluster, counts)
-    }
-
-    /// Puts the samples of a leaf back.
-    fn put_back(&mut self, leaf: Leaf) -> Result<(), OutOfMemory> {
-        let counts = self.learner.counts_by(leaf.span, leaf.span.kind);
-        self.clusters.put_in(leaf.cluster, counts)
     }
 
     /// Puts each leaf into a cluster.
@@ -148,19 +129,13 @@ impl<C: Counted> Refiner<'_, C> {
     fn move_all(&mut self) -> Result<(), OutOfMemory> {
         for at in 0..self.knots.len() {
             if let Some(leaf) = self.leaf(at) {
-                self.take_out(leaf);
+                let counts = self.learner.counts(leaf.span, leaf.span.kind);
+                self.clusters.take_out(leaf.cluster, &counts);
                 let place = self.best_place(leaf.span);
                 self.put(at, leaf.span, place)?;
             }
         }
         Ok(())
-    }
-
-    /// Takes a node back.
-    fn remove(&mut self, at: usize) {
-        if let Some(knot) = self.knots.get_mut(at) {
-            knot.gone = true;
-        }
     }
 
     /// Takes a decision between two leaves back, if it saves less than it costs.
@@ -173,15 +148,20 @@ impl<C: Counted> Refiner<'_, C> {
             return Ok(());
         };
         let whole = left.span.with(right.span);
-        let saved = self.take_out(left);
-        let saved = self.take_out(right).saturating_add(saved);
+        let counts = self.learner.counts(left.span, left.span.kind);
+        let others = self.learner.counts(right.span, right.span.kind);
+        let saved = self.clusters.take_out(left.cluster, &counts);
+        let saved = saved.saturating_add(self.clusters.take_out(right.cluster, &others));
         let place = self.best_place(whole);
         if place.more > saved.saturating_add(self.learner.price(whole)) {
-            self.put_back(left)?;
-            return self.put_back(right);
+            self.clusters.put_in(left.cluster, &counts)?;
+            return self.clusters.put_in(right.cluster, &others);
         }
-        self.remove(child);
-        self.remove(other);
+        for at in child..child.saturating_add(2) {
+            if let Some(knot) = self.knots.get_mut(at) {
+                knot.gone = true;
+            }
+        }
         self.put(at, whole, place)
     }
 
@@ -211,7 +191,7 @@ impl<C: Counted> Refiner<'_, C> {
 
     /// Unites this cluster with later ones, where both cost less as one.
     fn unite_with(&mut self, first: usize) {
-        for second in first.saturating_add(1)..self.clusters.count() {
+        for second in first.saturating_add(1)..self.clusters.list.len() {
             if self.clusters.unite(first, second) {
                 self.rename(second, first);
             }
@@ -220,7 +200,7 @@ impl<C: Counted> Refiner<'_, C> {
 
     /// Unites clusters that cost less as one.
     fn unite_all(&mut self) {
-        for first in 0..self.clusters.count() {
+        for first in 0..self.clusters.list.len() {
             self.unite_with(first);
         }
     }
@@ -233,11 +213,6 @@ impl<C: Counted> Refiner<'_, C> {
             self.unite_all();
         }
         Ok(())
-    }
-
-    /// What all clusters cost.
-    pub(crate) fn cost(&self) -> u64 {
-        self.clusters.cost()
     }
 
     /// The nodes, level by level, with the clusters of leaves.

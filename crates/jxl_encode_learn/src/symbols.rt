@@ -22,12 +22,3 @@ pub fn symbol_of(residual: i32) -> usize {
         .saturating_add(16)
         .saturating_add(half) as usize
 }
-
-/// The number of bits that follow a symbol.
-pub(crate) fn bits_after(symbol: usize) -> u64 {
-    if symbol < 16 {
-        0
-    } else {
-        (symbol as u64 / 2).saturating_sub(5)
-    }
-}

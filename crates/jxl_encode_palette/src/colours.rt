@@ -141,19 +141,15 @@ pub(crate) struct Colours {
     places: Vec<u32>,
 }
 
-/// The number of places of at most this number of colours: a power of two, at least four for each.
-fn places_for(most: usize) -> usize {
-    let width = usize::BITS.saturating_sub(most.leading_zeros());
-    1usize.wrapping_shl(width.saturating_add(2).min(MOST_WIDTH))
-}
-
 impl Colours {
-    /// None, with room for this number.
+    /// None, with room for this number: the places are a power of two, at least four for each.
     fn new(alloc: Global, most: usize) -> Result<Colours, OutOfMemory> {
+        let width = usize::BITS.saturating_sub(most.leading_zeros());
+        let places = 1usize.wrapping_shl(width.saturating_add(2).min(MOST_WIDTH));
         Ok(Colours {
             list: Vec::new(alloc),
             runs: Vec::new(alloc),
-            places: vec![in alloc; 0; places_for(most)]?,
+            places: vec![in alloc; 0; places]?,
         })
     }
 
@@ -243,22 +239,21 @@ fn numbered(alloc: Global, list: &[Colour]) -> Result<Colours, OutOfMemory> {
     Ok(colours)
 }
 
-/// A colour, and how many runs of pixels it begins.
-#[derive(Clone, Copy)]
-struct CountedColour {
-    colour: Colour,
-    runs: u32,
-}
-
-/// The colours with their runs.
-fn counted(alloc: Global, found: &Colours) -> Result<Vec<CountedColour>, OutOfMemory> {
-    let mut list = Vec::new(alloc);
-    for i in 0..found.list.len() {
-        let colour = found.list[i];
-        let runs = found.runs.get(i).copied().unwrap_or(0);
-        list.push(CountedColour { colour, runs })?;
+/// What colours are sorted by in this order, with the number of each.
+fn keys_of(
+    alloc: Global,
+    found: &Colours,
+    order: ColourOrder,
+) -> Result<Vec<(u32, i64, usize)>, OutOfMemory> {
+    let mut keys = Vec::new(alloc);
+    for number in 0..found.list.len() {
+        let runs = match order {
+            ColourOrder::Frequency => found.runs.get(number).copied().unwrap_or(0),
+            _ => 0,
+        };
+        keys.push((u32::MAX - runs, found.list[number].key(), number))?;
     }
-    Ok(list)
+    Ok(keys)
 }
 
 /// The number of the colour from this number on that is nearest to the one before it.
@@ -293,14 +288,13 @@ fn put_beside(list: &mut [Colour]) {
 
 /// The colours in this order.
 fn ordered(alloc: Global, found: &Colours, order: ColourOrder) -> Result<Vec<Colour>, OutOfMemory> {
-    let mut list = counted(alloc, found)?;
-    list.sort_by_key(|counted| counted.colour.key())?;
-    if order == ColourOrder::Frequency {
-        list.sort_by_key(|counted| u32::MAX - counted.runs)?;
-    }
+    let mut keys = keys_of(alloc, found, order)?;
+    keys.sort_unstable();
     let mut colours = Vec::new(alloc);
-    for counted in &list {
-        colours.push(counted.colour)?;
+    for key in &keys {
+        if let Some(colour) = found.list.get(key.2) {
+            colours.push(*colour)?;
+        }
     }
     if order == ColourOrder::Nearest {
         put_beside(&mut colours);

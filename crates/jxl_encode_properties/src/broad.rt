@@ -8,6 +8,7 @@ use crate::source::{Source, is_taken, samples_in};
 use crate::walk::{Surroundings, Walk};
 use jxl_encode_learn::axis::Axis;
 use jxl_encode_learn::costs::Prices;
+use jxl_encode_learn::counted::Counted;
 use jxl_encode_learn::scheme::{Bounds, Scheme, scheme_within};
 use jxl_encode_learn::symbols::symbol_of;
 use jxlm_base::grid::{AlignedGrid, OutOfMemory};
@@ -101,15 +102,6 @@ struct ByAll {
     weighted: usize,
 }
 
-/// The predictors that are tried, if this number of channels is walked over with the weighted one.
-fn predictors_of(weighted: usize) -> &'static [Predictor] {
-    if weighted == 0 {
-        &PREDICTORS[..UNWEIGHTED]
-    } else {
-        &PREDICTORS
-    }
-}
-
 /// Walks at the first samples of the groups in a row of this width.
 fn walks_of(alloc: Global, width: usize, weighted: bool) -> Result<Vec<Walk>, OutOfMemory> {
     let mut walks = Vec::new(alloc);
@@ -126,7 +118,7 @@ fn walks_of(alloc: Global, width: usize, weighted: bool) -> Result<Vec<Walk>, Ou
 fn property_of(rows: &NearRows, x: usize, own: &[i32; 16], property: u32) -> i32 {
     match property {
         0 => rows.channel.min(255) as i32,
-        2 => rows.row(),
+        2 => (rows.depth % SIDE) as i32,
         16 => rows.sample_before(x).saturating_abs(),
         17 => rows.sample_before(x),
         19 => rows.residual_before(x),
@@ -140,7 +132,7 @@ fn key_of(rows: &NearRows, x: usize, around: &Surroundings, sample: i32) -> u64 
     let own = &around.own;
     hash_of(&[
         rows.channel.min(255) as i32,
-        rows.row(),
+        (rows.depth % SIDE) as i32,
         own[6],
         own[7],
         own[8],
@@ -169,9 +161,14 @@ impl ByAll {
                 list: Vec::new(alloc),
             })?;
         }
+        let predictors = if weighted == 0 {
+            &PREDICTORS[..UNWEIGHTED]
+        } else {
+            &PREDICTORS
+        };
         Ok(ByAll {
             values,
-            samples: Samples::new(alloc, Vec::new(alloc), predictors_of(weighted))?,
+            samples: Samples::new(alloc, Vec::new(alloc), predictors)?,
             weighted,
         })
     }
@@ -253,20 +250,6 @@ impl ByAll {
         Ok(())
     }
 
-    /// Takes samples of all channels, in one band of `step`.
-    fn take_all(
-        &mut self,
-        alloc: Global,
-        source: Source<'_>,
-        step: usize,
-    ) -> Result<(), OutOfMemory> {
-        let mut rows = NearRows::new(alloc);
-        for channel in 0..source.channels.len() {
-            self.take_channel(alloc, &mut rows, source, channel, step)?;
-        }
-        Ok(())
-    }
-
     /// Puts the samples on the axes of their properties, which have cuts by their values. Where many samples are counted
     /// together, their columns are not known.
     fn place(&mut self, alloc: Global) -> Result<(), OutOfMemory> {
@@ -329,16 +312,20 @@ fn cuts_between(alloc: Global, values: &[i32]) -> Result<Vec<i32>, OutOfMemory> 
     Ok(cuts)
 }
 
-/// How many of these channels are walked over with the weighted predictor, if `weighted` says so, and one of them is apart if
-/// `apart` says so.
-fn weighted_of(channels: usize, weighted: bool, apart: bool) -> usize {
-    if !weighted {
-        0
-    } else if apart {
-        1
-    } else {
-        channels
+/// The samples of the channels in one band of `step`, of which this number is walked over with the weighted predictor.
+fn taken(
+    alloc: Global,
+    source: Source<'_>,
+    step: usize,
+    weighted: usize,
+) -> Result<Counted, OutOfMemory> {
+    let mut taker = ByAll::new(alloc, weighted)?;
+    let mut rows = NearRows::new(alloc);
+    for channel in 0..source.channels.len() {
+        taker.take_channel(alloc, &mut rows, source, channel, step)?;
     }
+    taker.place(alloc)?;
+    Ok(taker.samples.counted())
 }
 
 /// The price of a decision for each sample of a picture of this many in some channels, if all of them have the weighted
@@ -370,15 +357,17 @@ pub fn scheme_by_all(
     let all = samples_in(channels);
     let step = all.div_ceil(samples.max(1)).max(1);
     let apart = weighted && all > SMALL && channels.len() > 2;
-    let mut taker = ByAll::new(alloc, weighted_of(channels.len(), weighted, apart))?;
-    taker.take_all(alloc, Source { channels, colour }, step)?;
-    taker.place(alloc)?;
+    let most = match (weighted, apart) {
+        (false, _) => 0,
+        (true, true) => 1,
+        (true, false) => channels.len(),
+    };
+    let counted = taken(alloc, Source { channels, colour }, step, most)?;
     let prices = Prices {
         scale: step as u64,
         decision: 22,
         leaf: 4,
         symbol: 2,
-        other: 0,
     };
     let bounds = Bounds {
         nodes: MAX_NODES,
@@ -387,5 +376,5 @@ pub fn scheme_by_all(
         apart,
         rounds: ROUNDS,
     };
-    scheme_within(alloc, &taker.samples, prices, bounds, CLUSTERS)
+    scheme_within(alloc, &counted, prices, bounds, CLUSTERS)
 }

@@ -30,21 +30,20 @@ pub(crate) fn level_of(difference: i32, shift: u32) -> usize {
     }
 }
 
-/// The least size at a level.
-fn least_size(level: u32) -> u32 {
-    if level < 2 {
-        return level;
-    }
-    let half = 2u32.saturating_add(level % 2);
-    half.wrapping_shl((level / 2).saturating_sub(1))
-}
-
 /// The greatest difference at a level.
 fn greatest_at(level: usize, shift: u32) -> i32 {
-    let size = if level < ZERO {
-        least_size(ZERO.saturating_sub(level).min(31) as u32)
+    let step = if level < ZERO {
+        ZERO.saturating_sub(level)
     } else {
-        least_size(level.saturating_sub(ZERO).saturating_add(1).min(31) as u32)
+        level.saturating_sub(ZERO).saturating_add(1)
+    };
+    // The least size at this many levels from 0.
+    let step = step.min(31) as u32;
+    let size = if step < 2 {
+        step
+    } else {
+        2u32.saturating_add(step % 2)
+            .wrapping_shl((step / 2).saturating_sub(1))
     };
     let size = size.wrapping_shl(shift).min(1 << 30) as i32;
     if level < ZERO {

@@ -1,6 +1,6 @@
 //! The neighbours of a sample (ISO/IEC 18181-1, Modular: neighbours and properties), and what predictors make of them.
 
-use crate::source::{Source, is_taken};
+use crate::source::Source;
 use jxlm_base::grid::OutOfMemory;
 use jxlm_base::sample::Sealed;
 use std::alloc::Global;
@@ -25,12 +25,6 @@ pub(crate) struct NearRows {
     pub(crate) depth: usize,
     // The channel and the row after this one.
     next: (usize, usize),
-}
-
-/// What takes samples with the rows around them.
-pub(crate) trait Taker {
-    /// Takes the sample in a column.
-    fn take(&mut self, rows: &NearRows, x: usize) -> Result<(), OutOfMemory>;
 }
 
 /// The neighbours of a sample.
@@ -66,28 +60,6 @@ impl NearRows {
         }
     }
 
-    /// Goes one row down: the rows around the last one are those above.
-    fn go_down(&mut self) {
-        mem::swap(&mut self.higher, &mut self.above);
-        mem::swap(&mut self.above, &mut self.here);
-        mem::swap(&mut self.before, &mut self.earlier);
-    }
-
-    /// Puts the rows above a row of a channel in their places.
-    fn put_above(
-        &mut self,
-        source: Source<'_>,
-        channel: usize,
-        y: usize,
-    ) -> Result<(), OutOfMemory> {
-        source.copy(&mut self.above, channel, y.saturating_sub(1))?;
-        source.copy(&mut self.higher, channel, y.saturating_sub(2))?;
-        if channel > 0 {
-            source.copy(&mut self.before, channel - 1, y.saturating_sub(1))?;
-        }
-        Ok(())
-    }
-
     /// Goes to a row of a channel.
     pub(crate) fn go(
         &mut self,
@@ -98,9 +70,16 @@ impl NearRows {
         self.channel = channel;
         self.depth = y % SIDE;
         if y > 0 && self.next == (channel, y) {
-            self.go_down();
+            // The rows around the last one are those above.
+            mem::swap(&mut self.higher, &mut self.above);
+            mem::swap(&mut self.above, &mut self.here);
+            mem::swap(&mut self.before, &mut self.earlier);
         } else {
-            self.put_above(source, channel, y)?;
+            source.copy(&mut self.above, channel, y.saturating_sub(1))?;
+            source.copy(&mut self.higher, channel, y.saturating_sub(2))?;
+            if channel > 0 {
+                source.copy(&mut self.before, channel - 1, y.saturating_sub(1))?;
+            }
         }
         source.copy(&mut self.here, channel, y)?;
         if channel > 0 {
@@ -108,11 +87,6 @@ impl NearRows {
         }
         self.next = (channel, y.saturating_add(1));
         Ok(())
-    }
-
-    /// The row in its group.
-    pub(crate) fn row(&self) -> i32 {
-        (self.depth % SIDE) as i32
     }
 
     /// The sample in the channel before.
@@ -207,18 +181,16 @@ impl Near {
         }
     }
 
-    /// A property of the sample, of those by its own channel.
-    pub(crate) fn property(self, number: u32) -> i32 {
-        match number {
-            6 => self.north,
-            7 => self.west,
-            10 => self.west.wrapping_sub(self.north_west),
-            11 => self.north_west.wrapping_sub(self.north),
-            12 => self.north.wrapping_sub(self.north_east),
-            13 => self.north.wrapping_sub(self.north_north),
-            14 => self.west.wrapping_sub(self.west_west),
-            _ => 0,
-        }
+    /// The slopes: from above left to the left, from above to above left, from above right to above, and from the neighbour
+    /// behind it to the one above and to the one on the left.
+    pub(crate) fn slopes(self) -> [i32; 5] {
+        [
+            self.west.wrapping_sub(self.north_west),
+            self.north_west.wrapping_sub(self.north),
+            self.north.wrapping_sub(self.north_east),
+            self.north.wrapping_sub(self.north_north),
+            self.west.wrapping_sub(self.west_west),
+        ]
     }
 
     /// The clamped gradient.
@@ -256,43 +228,4 @@ impl Near {
             .wrapping_sub(self.north_north.wrapping_mul(2));
         near.wrapping_add(far).wrapping_add(8) / 16
     }
-}
-
-/// Takes the samples of a row.
-fn take_row<T: Taker>(taker: &mut T, rows: &NearRows) -> Result<(), OutOfMemory> {
-    for x in 0..rows.here.len() {
-        taker.take(rows, x)?;
-    }
-    Ok(())
-}
-
-/// Takes the samples of a channel, in one row of `step`.
-fn take_channel<T: Taker>(
-    taker: &mut T,
-    rows: &mut NearRows,
-    source: Source<'_>,
-    channel: usize,
-    step: usize,
-) -> Result<(), OutOfMemory> {
-    for y in 0..source.height(channel) {
-        if is_taken(y, step) {
-            rows.go(source, channel, y)?;
-            take_row(taker, rows)?;
-        }
-    }
-    Ok(())
-}
-
-/// Takes samples of all channels, in one row of `step`.
-pub(crate) fn take_near<T: Taker>(
-    alloc: Global,
-    source: Source<'_>,
-    taker: &mut T,
-    step: usize,
-) -> Result<(), OutOfMemory> {
-    let mut rows = NearRows::new(alloc);
-    for channel in 0..source.channels.len() {
-        take_channel(taker, &mut rows, source, channel, step)?;
-    }
-    Ok(())
 }

@@ -1,9 +1,9 @@
 //! Trees learnt from samples one by one, without the weighted predictor: what they code is decoded in less time.
 
 use crate::levels::{level_of, levels_on};
-use crate::near::{Near, NearRows, Taker, sample_at, take_near};
+use crate::near::{Near, NearRows, sample_at};
 use crate::samples::Samples;
-use crate::source::{Source, step_of};
+use crate::source::{Source, is_taken, step_of};
 use jxl_encode_learn::axis::Axis;
 use jxl_encode_learn::costs::Prices;
 use jxl_encode_learn::scheme::{Bounds, Scheme, scheme_within};
@@ -33,7 +33,16 @@ const MAX_SLOPE_SHIFT: u32 = 4;
 /// The properties that are slopes: from above left to the left, from above to above left, from above right to above, and
 /// from the neighbour behind it to the one above and to the one on the left; then the residual by the gradient in the channel
 /// before.
-const SLOPES: [u32; 6] = [10, 11, 12, 13, 14, 19];
+const SLOPES: [u32; 6] = [10, 11, 12, 13, 14, EARLIER];
+
+/// The property that is the residual by the gradient in the channel before.
+const EARLIER: u32 = 19;
+
+/// The property that is the sample on the left.
+const WEST: u32 = 7;
+
+/// The most bits of samples of few values.
+pub const FEW_BITS: u32 = 4;
 
 /// The most nodes of a tree, without the last two.
 const MAX_NODES: usize = 509;
@@ -56,7 +65,7 @@ const PREDICTORS: [Predictor; 7] = [
 #[derive(Clone, Copy, PartialEq, Eq)]
 struct Around {
     near: Near,
-    // Its channel, and the residual there in the channel before.
+    // Its channel, and the residual there in the channel before, or the sample on the left.
     channel: usize,
     earlier: i32,
     sample: i32,
@@ -70,40 +79,29 @@ struct ByNeighbours {
     shift: u32,
     // The number of axes.
     axes: usize,
+    // Whether there is one channel alone, of few values.
+    few: bool,
     // The last sample.
     last: Option<Around>,
 }
 
-/// The channel and this number of slopes, with cuts that are larger by 2 to the power of `shift`.
-fn axes_of(alloc: Global, shift: u32, slopes: usize) -> Result<Vec<Axis>, OutOfMemory> {
+/// The channel and this number of slopes, with cuts that are larger by 2 to the power of `shift`. One channel alone of few
+/// values has the sample on the left in place of the residual in the channel before.
+fn axes_of(alloc: Global, shift: u32, slopes: usize, few: bool) -> Result<Vec<Axis>, OutOfMemory> {
     let mut axes = Vec::new(alloc);
     axes.push(Axis::new(alloc, 0, &[0, 1, 2])?)?;
     for slope in SLOPES.iter().take(slopes) {
-        axes.push(levels_on(alloc, *slope, shift)?)?;
+        let property = if few && *slope == EARLIER {
+            WEST
+        } else {
+            *slope
+        };
+        axes.push(levels_on(alloc, property, shift)?)?;
     }
     Ok(axes)
 }
 
 impl Around {
-    /// Where it is on the first axes.
-    fn first_places(self, shift: u32) -> [usize; 3] {
-        [
-            self.channel.min(3),
-            level_of(self.near.property(10), shift),
-            level_of(self.near.property(11), shift),
-        ]
-    }
-
-    /// Where it is on the other axes.
-    fn other_places(self, shift: u32) -> [usize; 4] {
-        [
-            level_of(self.near.property(12), shift),
-            level_of(self.near.property(13), shift),
-            level_of(self.near.property(14), shift),
-            level_of(self.earlier, shift),
-        ]
-    }
-
     /// Its symbol by each predictor.
     fn symbols(self) -> [usize; 7] {
         let near = self.near;
@@ -119,15 +117,19 @@ impl Around {
     }
 }
 
-impl Taker for ByNeighbours {
+impl ByNeighbours {
+    /// Takes the sample in a column.
     fn take(&mut self, rows: &NearRows, x: usize) -> Result<(), OutOfMemory> {
+        let near = Near::of(rows, x);
         let around = Around {
-            near: Near::of(rows, x),
+            near,
             channel: rows.channel,
-            earlier: if self.axes > SLOPES.len() {
-                rows.residual_before(x)
-            } else {
+            earlier: if self.axes <= SLOPES.len() {
                 0
+            } else if self.few {
+                near.west
+            } else {
+                rows.residual_before(x)
             },
             sample: sample_at(&rows.here, x),
         };
@@ -136,14 +138,50 @@ impl Taker for ByNeighbours {
             return Ok(());
         }
         self.last = Some(around);
-        let [channel, first, second] = around.first_places(self.shift);
+        let [first, second, third, fourth, fifth] = around.near.slopes();
+        let shift = self.shift;
+        let channel = around.channel.min(3);
+        let first = level_of(first, shift);
+        let second = level_of(second, shift);
         let symbols = around.symbols();
         if self.axes == 3 {
             return self.samples.add(&[channel, first, second], &symbols);
         }
-        let [third, fourth, fifth, earlier] = around.other_places(self.shift);
-        let places = [channel, first, second, third, fourth, fifth, earlier];
+        let places = [
+            channel,
+            first,
+            second,
+            level_of(third, shift),
+            level_of(fourth, shift),
+            level_of(fifth, shift),
+            level_of(around.earlier, shift),
+        ];
         self.samples.add(&places[..self.axes.min(7)], &symbols)
+    }
+
+    /// Takes the samples of a row.
+    fn take_row(&mut self, rows: &NearRows) -> Result<(), OutOfMemory> {
+        for x in 0..rows.here.len() {
+            self.take(rows, x)?;
+        }
+        Ok(())
+    }
+
+    /// Takes the samples of a channel, in one row of `step`.
+    fn take_channel(
+        &mut self,
+        rows: &mut NearRows,
+        source: Source<'_>,
+        channel: usize,
+        step: usize,
+    ) -> Result<(), OutOfMemory> {
+        for y in 0..source.height(channel) {
+            if is_taken(y, step) {
+                rows.go(source, channel, y)?;
+                self.take_row(rows)?;
+            }
+        }
+        Ok(())
     }
 }
 
@@ -151,27 +189,32 @@ impl Taker for ByNeighbours {
 fn taken(
     alloc: Global,
     source: Source<'_>,
-    shift: u32,
+    bits: u32,
     slopes: usize,
     step: usize,
 ) -> Result<Samples, OutOfMemory> {
-    let shift = shift.min(MAX_SLOPE_SHIFT);
-    let axes = axes_of(alloc, shift, slopes)?;
+    let shift = bits.saturating_sub(8).min(MAX_SLOPE_SHIFT);
+    let few = source.channels.len() == 1 && bits <= FEW_BITS;
+    let axes = axes_of(alloc, shift, slopes, few)?;
     let mut taker = ByNeighbours {
         axes: axes.len(),
         samples: Samples::new(alloc, axes, &PREDICTORS)?,
         shift,
+        few,
         last: None,
     };
-    take_near(alloc, source, &mut taker, step)?;
+    let mut rows = NearRows::new(alloc);
+    for channel in 0..source.channels.len() {
+        taker.take_channel(&mut rows, source, channel, step)?;
+    }
     Ok(taker.samples)
 }
 
-/// Whether most samples of the channels, of this many bits beyond eight, are alike, by a look at about this number of each.
+/// Whether most samples of the channels, of this many bits, are alike, by a look at about this number of each.
 pub fn are_alike(
     alloc: Global,
     channels: &[AlignedGrid<i32>],
-    shift: u32,
+    bits: u32,
     pixels: usize,
 ) -> Result<bool, OutOfMemory> {
     let source = Source {
@@ -179,28 +222,27 @@ pub fn are_alike(
         colour: None,
     };
     let step = step_of(channels, pixels);
-    let samples = taken(alloc, source, shift, LOOKED_SLOPES, step)?;
+    let samples = taken(alloc, source, bits, LOOKED_SLOPES, step)?;
     Ok(samples.weights.are_mostly_alike())
 }
 
-/// The scheme that is learnt from a part of the samples of the channels, of this many bits beyond eight, the first three of
-/// which are coded by a colour transform of this kind, if there is one. It does not use the weighted predictor.
+/// The scheme that is learnt from a part of the samples of the channels, of this many bits, the first three of which are coded
+/// by a colour transform of this kind, if there is one. It does not use the weighted predictor.
 pub fn scheme_by_neighbours(
     alloc: Global,
     channels: &[AlignedGrid<i32>],
     colour: Option<u32>,
-    shift: u32,
+    bits: u32,
     care: Care,
 ) -> Result<Scheme, OutOfMemory> {
     let source = Source { channels, colour };
     let step = step_of(channels, care.pixels);
-    let samples = taken(alloc, source, shift, care.slopes, step)?;
+    let samples = taken(alloc, source, bits, care.slopes, step)?;
     let prices = Prices {
         scale: step as u64,
         decision: 28,
         leaf: 25,
         symbol: 6,
-        other: 0,
     };
     let bounds = Bounds {
         nodes: MAX_NODES,
@@ -209,5 +251,6 @@ pub fn scheme_by_neighbours(
         apart: false,
         rounds: care.rounds,
     };
-    scheme_within(alloc, &samples, prices, bounds, care.clusters)
+    let counted = samples.counted();
+    scheme_within(alloc, &counted, prices, bounds, care.clusters)
 }

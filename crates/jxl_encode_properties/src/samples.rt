@@ -2,8 +2,8 @@
 
 use crate::kept::{Weights, hash_of_both};
 use jxl_encode_learn::axis::Axis;
-use jxl_encode_learn::counted::{Class, Counted};
-use jxl_encode_learn::symbols::{SYMBOLS, symbol_of};
+use jxl_encode_learn::counted::Counted;
+use jxl_encode_learn::symbols::symbol_of;
 use jxlm_base::grid::OutOfMemory;
 use jxlm_predictor::predictor::Predictor;
 use std::alloc::Global;
@@ -116,80 +116,14 @@ impl Samples {
         Ok(())
     }
 
-    /// The symbols by a predictor.
-    fn symbols_by(&self, kind: usize) -> &[u8] {
-        match self.symbols.get(kind) {
-            Some(list) => list,
-            None => &[],
-        }
-    }
-
-    /// The places on an axis.
-    fn places_on(&self, axis: usize) -> &[u8] {
-        match self.places.get(axis) {
-            Some(list) => list,
-            None => &[],
-        }
-    }
-}
-
-impl Counted for Samples {
-    fn axes(&self) -> &[Axis] {
-        &self.axes
-    }
-
-    fn kinds(&self) -> usize {
-        self.predictors.len()
-    }
-
-    fn predictor(&self, kind: usize) -> Predictor {
-        self.predictors
-            .get(kind)
-            .copied()
-            .unwrap_or(Predictor::Gradient)
-    }
-
-    fn occurring(&self, alloc: Global) -> Result<Vec<Class>, OutOfMemory> {
-        let mut classes = Vec::new(alloc);
-        let mut number: u32 = 0;
-        for weight in &self.weights.list {
-            classes.push(Class {
-                number,
-                weight: *weight,
-            })?;
-            number = number.saturating_add(1);
-        }
-        Ok(classes)
-    }
-
-    fn place(&self, class: Class, axis: usize) -> usize {
-        self.places_on(axis)
-            .get(class.number as usize)
-            .copied()
-            .unwrap_or(0) as usize
-    }
-
-    fn add_all(&self, sums: &mut [u32], classes: &[Class], kind: usize) {
-        let symbols = self.symbols_by(kind);
-        for class in classes {
-            let symbol = symbols.get(class.number as usize).copied().unwrap_or(0);
-            if let Some(sum) = sums.get_mut(symbol as usize) {
-                *sum = sum.wrapping_add(class.weight);
-            }
-        }
-    }
-
-    fn add_places(&self, sums: &mut [u32], classes: &[Class], kind: usize, axis: usize) {
-        let symbols = self.symbols_by(kind);
-        let places = self.places_on(axis);
-        for class in classes {
-            let number = class.number as usize;
-            let place = places.get(number).copied().unwrap_or(0) as usize;
-            let symbol = symbols.get(number).copied().unwrap_or(0) as usize;
-            let at = place.wrapping_mul(SYMBOLS).wrapping_add(symbol);
-            if let Some(sum) = sums.get_mut(at) {
-                *sum = sum.wrapping_add(class.weight);
-            }
+    /// What a tree is learnt from.
+    pub(crate) fn counted(self) -> Counted {
+        Counted {
+            axes: self.axes,
+            predictors: self.predictors,
+            places: self.places,
+            symbols: self.symbols,
+            weights: self.weights.list,
         }
     }
 }

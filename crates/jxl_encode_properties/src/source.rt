@@ -17,10 +17,17 @@ pub fn is_taken(y: usize, step: usize) -> bool {
     y.wrapping_mul(40503).wrapping_add(10000) % 65536 < 65536 / step.max(1)
 }
 
-/// How many rows there are for each that is looked at, if about this number of samples of each channel are.
+/// About how many rows are looked at at least.
+const LEAST_ROWS: usize = 8;
+
+/// How many rows there are for each that is looked at, if about this number of samples of each channel are, or more of a channel
+/// that is so wide that these were few rows.
 pub(crate) fn step_of(channels: &[AlignedGrid<i32>], pixels: usize) -> usize {
     match channels.get(0) {
-        Some(first) => first.buf().len().div_ceil(pixels.max(1)).max(1),
+        Some(first) => {
+            let step = first.buf().len().div_ceil(pixels.max(1));
+            step.min(first.height() / LEAST_ROWS).max(1)
+        }
         None => 1,
     }
 }
@@ -32,18 +39,6 @@ pub fn samples_in(channels: &[AlignedGrid<i32>]) -> usize {
         samples = samples.saturating_add(channel.buf().len());
     }
     samples
-}
-
-/// The sample of a channel of luma and two differences, of these colours.
-fn luma(channel: usize, red: i32, green: i32, blue: i32) -> i32 {
-    let orange = red.wrapping_sub(blue);
-    let middle = blue.wrapping_add(orange >> 1);
-    let leaf = green.wrapping_sub(middle);
-    match channel {
-        0 => middle.wrapping_add(leaf >> 1),
-        1 => orange,
-        _ => leaf,
-    }
 }
 
 /// The channels from which the coded ones come by a colour transform of this kind.
@@ -62,7 +57,15 @@ fn order_of(kind: u32) -> [usize; 3] {
 fn formed(kind: u32, channel: usize, first: i32, second: i32, third: i32) -> i32 {
     let part = kind % 7;
     if part == 6 {
-        return luma(channel, first, second, third);
+        // Luma and two differences.
+        let orange = first.wrapping_sub(third);
+        let middle = third.wrapping_add(orange >> 1);
+        let leaf = second.wrapping_sub(middle);
+        return match channel {
+            0 => middle.wrapping_add(leaf >> 1),
+            1 => orange,
+            _ => leaf,
+        };
     }
     match channel {
         0 => first,

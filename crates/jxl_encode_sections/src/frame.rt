@@ -39,7 +39,6 @@ use jxl_codestream::layout::Layout;
 use jxl_coding::clusters::count_of;
 use jxl_coding_build::any::AnyWriter;
 use jxl_coding_stream_write::copies::TokenCopy;
-use jxl_encode_copies::plan::Searches;
 use jxl_encode_frame::sections::{empty_sections, put_section};
 use jxl_encode_image::image::{CodedImage, code_image};
 use jxl_encode_image::transform::{ImagePlan, ImageTransform};
@@ -63,8 +62,8 @@ pub struct FrameTree<'a> {
     pub clusters: &'a [u8],
     /// How large it may be in this frame.
     pub limits: MaConfigParams,
-    /// How often copies of earlier tokens are looked for, if they are.
-    pub copies: Option<Searches>,
+    /// How many places of equal tokens are tried for a copy, if copies are looked for.
+    pub copies: Option<usize>,
 }
 
 /// How a frame is cut.
@@ -168,17 +167,17 @@ fn length_of(sections: &[Vec<u8>]) -> usize {
 /// How copies are looked for in a frame, if they are: rows are as wide as its first channel, or a group.
 fn search_in(
     given: &[ModularChannelParams],
-    copies: Option<Searches>,
+    copies: Option<usize>,
     group_dim: u32,
 ) -> Option<CopySearch> {
-    let searches = copies?;
+    let tries = copies?;
     let width = match given.get(0) {
         Some(channel) => channel.width.min(group_dim),
         None => 1,
     };
     Some(CopySearch {
         width: width as usize,
-        searches,
+        tries,
     })
 }
 

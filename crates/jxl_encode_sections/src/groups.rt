@@ -21,7 +21,6 @@ use jxl_codestream::layout::Layout;
 use jxl_coding::decoder::EntropyDecoder;
 use jxl_coding_build::any::AnyWriter;
 use jxl_coding_stream_write::copies::TokenCopy;
-use jxl_encode_copies::plan::Searches;
 use jxl_encode_frame::sections::put_section;
 use jxl_encode_image::image::CodedImage;
 use jxlm_base::grid::OutOfMemory;
@@ -36,8 +35,8 @@ use std::alloc::{AllocError, Global};
 pub(crate) struct CopySearch {
     /// The width of most rows.
     pub(crate) width: usize,
-    /// How often streams are searched.
-    pub(crate) searches: Searches,
+    /// How many places of equal tokens are tried for a copy.
+    pub(crate) tries: usize,
 }
 
 /// An image as it is coded, the tree of its samples, and how its frame is cut.

@@ -10,10 +10,8 @@ use crate::ranks::{Ranks, add_rank_ways, ranks_of};
 use jxl_encode_image::transform::PalettePlan;
 use jxl_encode_learn::scheme::Scheme;
 use jxl_encode_properties::broad::scheme_by_all;
-use jxl_encode_properties::neighbours::{Care, are_alike, scheme_by_neighbours};
-use jxl_encode_properties::values::scheme_by_values;
+use jxl_encode_properties::neighbours::{Care, FEW_BITS, are_alike, scheme_by_neighbours};
 use jxl_image_header::channel::BitDepth;
-use jxl_image_header::size::Size;
 use jxl_picture::picture::{Picture, is_grey};
 use jxlm_base::grid::{AlignedGrid, OutOfMemory};
 use jxlm_encode_write::tree::EncodeNode;
@@ -67,9 +65,33 @@ impl Learning {
         }
     }
 
-    /// How much is tried of samples most of which are alike, if `alike` says so.
-    pub(crate) fn care(self, alike: bool) -> Care {
-        let care = care_of(self.effort(), alike);
+    /// How much is tried of these samples.
+    pub(crate) fn care(self, samples: Samples<'_>) -> Care {
+        let alike = samples.alike;
+        let few = samples.depth.bits_per_sample <= FEW_BITS;
+        let care = match self.effort() {
+            Effort::Fast => Care {
+                pixels: if alike { 1 << 15 } else { FEW_PIXELS },
+                slopes: if few { 6 } else { 2 },
+                clusters: if few { 16 } else { 5 },
+                step: 0,
+                rounds: 0,
+            },
+            Effort::Usual => Care {
+                pixels: if alike { 1 << 18 } else { 1 << 15 },
+                slopes: 6,
+                clusters: if alike { 16 } else { 32 },
+                step: if alike { ALIKE_STEP } else { 0 },
+                rounds: 2,
+            },
+            Effort::Best => Care {
+                pixels: 1 << 19,
+                slopes: 6,
+                clusters: 64,
+                step: 0,
+                rounds: 2,
+            },
+        };
         match self {
             Learning::Look(pixels) => Care {
                 pixels,
@@ -82,15 +104,6 @@ impl Learning {
     }
 }
 
-/// The cheapest way to code a picture, as far as is known: its scheme and its colour transform.
-#[derive(Drop)]
-pub(crate) struct Way {
-    scheme: Scheme,
-    /// The colour transform, if there is one.
-    pub(crate) colour: Option<u32>,
-    broad: bool,
-}
-
 impl<'a> Samples<'a> {
     /// Those of a picture, of which most are alike if `alike` says so.
     pub(crate) fn of(picture: &'a Picture, alike: bool) -> Samples<'a> {
@@ -98,17 +111,6 @@ impl<'a> Samples<'a> {
             channels: &picture.channels,
             depth: picture.header.bit_depth,
             alike,
-        }
-    }
-}
-
-impl Way {
-    /// By this scheme, which is not by all properties, after this colour transform or without one.
-    fn new(scheme: Scheme, colour: Option<u32>) -> Way {
-        Way {
-            scheme,
-            colour,
-            broad: false,
         }
     }
 }
@@ -126,6 +128,18 @@ impl Advice {
         }
     }
 
+    /// By this scheme, after this colour transform or without one; `broad`, if the scheme is by all properties and predictors.
+    fn by(alloc: Global, scheme: Scheme, colour: Option<u32>, broad: bool) -> Advice {
+        Advice {
+            nodes: scheme.nodes,
+            clusters: scheme.clusters,
+            colour,
+            palettes: Vec::new(alloc),
+            cost: scheme.cost,
+            broad,
+        }
+    }
+
     /// Whether a picture is coded alike by both.
     fn is_same(&self, other: &Advice) -> bool {
         self.colour == other.colour
@@ -134,9 +148,6 @@ impl Advice {
             && self.nodes.as_slice() == other.nodes.as_slice()
     }
 }
-
-/// The property that is the number of the channel.
-pub(crate) const CHANNEL: u32 = 0;
 
 /// The kind of colour transform that is luma and two differences.
 const LUMA: u32 = 6;
@@ -175,52 +186,6 @@ const TRIED_SAMPLES: usize = 1 << 15;
 /// it.
 const WEIGHTS_GAIN: u64 = 9;
 
-/// The cheaper of two ways, the first of which may be absent.
-fn cheaper(best: Option<Way>, other: Way) -> Option<Way> {
-    match best {
-        Some(old) if old.scheme.cost <= other.scheme.cost => Some(old),
-        _ => Some(other),
-    }
-}
-
-/// How much is tried at an effort of a picture of which most samples are alike, if `alike` says so.
-pub(crate) fn care_of(effort: Effort, alike: bool) -> Care {
-    match effort {
-        Effort::Fast => Care {
-            pixels: if alike { 1 << 15 } else { FEW_PIXELS },
-            slopes: 2,
-            clusters: 5,
-            step: 0,
-            rounds: 0,
-        },
-        Effort::Usual => Care {
-            pixels: if alike { 1 << 18 } else { 1 << 15 },
-            slopes: 6,
-            clusters: if alike { 16 } else { 32 },
-            step: if alike { ALIKE_STEP } else { 0 },
-            rounds: 2,
-        },
-        Effort::Best => Care {
-            pixels: 1 << 19,
-            slopes: 6,
-            clusters: 64,
-            step: 0,
-            rounds: 2,
-        },
-    }
-}
-
-/// The scheme that is learnt from some of a picture's samples after this colour transform or without one.
-pub(crate) fn scheme_on(
-    alloc: Global,
-    picture: Samples<'_>,
-    colour: Option<u32>,
-    care: Care,
-) -> Result<Scheme, OutOfMemory> {
-    let shift = picture.depth.bits_per_sample.saturating_sub(8);
-    scheme_by_neighbours(alloc, picture.channels, colour, shift, care)
-}
-
 /// The cheapest way to code a picture by a tree that is learnt from some of its samples, with this care, after one of these
 /// colour transforms; none, if there is none of them.
 pub(crate) fn by_neighbours(
@@ -228,11 +193,15 @@ pub(crate) fn by_neighbours(
     picture: Samples<'_>,
     care: Care,
     colours: &[Option<u32>],
-) -> Result<Option<Way>, OutOfMemory> {
-    let mut best = None;
+) -> Result<Option<Advice>, OutOfMemory> {
+    let mut best: Option<Advice> = None;
     for colour in colours {
-        let scheme = scheme_on(alloc, picture, *colour, care)?;
-        best = cheaper(best, Way::new(scheme, *colour));
+        let bits = picture.depth.bits_per_sample;
+        let scheme = scheme_by_neighbours(alloc, picture.channels, *colour, bits, care)?;
+        best = match best {
+            Some(old) if old.cost <= scheme.cost => Some(old),
+            _ => Some(Advice::by(alloc, scheme, *colour, false)),
+        };
     }
     Ok(best)
 }
@@ -245,14 +214,10 @@ pub(crate) fn by_all(
     samples: usize,
     colour: Option<u32>,
     weighted: bool,
-) -> Result<Way, OutOfMemory> {
+) -> Result<Advice, OutOfMemory> {
     let bits = picture.depth.bits_per_sample;
     let scheme = scheme_by_all(alloc, picture.channels, colour, bits, samples, weighted)?;
-    Ok(Way {
-        scheme,
-        colour,
-        broad: true,
-    })
+    Ok(Advice::by(alloc, scheme, colour, true))
 }
 
 /// Whether the weighted predictor and its errors save more than a ninth of what some of the samples cost by all other
@@ -262,58 +227,23 @@ pub(crate) fn saves_by_weights(
     picture: Samples<'_>,
     colour: Option<u32>,
 ) -> Result<bool, OutOfMemory> {
-    let with = by_all(alloc, picture, TRIED_SAMPLES, colour, true)?
-        .scheme
-        .cost;
-    let without = by_all(alloc, picture, TRIED_SAMPLES, colour, false)?
-        .scheme
-        .cost;
+    let with = by_all(alloc, picture, TRIED_SAMPLES, colour, true)?.cost;
+    let without = by_all(alloc, picture, TRIED_SAMPLES, colour, false)?.cost;
     Ok(with < without.saturating_sub(without / WEIGHTS_GAIN))
 }
 
 /// Adds an advice, unless a picture is coded alike by one of them.
 pub(crate) fn add_advice(list: &mut Vec<Advice>, advice: Advice) -> Result<(), OutOfMemory> {
-    if !list.iter().any(|other| other.is_same(&advice)) {
-        list.push(advice)?;
+    for other in list.iter() {
+        if other.is_same(&advice) {
+            return Ok(());
+        }
     }
+    list.push(advice)?;
     Ok(())
 }
 
-/// Adds a way, if there is one that is not among them.
-pub(crate) fn add_way(
-    alloc: Global,
-    list: &mut Vec<Advice>,
-    way: Option<Way>,
-) -> Result<(), OutOfMemory> {
-    let Some(way) = way else {
-        return Ok(());
-    };
-    let cost = way.scheme.cost;
-    let advice = Advice {
-        nodes: way.scheme.nodes,
-        clusters: way.scheme.clusters,
-        colour: way.colour,
-        palettes: Vec::new(alloc),
-        cost,
-        broad: way.broad,
-    };
-    add_advice(list, advice)
-}
-
-/// Adds the way by the values of the samples, if they are few: about this number of each channel are looked at.
-fn add_way_by_values(
-    alloc: Global,
-    list: &mut Vec<Advice>,
-    picture: Samples<'_>,
-    pixels: usize,
-) -> Result<(), OutOfMemory> {
-    match scheme_by_values(alloc, picture.channels, pixels)? {
-        Some(scheme) => add_way(alloc, list, Some(Way::new(scheme, None))),
-        None => Ok(()),
-    }
-}
-
-/// Adds the ways that are learnt so: at lower efforts by values, and by neighbours after the likeliest of these colour transforms. By
+/// Adds the ways that are learnt so: at lower efforts by neighbours after the likeliest of these colour transforms. By
 /// few samples the tree is learnt with each of these, as a look takes no less time.
 pub(crate) fn add_ways_of(
     alloc: Global,
@@ -327,8 +257,7 @@ pub(crate) fn add_ways_of(
         Learning::Broad => return add_broad_way(alloc, list, picture, colours),
         _ => {}
     }
-    let care = learning.care(picture.alike);
-    add_way_by_values(alloc, list, picture, care.pixels)?;
+    let care = learning.care(picture);
     let few = matches!(learning, Learning::Look(_)) || care.pixels <= FEW_PIXELS;
     let way = if few {
         by_neighbours(alloc, picture, care, colours)?
@@ -336,7 +265,10 @@ pub(crate) fn add_ways_of(
         let colour = likeliest_colour(alloc, picture, colours, LOOKED)?;
         by_neighbours(alloc, picture, care, &[colour])?
     };
-    add_way(alloc, list, way)
+    match way {
+        Some(way) => add_advice(list, way),
+        None => Ok(()),
+    }
 }
 
 /// The colour transforms that are tried of a picture at an effort: of floats and of very deep samples none. Those at the greatest
@@ -388,18 +320,12 @@ pub(crate) fn add_other_ways(
     }
 }
 
-/// How many groups a picture of this size has side by side, and one below the other.
-fn groups_of(size: Size) -> (u64, u64) {
-    (
-        u64::from(size.width.div_ceil(GROUP_DIM)),
-        u64::from(size.height.div_ceil(GROUP_DIM)),
-    )
-}
-
 /// Whether the samples of a picture take so few bits in the cheapest of these ways that the headers of its groups, which no
 /// cost includes, may take more.
 fn is_nearly_flat(list: &[Advice], picture: &Picture) -> bool {
-    let (across, down) = groups_of(picture.header.size);
+    let size = picture.header.size;
+    let across = u64::from(size.width.div_ceil(GROUP_DIM));
+    let down = u64::from(size.height.div_ceil(GROUP_DIM));
     least_cost(list) / GROUP_COST <= across.saturating_mul(down)
 }
 
@@ -427,8 +353,8 @@ pub fn advices_for(
 ) -> Result<Vec<Advice>, OutOfMemory> {
     let mut list = Vec::new(alloc);
     let small = is_small(picture);
-    let shift = picture.header.bit_depth.bits_per_sample.saturating_sub(8);
-    let alike = are_alike(alloc, &picture.channels, shift, FEW_PIXELS)?;
+    let bits = picture.header.bit_depth.bits_per_sample;
+    let alike = are_alike(alloc, &picture.channels, bits, FEW_PIXELS)?;
     if matches!(effort, Effort::Usual) && !(small && repeats) {
         let list = ways_by_looks(alloc, picture, alike)?;
         if !is_nearly_flat(&list, picture) {

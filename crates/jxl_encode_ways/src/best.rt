@@ -2,10 +2,11 @@
 //! only by the best of them trees are learnt with most care. They are heuristics: no sample depends on them.
 
 use crate::advice::{
-    ALL_SAMPLES, Advice, CHANNEL, Learning, Samples, add_advice, add_other_ways, add_way, by_all,
-    by_neighbours, care_of, colours_of, saves_by_weights, scheme_on,
+    ALL_SAMPLES, Advice, Learning, Samples, add_advice, add_other_ways, by_all, by_neighbours,
+    colours_of, saves_by_weights,
 };
 use crate::effort::Effort;
+use crate::joined::CHANNEL;
 use crate::palettes::add_palette_ways_by;
 use crate::ranks::ranks_of;
 use jxl_encode_palette::colours::ColourOrder;
@@ -35,13 +36,6 @@ const SMALL_WAYS: usize = 3;
 /// How many ways are tried to the end where samples repeat and there is no palette of all channels.
 const COPIED_WAYS: usize = 2;
 
-/// The orders of colours of which one way is tried to the end where samples repeat.
-const ORDERS: [ColourOrder; 3] = [
-    ColourOrder::Frequency,
-    ColourOrder::Nearest,
-    ColourOrder::Sample,
-];
-
 /// How many ways are tried to the end elsewhere.
 const WAYS: usize = 4;
 
@@ -62,31 +56,6 @@ const NODES_GAIN: u64 = 8;
 /// save where samples repeat: it is decoded in more time.
 const BROAD_GAIN: u64 = 12;
 
-/// The place of the least of these numbers that is not taken; none, if all are.
-fn next_least(numbers: &[u64], taken: &[usize]) -> Option<usize> {
-    let mut best: Option<usize> = None;
-    let mut least = u64::MAX;
-    for at in 0..numbers.len() {
-        let number = numbers[at];
-        if (best.is_none() || number < least) && !taken.contains(&at) {
-            least = number;
-            best = Some(at);
-        }
-    }
-    best
-}
-
-/// The places of the least of these numbers, at most this many, the least first.
-fn least_of(alloc: Global, numbers: &[u64], most: usize) -> Result<Vec<usize>, OutOfMemory> {
-    let mut places = Vec::new(alloc);
-    for _ in 0..most.min(numbers.len()) {
-        if let Some(at) = next_least(numbers, &places) {
-            places.push(at)?;
-        }
-    }
-    Ok(places)
-}
-
 /// The colour transform, if there are several, with which about this number of the samples of each channel cost least.
 pub(crate) fn likeliest_colour(
     alloc: Global,
@@ -103,7 +72,7 @@ pub(crate) fn likeliest_colour(
     };
     let care = Care {
         pixels: pixels.min(LEAST_LOOKED.max(all / LOOKED_SHARE)),
-        ..care_of(Effort::Fast, true)
+        ..Learning::At(Effort::Fast).care(samples)
     };
     match by_neighbours(alloc, samples, care, colours)? {
         Some(way) => Ok(way.colour),
@@ -120,14 +89,16 @@ pub(crate) fn add_best_ways_of(
     colours: &[Option<u32>],
 ) -> Result<(), OutOfMemory> {
     if samples.depth.exp_bits != 0 {
-        let care = care_of(Effort::Best, samples.alike);
-        let way = by_neighbours(alloc, samples, care, colours)?;
-        return add_way(alloc, list, way);
+        let care = Learning::At(Effort::Best).care(samples);
+        return match by_neighbours(alloc, samples, care, colours)? {
+            Some(way) => add_advice(list, way),
+            None => Ok(()),
+        };
     }
     let colour = likeliest_colour(alloc, samples, colours, LOOKED)?;
     let weighted = samples_in(samples.channels) > SMALL;
-    let broad = by_all(alloc, samples, ALL_SAMPLES, colour, weighted)?;
-    add_way(alloc, list, Some(broad))
+    let way = by_all(alloc, samples, ALL_SAMPLES, colour, weighted)?;
+    add_advice(list, way)
 }
 
 /// Adds the way by all properties and predictors alone, after the likeliest of these colour transforms; without the weighted
@@ -144,17 +115,8 @@ pub(crate) fn add_broad_way(
     } else {
         false
     };
-    let broad = by_all(alloc, samples, ALL_SAMPLES, colour, weighted)?;
-    add_way(alloc, list, Some(broad))
-}
-
-/// What the ways cost.
-fn costs_of(alloc: Global, ways: &[Advice]) -> Result<Vec<u64>, OutOfMemory> {
-    let mut costs = Vec::new(alloc);
-    for way in ways {
-        costs.push(way.cost)?;
-    }
-    Ok(costs)
+    let way = by_all(alloc, samples, ALL_SAMPLES, colour, weighted)?;
+    add_advice(list, way)
 }
 
 /// The order of colours of a way's palette of all channels; none, if it has no such palette.
@@ -194,17 +156,31 @@ fn least_of_ways(ways: &[Advice], picture: &Picture, palette: bool, broad: bool)
     least
 }
 
-/// The ways at these places, and those by all properties and predictors.
-fn kept_at(alloc: Global, ways: Vec<Advice>, places: &[usize]) -> Result<Vec<Advice>, OutOfMemory> {
+/// The ways for which it says so, and those by all properties and predictors.
+fn kept_of(alloc: Global, ways: Vec<Advice>, keep: &[bool]) -> Result<Vec<Advice>, OutOfMemory> {
     let mut kept = Vec::new(alloc);
     let mut at: usize = 0;
     for way in ways {
-        if way.broad || places.contains(&at) {
+        if way.broad || keep.get(at).copied().unwrap_or(false) {
             kept.push(way)?;
         }
         at = at.saturating_add(1);
     }
     Ok(kept)
+}
+
+/// How many of these ways cost less than this one, or as much and are before it.
+fn rank_of(ways: &[Advice], place: usize) -> usize {
+    let Some(way) = ways.get(place) else {
+        return ways.len();
+    };
+    let mut rank: usize = 0;
+    for at in 0..ways.len() {
+        if ways[at].cost < way.cost || (ways[at].cost == way.cost && at < place) {
+            rank = rank.saturating_add(1);
+        }
+    }
+    rank
 }
 
 /// The ways by all properties and predictors, and the cheapest of these ways, at most this many.
@@ -213,44 +189,27 @@ pub(crate) fn cheapest_of(
     ways: Vec<Advice>,
     most: usize,
 ) -> Result<Vec<Advice>, OutOfMemory> {
-    let costs = costs_of(alloc, &ways)?;
-    let places = least_of(alloc, &costs, most)?;
-    kept_at(alloc, ways, &places)
-}
-
-/// Whether a way has a palette of all channels in this order, and a tree by some properties.
-fn is_in_order(way: &Advice, picture: &Picture, order: ColourOrder) -> bool {
-    !way.broad && order_of(way, picture) == Some(order)
-}
-
-/// The place of the cheapest of these ways in an order.
-fn best_in(ways: &[Advice], picture: &Picture, order: ColourOrder) -> Option<usize> {
-    let mut best: Option<usize> = None;
-    let mut least = u64::MAX;
+    let mut keep = Vec::new(alloc);
     for at in 0..ways.len() {
-        let way = &ways[at];
-        let cheaper = best.is_none() || way.cost < least;
-        if cheaper && is_in_order(way, picture, order) {
-            least = way.cost;
-            best = Some(at);
-        }
+        keep.push(rank_of(&ways, at) < most)?;
     }
-    best
+    kept_of(alloc, ways, &keep)
 }
 
-/// The places of the cheapest ways in each order. By costs without copies it is not known which is the shortest with them.
-fn cheapest_in_orders(
-    alloc: Global,
-    ways: &[Advice],
-    picture: &Picture,
-) -> Result<Vec<usize>, OutOfMemory> {
-    let mut places = Vec::new(alloc);
-    for order in &ORDERS {
-        if let Some(at) = best_in(ways, picture, *order) {
-            places.push(at)?;
+/// Whether a way has a palette of all channels, and is the cheapest in the order of its colours of those by some properties.
+fn leads_order(ways: &[Advice], picture: &Picture, place: usize) -> bool {
+    let Some(way) = ways.get(place) else {
+        return false;
+    };
+    let order = order_of(way, picture);
+    for at in 0..ways.len() {
+        let other = &ways[at];
+        let before = other.cost < way.cost || (other.cost == way.cost && at < place);
+        if before && !other.broad && order_of(other, picture) == order {
+            return false;
         }
     }
-    Ok(places)
+    order.is_some() && !way.broad
 }
 
 /// The ways that are decoded in little time: by a palette of all channels, or by a tree that, if it is by all properties, costs
@@ -318,36 +277,18 @@ fn copied_of(
     let broad = least_of_ways(&ways, picture, true, true);
     let most = broad.saturating_sub(broad / BROAD_GAIN);
     let ways = quick_ways(alloc, ways, picture, most)?;
-    let places = cheapest_in_orders(alloc, &ways, picture)?;
-    if places.is_empty() {
-        return cheapest_of(alloc, ways, COPIED_WAYS);
+    let mut keep = Vec::new(alloc);
+    for at in 0..ways.len() {
+        keep.push(leads_order(&ways, picture, at))?;
     }
-    kept_at(alloc, ways, &places)
+    if keep.contains(&true) {
+        return kept_of(alloc, ways, &keep);
+    }
+    cheapest_of(alloc, ways, COPIED_WAYS)
 }
 
-/// The tree that has a leaf with this predictor for each of these channels, level by level.
-fn leaf_for_each(
-    alloc: Global,
-    predictor: Predictor,
-    channels: usize,
-) -> Result<Vec<EncodeNode>, OutOfMemory> {
-    let mut nodes = Vec::new(alloc);
-    let leaf = EncodeNode::Leaf {
-        predictor,
-        offset: 0,
-    };
-    for back in 1..channels {
-        nodes.push(EncodeNode::Decision {
-            property: CHANNEL,
-            value: channels.saturating_sub(back).saturating_sub(1).min(255) as i32,
-        })?;
-        nodes.push(leaf)?;
-    }
-    nodes.push(leaf)?;
-    Ok(nodes)
-}
-
-/// The way by one predictor alone, with a code for each channel, after this colour transform or without one.
+/// The way by one predictor alone, with a leaf and a code for each of these channels, after this colour transform or without
+/// one.
 fn plain_way(
     alloc: Global,
     predictor: Predictor,
@@ -355,10 +296,21 @@ fn plain_way(
     colour: Option<u32>,
 ) -> Result<Advice, OutOfMemory> {
     let mut way = Advice::none(alloc);
-    way.nodes = leaf_for_each(alloc, predictor, channels)?;
     way.colour = colour;
     for channel in 0..channels {
         way.clusters.push(channel.min(255) as u8)?;
+        // The leaves are in the order of falling channels.
+        let below = channels.saturating_sub(channel).saturating_sub(1);
+        if below > 0 {
+            way.nodes.push(EncodeNode::Decision {
+                property: CHANNEL,
+                value: below.saturating_sub(1).min(255) as i32,
+            })?;
+        }
+        way.nodes.push(EncodeNode::Leaf {
+            predictor,
+            offset: 0,
+        })?;
     }
     Ok(way)
 }
@@ -406,17 +358,6 @@ fn learning_of(picture: &Picture, repeats: bool) -> Learning {
     }
 }
 
-/// Whether ways without a palette of all channels, of this cost by an estimate, are tried beside those by one.
-fn is_likely(other: u64, palette: u64) -> bool {
-    other <= palette.saturating_add(palette / MARGIN)
-}
-
-/// Whether ways without a palette of all channels, of this cost by an estimate, are left out beside the way by one and by
-/// all properties, of this cost.
-fn is_clear(broad: u64, other: u64) -> bool {
-    broad.saturating_mul(4) <= other.saturating_mul(3)
-}
-
 /// The ways that are tried at the greatest effort, where these are those of lower ones: samples repeat if `repeats` says so. A
 /// small picture of few colours is tried by palettes, by small trees of lower efforts and by single predictors alone: it is
 /// decoded in less time.
@@ -442,9 +383,12 @@ pub(crate) fn best_ways(
         palette = cost;
         add_palette_ways_by(alloc, &mut ways, picture, alike, learning, &[order])?;
     }
-    let clear = broad && is_clear(least_of_ways(&ways, picture, true, true), other);
+    // By estimates: whether a palette is not clearly better than none, and, learnt with care, not clearly better than that.
+    let likely = other <= palette.saturating_add(palette / MARGIN);
+    let learnt = least_of_ways(&ways, picture, true, true);
+    let clear = broad && learnt.saturating_mul(4) <= other.saturating_mul(3);
     let few = small && palette < u64::MAX;
-    if is_likely(other, palette) && !clear && !few {
+    if likely && !clear && !few {
         let ranks = ranks_of(alloc, picture)?;
         add_other_ways(alloc, &mut ways, picture, alike, &ranks, learning)?;
     }

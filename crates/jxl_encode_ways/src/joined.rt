@@ -43,19 +43,6 @@ impl Levels<'_> {
         }
     }
 
-    /// The node, of channels behind others.
-    fn moved(&self, node: EncodeNode) -> EncodeNode {
-        match node {
-            EncodeNode::Decision { property, value } if property == CHANNEL => {
-                EncodeNode::Decision {
-                    property,
-                    value: value.saturating_add(self.channels),
-                }
-            }
-            other => other,
-        }
-    }
-
     /// Adds the nodes and clusters of the next level.
     fn add_level(&mut self, tree: &mut JoinedTree) -> Result<(), OutOfMemory> {
         let mut decisions: usize = 0;
@@ -64,13 +51,23 @@ impl Levels<'_> {
                 break;
             };
             self.node = self.node.saturating_add(1);
-            tree.nodes.push(self.moved(node))?;
-            if matches!(node, EncodeNode::Decision { .. }) {
-                decisions = decisions.saturating_add(1);
-            } else {
-                let cluster = self.clusters.get(self.leaf).copied().unwrap_or(0);
-                self.leaf = self.leaf.saturating_add(1);
-                tree.clusters.push(cluster.saturating_add(self.shift))?;
+            match node {
+                EncodeNode::Decision { property, value } => {
+                    let behind = if property == CHANNEL {
+                        self.channels
+                    } else {
+                        0
+                    };
+                    let value = value.saturating_add(behind);
+                    tree.nodes.push(EncodeNode::Decision { property, value })?;
+                    decisions = decisions.saturating_add(1);
+                }
+                leaf => {
+                    tree.nodes.push(leaf)?;
+                    let cluster = self.clusters.get(self.leaf).copied().unwrap_or(0);
+                    self.leaf = self.leaf.saturating_add(1);
+                    tree.clusters.push(cluster.saturating_add(self.shift))?;
+                }
             }
         }
         self.width = decisions.saturating_mul(2);

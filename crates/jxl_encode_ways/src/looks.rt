@@ -51,39 +51,24 @@ struct Looked {
     cost: u64,
 }
 
-/// The likelier of two palettes, the first of which may be absent.
-fn likelier(best: Option<Looked>, other: Looked) -> Looked {
-    match best {
-        Some(old) if old.cost <= other.cost => old,
-        _ => other,
-    }
-}
-
-/// What the picture may cost by a palette.
-fn cost_by(
-    alloc: Global,
-    palette: &AllByPalette,
-    alike: bool,
-    look: Learning,
-) -> Result<u64, OutOfMemory> {
-    let mut list = Vec::new(alloc);
-    palette.add_ways(alloc, &mut list, alike, look)?;
-    Ok(least_cost(&list))
-}
-
 /// The palette of all channels by which the picture may cost least; none, if its colours are too many.
 fn likeliest_palette(
     alloc: Global,
     picture: &Picture,
     alike: bool,
 ) -> Result<Option<Looked>, OutOfMemory> {
-    let mut best = None;
+    let mut best: Option<Looked> = None;
     for order in orders_of(Effort::Usual, picture.channels.len()) {
         let Some(palette) = all_by_palette(alloc, picture, *order, Effort::Usual)? else {
             return Ok(best);
         };
-        let cost = cost_by(alloc, &palette, alike, look_at(picture))?;
-        best = Some(likelier(best, Looked { palette, cost }));
+        let mut list = Vec::new(alloc);
+        palette.add_ways(alloc, &mut list, alike, look_at(picture))?;
+        let cost = least_cost(&list);
+        best = match best {
+            Some(old) if old.cost <= cost => Some(old),
+            _ => Some(Looked { palette, cost }),
+        };
     }
     Ok(best)
 }

@@ -1,13 +1,13 @@
 //! Ways to code a picture of few colours by a palette. They are heuristics: no sample depends on them.
 
-use crate::advice::{Advice, GROUP_DIM, Learning, Samples, add_advice, add_ways_of, scheme_on};
+use crate::advice::{Advice, GROUP_DIM, Learning, Samples, add_advice, add_ways_of};
 use crate::effort::Effort;
 use crate::joined::{CHANNEL, Levels, joined};
 use jxl_encode_image::transform::PalettePlan;
 use jxl_encode_learn::scheme::Scheme;
 use jxl_encode_palette::colours::ColourOrder;
 use jxl_encode_palette::palette::{TableGrids, tables_of};
-use jxl_encode_properties::neighbours::Care;
+use jxl_encode_properties::neighbours::{Care, scheme_by_neighbours};
 use jxl_image_header::channel::BitDepth;
 use jxl_picture::picture::Picture;
 use jxlm_base::grid::{AlignedGrid, OutOfMemory};
@@ -78,7 +78,8 @@ fn way_of(
 /// How indices are stored.
 pub(crate) fn depth_of(colours: usize) -> BitDepth {
     let bits_per_sample = match colours {
-        0..=256 => 8,
+        0..=16 => 4,
+        17..=256 => 8,
         257..=1024 => 10,
         1025..=4096 => 12,
         4097..=16384 => 14,
@@ -88,13 +89,6 @@ pub(crate) fn depth_of(colours: usize) -> BitDepth {
         bits_per_sample,
         exp_bits: 0,
     }
-}
-
-/// A list of this grid alone.
-fn list_of(alloc: Global, grid: AlignedGrid<i32>) -> Result<Vec<AlignedGrid<i32>>, OutOfMemory> {
-    let mut list = Vec::new(alloc);
-    list.push(grid)?;
-    Ok(list)
 }
 
 /// Channels as palettes code them: the tables, all other channels, and how these are stored.
@@ -110,17 +104,17 @@ fn scheme_of_tables(
     coded: Coded<'_>,
     learning: Learning,
 ) -> Result<Scheme, OutOfMemory> {
-    let care = Care {
-        pixels: usize::MAX,
-        slopes: TABLE_SLOPES,
-        ..learning.care(true)
-    };
     let tables = Samples {
         channels: coded.tables,
         depth: BYTES,
         alike: true,
     };
-    scheme_on(alloc, tables, None, care)
+    let care = Care {
+        pixels: usize::MAX,
+        slopes: TABLE_SLOPES,
+        ..learning.care(tables)
+    };
+    scheme_by_neighbours(alloc, tables.channels, None, BYTES.bits_per_sample, care)
 }
 
 /// Adds the ways by these palettes, and one of these colour transforms.
@@ -158,18 +152,6 @@ pub(crate) struct AllByPalette {
 }
 
 impl AllByPalette {
-    /// The tables and the indices, most of which are alike if `alike` says so.
-    fn coded(&self, alike: bool) -> Coded<'_> {
-        Coded {
-            tables: &self.tables,
-            samples: Samples {
-                channels: &self.indices,
-                depth: self.depth,
-                alike,
-            },
-        }
-    }
-
     /// Adds the ways by it that are learnt so.
     pub(crate) fn add_ways(
         &self,
@@ -178,7 +160,14 @@ impl AllByPalette {
         alike: bool,
         learning: Learning,
     ) -> Result<(), OutOfMemory> {
-        let coded = self.coded(alike);
+        let coded = Coded {
+            tables: &self.tables,
+            samples: Samples {
+                channels: &self.indices,
+                depth: self.depth,
+                alike,
+            },
+        };
         add_ways_by(alloc, list, coded, &[self.plan], &[None], learning)
     }
 }
@@ -213,16 +202,6 @@ pub(crate) fn is_sparse(table: &AlignedGrid<i32>) -> bool {
     are_far_apart(table.width(), least, most)
 }
 
-/// The most colours that a palette of this number of pixels has at an effort.
-fn most_colours(pixels: usize, effort: Effort) -> usize {
-    let most = if matches!(effort, Effort::Fast) {
-        MOST_COLOURS / 4
-    } else {
-        MOST_COLOURS
-    };
-    most.min(pixels / PIXELS)
-}
-
 /// All channels by a palette in this order, if they are one to four of one size, and their colours few.
 pub(crate) fn all_by_palette(
     alloc: Global,
@@ -235,7 +214,11 @@ pub(crate) fn all_by_palette(
         Some(first) => first.buf().len(),
         None => 0,
     };
-    let most = most_colours(pixels, effort);
+    let colours = match effort {
+        Effort::Fast => MOST_COLOURS / 4,
+        _ => MOST_COLOURS,
+    };
+    let most = colours.min(pixels / PIXELS);
     let Some(found) = tables_of(alloc, channels, order, most)? else {
         return Ok(None);
     };
@@ -244,6 +227,10 @@ pub(crate) fn all_by_palette(
         return Ok(None);
     }
     let depth = depth_of(table.width());
+    let mut tables = Vec::new(alloc);
+    tables.push(table)?;
+    let mut indices = Vec::new(alloc);
+    indices.push(index)?;
     Ok(Some(AllByPalette {
         plan: PalettePlan {
             first: 0,
@@ -251,8 +238,8 @@ pub(crate) fn all_by_palette(
             order,
             most,
         },
-        tables: list_of(alloc, table)?,
-        indices: list_of(alloc, index)?,
+        tables,
+        indices,
         depth,
     }))
 }

@@ -33,17 +33,6 @@ struct Seen {
 }
 
 impl Seen {
-    /// None, of samples of this many bits.
-    fn new(alloc: Global, bits_per_sample: u32) -> Result<Seen, OutOfMemory> {
-        let values = 1usize.wrapping_shl(bits_per_sample.min(16));
-        Ok(Seen {
-            flags: vec![in alloc; false; values]?,
-            count: 0,
-            least: i32::MAX,
-            most: i32::MIN,
-        })
-    }
-
     /// Adds the values of a row.
     fn add_row(&mut self, row: &[i32]) {
         for sample in row {
@@ -65,7 +54,13 @@ fn is_dense(alloc: Global, picture: &Picture, channel: usize) -> Result<bool, Ou
     let Some(grid) = picture.channels.get(channel) else {
         return Ok(false);
     };
-    let mut seen = Seen::new(alloc, picture.header.bit_depth.bits_per_sample)?;
+    let values = 1usize.wrapping_shl(picture.header.bit_depth.bits_per_sample.min(16));
+    let mut seen = Seen {
+        flags: vec![in alloc; false; values]?,
+        count: 0,
+        least: i32::MAX,
+        most: i32::MIN,
+    };
     let step = (grid.buf().len() / LOOKED).max(1);
     for y in 0..grid.height() {
         if is_taken(y, step) {
@@ -95,15 +90,6 @@ pub(crate) struct Ranks {
 }
 
 impl Ranks {
-    /// The samples that are coded beside the tables, most of which are alike if `alike` says so.
-    fn samples(&self, alike: bool) -> Samples<'_> {
-        Samples {
-            channels: &self.channels,
-            depth: depth_of(self.most),
-            alike,
-        }
-    }
-
     /// Puts the ranks of a channel in its place. Returns false if its values are too many, or not far apart.
     fn add(
         &mut self,
@@ -168,7 +154,11 @@ pub(crate) fn add_rank_ways(
 ) -> Result<(), OutOfMemory> {
     let coded = Coded {
         tables: &ranks.tables,
-        samples: ranks.samples(alike),
+        samples: Samples {
+            channels: &ranks.channels,
+            depth: depth_of(ranks.most),
+            alike,
+        },
     };
     add_ways_by(alloc, list, coded, &ranks.plans, colours, learning)
 }

@@ -35,17 +35,6 @@ struct Look {
 }
 
 impl Look {
-    /// Looks at a place where samples have this hash.
-    fn look_at(&mut self, hash: u32) {
-        self.places = self.places.saturating_add(1);
-        if let Some(earlier) = self.hashes.get_mut(hash as usize % KEPT) {
-            if *earlier == hash {
-                self.repeated = self.repeated.saturating_add(1);
-            }
-            *earlier = hash;
-        }
-    }
-
     /// Looks at some places of a row where a sample is not that before it.
     fn look_at_row(&mut self, row: &[i32]) {
         let mut hash: u32 = 0;
@@ -56,7 +45,13 @@ impl Look {
                 .wrapping_mul(FACTOR)
                 .wrapping_add(sample.cast_unsigned().wrapping_mul(2654435761));
             if sample != last && hash <= self.most {
-                self.look_at(hash);
+                self.places = self.places.saturating_add(1);
+                if let Some(earlier) = self.hashes.get_mut(hash as usize % KEPT) {
+                    if *earlier == hash {
+                        self.repeated = self.repeated.saturating_add(1);
+                    }
+                    *earlier = hash;
+                }
             }
             last = sample;
         }
