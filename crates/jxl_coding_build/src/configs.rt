@@ -1,10 +1,11 @@
-//! The configuration of the tokens of a cluster: of three, that by which code and tokens are the shortest, nearly.
+//! The configuration of the tokens of a cluster: of a few, that by which code and tokens are the shortest, nearly.
 
 ghost use Rattle.std.specs.Prelude.{◌≡◌, ◌<◌, false, true};
 ghost use Rattle.std.specs.List.{All};
 ghost use Rattle.jxl_coding_codes.specs.IntegerConfigs.{IsConfig};
 ghost use Rattle.jxl_coding_build.specs.Histograms.{HasSymbol, HaveSymbols};
 
+use crate::copies::MIN_SYMBOL;
 use crate::costs::{BIT, cost_of_code};
 use jxl_coding_codes::config::IntegerConfig;
 use jxl_coding_write::spelling::spell;
@@ -27,12 +28,41 @@ const SHORT: IntegerConfig = IntegerConfig {
 };
 
 /// A token below 64 is its own symbol; another has its leading one and the six bits below it in the symbol: equal
-/// tokens are cheap. Tokens below 512 have symbols below 256.
+/// tokens are cheap. Tokens below 384 have symbols below those of copies.
 const WIDE: IntegerConfig = IntegerConfig {
     split_exponent: 6,
     msb_in_token: 6,
     lsb_in_token: 0,
 };
+
+/// The same symbols: the configuration of tokens below 512 of which some are not below 384.
+const FULL: IntegerConfig = IntegerConfig {
+    split_exponent: 7,
+    msb_in_token: 6,
+    lsb_in_token: 0,
+};
+
+/// What takes its place with copies: two symbols from 128 on are one, so that tokens below 512 have symbols below those of
+/// copies.
+const COPIED: IntegerConfig = IntegerConfig {
+    split_exponent: 7,
+    msb_in_token: 5,
+    lsb_in_token: 0,
+};
+
+/// Whether tokens have symbols of copies by this configuration.
+pub(crate) fn is_full(config: &IntegerConfig) -> bool {
+    config.split_exponent == FULL.split_exponent && config.msb_in_token == FULL.msb_in_token
+}
+
+/// The configuration with copies of a cluster that has this one without.
+pub(crate) fn with_copies(config: IntegerConfig) -> IntegerConfig
+    requires config { IsConfig config }
+    ensures config { IsConfig result }
+    ensures split { config.split_exponent < 8 → result.split_exponent < 8 }
+{
+    if is_full(&config) { COPIED } else { config }
+}
 
 /// The tokens that are counted each.
 const DIRECT: u32 = 512;
@@ -124,6 +154,16 @@ impl Values {
         }
         rest.saturating_add(cost_of_code(&self.symbols))
     }
+
+    /// Whether one of the counted symbols is one of copies.
+    fn has_copies(&self) -> bool {
+        for symbol in MIN_SYMBOL as usize..self.symbols.len() {
+            if self.symbols[symbol] > 0 {
+                return true;
+            }
+        }
+        false
+    }
 }
 
 /// Whether a token of the cluster has a symbol of 256 or more.
@@ -159,8 +199,13 @@ pub(crate) fn config_for(values: &mut Values, cluster: u8, tokens: &[Token]) -> 
     let usual = values.cost(&USUAL, cluster);
     let short = values.cost(&SHORT, cluster);
     let wide = values.cost(&WIDE, cluster);
-    if wide < usual && wide < short && all_fit(&WIDE, cluster, tokens) {
-        return WIDE;
+    if wide < usual && wide < short {
+        if !values.has_copies() && all_fit(&WIDE, cluster, tokens) {
+            return WIDE;
+        }
+        if all_fit(&FULL, cluster, tokens) {
+            return FULL;
+        }
     }
     if short < usual {
         return SHORT;

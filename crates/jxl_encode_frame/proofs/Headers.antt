@@ -25,7 +25,7 @@ use Rattle.jxlm_tree.specs.Tree.{Config}
 use Rattle.jxlm_weighted.specs.WeightsHeader.{default_weights}
 use Rattle.jxlm_weighted.specs.declared.weights.WpHeader.{WpHeader}
 use Rattle.jxl_encode_image.specs.Preparations.{IsPlainPalette, IsSpelled}
-use Rattle.jxl_encode_palette.specs.Palettes.{plain_predictor}
+use Rattle.jxl_encode_image.specs.Palettes.{plain_predictor}
 use Rattle.jxl_lossless.specs.Codewords.{UsesGlobalAt}
 use Rattle.jxl_lossless.specs.Stills.{IsWeightedAt}
 

@@ -17,7 +17,7 @@ use Rattle.jxlm_predictor.specs.declared.predictor.Predictor.{Predictor}
 use Rattle.jxlm_predictor.specs.declared.predictor.Predictor.TheVariants.{West, Zero}
 use Rattle.jxlm_weighted.specs.WeightsHeader.{default_weights}
 use Rattle.jxlm_weighted.specs.declared.weights.WpHeader.{WpHeader}
-use Rattle.jxl_encode_palette.specs.Palettes.{plain_predictor}
+use Rattle.jxl_encode_image.specs.Palettes.{plain_predictor}
 use Rattle.jxl_encode_image.specs.Preparations.{IsPlainPalette, IsSpelled, image_transforms, shared_header, transform_listed}
 use Rattle.jxl_encode_image.specs.declared.transform.ImageTransform.{ImageTransform}
 use Rattle.jxl_encode_image.specs.Inner.Lists.{transform_list}

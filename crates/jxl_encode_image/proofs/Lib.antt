@@ -5,6 +5,7 @@ pub mod Buffers
 pub mod Joined
 pub mod Steps
 pub mod ColourSteps
+pub mod PaletteImages
 pub mod PaletteSteps
 pub mod First
 pub mod Parts

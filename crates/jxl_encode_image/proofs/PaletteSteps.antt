@@ -31,7 +31,7 @@ use Rattle.jxlm_transform.specs.declared.channels.ModularChannels.{ModularChanne
 use Rattle.jxlm_transform.specs.declared.transform.Palette.{Palette}
 use Rattle.jxlm_transform.proofs.Ranges.{range_at}
 use Rattle.jxlm_transform.proofs.StepFacts.{PaletteApplies, first_step, palette_applies, same_ok}
-use Rattle.jxl_encode_palette.specs.Palettes.{plain_palette}
+use Rattle.jxl_encode_image.specs.Palettes.{plain_palette}
 use Rattle.jxl_encode_image.specs.Preparations.{IsPlainPalette}
 use Rattle.jxl_encode_image.specs.Images.{samples_in}
 use Rattle.jxl_encode_image.specs.Inner.Placing.{GoesOnTo, IsPaletteAt, IsPlacedFor, LieAlone, LiesWhole, region_at}

@@ -1,3 +1,4 @@
+pub mod Palettes
 pub mod Preparations
 pub mod Images
 pub mod Inner

@@ -11,7 +11,7 @@ use Rattle.jxlm_transform.specs.ChannelSteps.{CodedList, coded_list}
 use Rattle.jxlm_transform.specs.Transforms.{IsPalette, IsRct, IsSqueeze, OfPalette, OfRct, OfSqueeze, Transform}
 use Rattle.jxlm_transform.specs.declared.transform.Palette.{Palette}
 use Rattle.jxlm_weighted.specs.WeightsHeader.{default_weights}
-use Rattle.jxl_encode_palette.specs.Palettes.{plain_palette}
+use Rattle.jxl_encode_image.specs.Palettes.{plain_palette}
 use Rattle.jxl_encode_image.specs.declared.transform.ImageTransform.{ImageTransform}
 use Rattle.jxl_encode_image.specs.declared.transform.ImageTransform.TheVariants as images
 

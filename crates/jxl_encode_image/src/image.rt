@@ -18,7 +18,7 @@ ghost use Rattle.jxl_encode_image.specs.Preparations.{IsSpelled, image_transform
 ghost use Rattle.jxl_encode_image.specs.Images.{IsCodedImage, IsPartIn, LieCoded};
 ghost use Rattle.jxl_encode_image.specs.Inner.Placing.{GoesOnTo, IsPlacedFor, LieAlone};
 
-use crate::palette::with_palettes;
+use crate::palettes::with_palettes;
 use crate::transform::{ImagePlan, ImageTransform};
 use jxlm_base::grid::{AlignedGrid, OutOfMemory};
 use jxlm_base::sample::Sample;

@@ -2,7 +2,11 @@
 //! (ISO/IEC 18181-1, Modular).
 #![tactic(auto)]
 
+mod checked;
+pub mod colours;
+mod grids;
 pub mod header;
 pub mod image;
 pub mod palette;
+mod palettes;
 pub mod transform;

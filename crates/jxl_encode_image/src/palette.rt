@@ -1,161 +1,143 @@
-//! Channels of an image as palettes code them.
+//! Channels as a palette codes them.
 
-ghost use Rattle.std.specs.Prelude.{◌≡◌, ◌+◌, ◌<◌, ◌≤◌, ◌++◌, [], ◌∷◌, ℕ, IfOk, IsTrue, length, slice_set};
+ghost use Rattle.std.specs.Prelude.{◌≡◌, ◌≤◌, IfOk, length};
 ghost use Rattle.std.specs.Option.{IfSome};
-ghost use Rattle.jxl_encode_image.specs.Inner.Placing.{GoesOnTo, IsPaletteAt, LieAlone, LiesWhole, region_at};
+ghost use Rattle.jxl_encode_image.specs.Palettes.{IsPaletteFor, plain_palette as the_palette, plain_predictor as the_predictor};
 
-use crate::image::{CodedImage, LAST_BEGIN, MOST_TRANSFORMS, placed_after, with_transform};
-use crate::transform::{ImageTransform, PalettePlan};
-use jxl_encode_palette::palette::{PaletteGrids, palette_of};
-use jxlm_base::grid::{AlignedGrid, OutOfMemory, Region};
+use crate::checked::{have_sides, names_all};
+use crate::colours::{ColourOrder, MAX_CHANNELS, colours_of};
+use crate::grids::{index_of, table_of};
+use jxlm_base::grid::{AlignedGrid, OutOfMemory};
 use jxlm_base::sample::Sample;
-use jxlm_chain::placed::PlacedChannels;
-use jxlm_transform::channels::ModularChannels;
+use jxlm_predictor::predictor::Predictor;
+use jxlm_transform::transform::Palette;
 use std::alloc::Global;
 
-// Whether this number of elements from `begin` on are there among `many`.
-fn is_range(begin: usize, count: usize, many: usize) -> bool
-    ensures { IsTrue result → begin + count ≤ many }
-{
-    begin <= many && count <= many - begin
+/// The most colours of a palette that a header can spell.
+const MOST_COLOURS: usize = 70911;
+
+/// A palette, its table of colours and its channel of indices.
+#[derive(Drop)]
+pub struct PaletteGrids<S> {
+    /// The transform.
+    pub palette: Palette,
+    /// A column for each colour, a row for each channel.
+    pub table: AlignedGrid<S>,
+    /// For each pixel the number of its colour.
+    pub index: AlignedGrid<S>,
 }
 
-// Where a channel lies.
-fn region_of(channels: &ModularChannels, number: usize) -> Region
-    requires { number < length channels.now.placed.items }
-    ensures { result ≡ region_at channels.now number }
+/// The predictor of a palette of this number of channels, which is not used without differences. By predictor 0 decoders clamp
+/// the indices of one channel.
+fn plain_predictor(num_c: u32) -> Predictor
+    ensures { result ≡ the_predictor num_c }
 {
-    channels.placed[number].region
+    if num_c == 1 {
+        Predictor::West
+    } else {
+        Predictor::Zero
+    }
 }
 
-// Whether the region is the whole of this buffer.
-fn is_whole<S: Sample>(region: Region, buffer: usize, store: &[AlignedGrid<S>]) -> bool
-    requires { buffer < length store.now }
-    ensures { IsTrue result → LiesWhole region buffer store.now }
+/// The palette of this number of channels, from `begin_c` on, and colours: without differences.
+fn plain_palette(begin_c: u32, num_c: u32, nb_colours: u32) -> Palette
+    ensures { result ≡ the_palette begin_c num_c nb_colours }
 {
-    if region.buffer != buffer || region.x != 0 || region.y != 0 {
-        return false;
+    Palette {
+        begin_c,
+        num_c,
+        nb_colours,
+        nb_deltas: 0,
+        d_pred: plain_predictor(num_c),
+        clamps_indices: false,
+        wp_header: None,
     }
-    if region.width != store[buffer].width() || region.height != store[buffer].height() {
-        return false;
-    }
-    true
 }
 
-// Whether these channels are the whole of these buffers.
-fn are_whole<S: Sample>(
-    channels: &ModularChannels,
-    begin: usize,
-    first: usize,
-    count: usize,
-    store: &[AlignedGrid<S>],
-) -> bool
-    requires there { begin + count ≤ length channels.now.placed.items }
-    requires taken { first + count ≤ length store.now }
-    ensures { IsTrue result → (k : ℕ) → k < count → LiesWhole (region_at channels.now (begin + k)) (first + k) store.now }
-{
-    for k in 0..count {
-        if !is_whole(region_of(channels, begin + k), first + k, store) {
-            return false;
-        }
-    }
-    true
-}
-
-// The palette that a plan asks for, if the channels of an image are whole buffers, their colours are few, and a header can spell
-// it after the transforms of the image.
-fn palette_in<S: Sample>(
-    alloc: Global,
-    image: &CodedImage<S>,
-    plan: PalettePlan,
-) -> Result<Option<PaletteGrids<S>>, OutOfMemory>
-    ensures is { IfOk result (λ o. IfSome o (λ p. IsPaletteAt S.to_int S.width image.now.channels image.now.store.items
-        plan.first plan.count p.palette p.table p.index)) }
-    ensures few { IfOk result (λ o. IfSome o (λ _. length image.now.transforms.items < 273)) }
-{
-    let begin = image.channels.nb_meta_channels.saturating_add(plan.first);
-    let (channels, grids) = (image.channels.placed.len(), image.store.len());
-    if begin > LAST_BEGIN || image.transforms.len() >= MOST_TRANSFORMS {
-        return Ok(None);
-    }
-    if !is_range(begin, plan.count, channels) || !is_range(plan.first, plan.count, grids) {
-        return Ok(None);
-    }
-    if !are_whole(&image.channels, begin, plan.first, plan.count, &image.store) {
-        return Ok(None);
-    }
-    let range = &image.store[plan.first..plan.first + plan.count];
-    let coding = palette_of(alloc, range, begin as u32, plan.order, plan.most)?;
-    Ok(coding)
-}
-
-// The grids and after them the table, with these indices in place of grid `first`.
-fn coded_store<S: Sample>(
-    grids: Vec<AlignedGrid<S>>,
-    first: usize,
+/// The palette with this table and these indices, if they are those of the channels.
+fn palette_by<S: Sample>(
+    grids: &[AlignedGrid<S>],
+    begin_c: u32,
     table: AlignedGrid<S>,
     index: AlignedGrid<S>,
-) -> Result<Vec<AlignedGrid<S>>, OutOfMemory>
-    requires { first < length grids.items }
-    ensures { IfOk result (λ v. v.items ≡ slice_set (grids.items ++ table ∷ []) first index) }
+) -> Option<PaletteGrids<S>>
+    ensures { IfSome result (λ p. IsPaletteFor S.to_int S.width begin_c grids.now p.palette p.table p.index) }
 {
-    let mut store = grids;
-    store.push(table)?;
-    store[first] = index;
-    Ok(store)
-}
-
-// The image after the palette that a plan asks for as well, if there is one.
-fn with_palette<S: Sample>(
-    alloc: Global,
-    image: CodedImage<S>,
-    plan: PalettePlan,
-) -> Result<CodedImage<S>, OutOfMemory>
-    requires { LieAlone image.channels image.store.items }
-    ensures lie { IfOk result (λ i. LieAlone i.channels i.store.items) }
-    ensures goes { IfOk result (λ i. GoesOnTo S.to_int S.width image.channels image.store.items image.transforms.items
-        i.channels i.store.items i.transforms.items) }
-{
-    let found = palette_in(alloc, &image, plan)?;
-    let Some(coding) = found else {
-        return Ok(image);
-    };
-    let CodedImage {
-        channels,
-        store,
-        transforms,
-    } = image;
-    let PaletteGrids {
+    let channels = grids.len();
+    if channels == 0 || channels > MAX_CHANNELS {
+        return None;
+    }
+    let colours = table.width();
+    let columns = index.width();
+    if columns == 0 || colours > MOST_COLOURS {
+        return None;
+    }
+    if !names_all(grids, &table, &index) {
+        return None;
+    }
+    let palette = plain_palette(begin_c, channels as u32, colours as u32);
+    Some(PaletteGrids {
         palette,
         table,
         index,
-    } = coding;
-    let transform = ImageTransform::Palette(palette);
-    let placed = placed_after(alloc, channels, transform)?;
-    let grids = coded_store(store, plan.first, table, index)?;
-    let list = with_transform(transforms, transform)?;
-    let PlacedChannels { channels, .. } = placed;
-    Ok(CodedImage {
-        channels,
-        store: grids,
-        transforms: list,
     })
 }
 
-/// The image after the palettes that these plans ask for, one after another.
-pub(crate) fn with_palettes<S: Sample>(
+/// A table of colours and a channel of indices.
+#[derive(Drop)]
+pub struct TableGrids<S> {
+    /// A column for each colour, a row for each channel.
+    pub table: AlignedGrid<S>,
+    /// For each pixel the number of its colour.
+    pub index: AlignedGrid<S>,
+}
+
+/// The table and the indices of one to four channels of one size; none, if they have no samples, or more than `most` colours,
+/// or are not of one size. What they are is a heuristic: [`palette_of`] looks whether they are those of the channels.
+///
+/// # Errors
+///
+/// `OutOfMemory`, and no other. It takes a cell of memory for each pixel, and some tens of bytes for each of `most` colours.
+pub fn tables_of<S: Sample>(
     alloc: Global,
-    image: CodedImage<S>,
-    palettes: &[PalettePlan],
-) -> Result<CodedImage<S>, OutOfMemory>
-    requires { LieAlone image.channels image.store.items }
-    ensures lie { IfOk result (λ i. LieAlone i.channels i.store.items) }
-    ensures goes { IfOk result (λ i. GoesOnTo S.to_int S.width image.channels image.store.items image.transforms.items
-        i.channels i.store.items i.transforms.items) }
-{
-    let mut image = image;
-    for plan in palettes {
-        image = with_palette(alloc, image, *plan)?;
+    grids: &[AlignedGrid<S>],
+    order: ColourOrder,
+    most: usize,
+) -> Result<Option<TableGrids<S>>, OutOfMemory> {
+    let Some(first) = grids.get(0) else {
+        return Ok(None);
+    };
+    let (width, height) = (first.width(), first.height());
+    if grids.len() > MAX_CHANNELS || !have_sides(grids, width, height) {
+        return Ok(None);
     }
-    Ok(image)
+    let Some(colours) = colours_of(alloc, grids, width, height, order, most)? else {
+        return Ok(None);
+    };
+    let table = table_of(alloc, &colours, grids.len())?;
+    let index = index_of(alloc, grids, &colours, width, height)?;
+    Ok(Some(TableGrids { table, index }))
+}
+
+/// The palette of one to four channels of one size, the first of which is channel `begin_c` of the image. None, if they
+/// have no samples, or more than `most` colours, or are not of one size. Whether a palette is found is a heuristic, and so
+/// is the order of its colours, which `order` asks for; one that is found has the channels as its only image.
+///
+/// # Errors
+///
+/// `OutOfMemory`, and no other. It takes a cell of memory for each pixel, and some tens of bytes for each of `most` colours.
+pub fn palette_of<S: Sample>(
+    alloc: Global,
+    grids: &[AlignedGrid<S>],
+    begin_c: u32,
+    order: ColourOrder,
+    most: usize,
+) -> Result<Option<PaletteGrids<S>>, OutOfMemory>
+    ensures { IfOk result (λ o. IfSome o (λ p. IsPaletteFor S.to_int S.width begin_c grids.now p.palette p.table
+        p.index)) }
+{
+    let Some(found) = tables_of(alloc, grids, order, most)? else {
+        return Ok(None);
+    };
+    Ok(palette_by(grids, begin_c, found.table, found.index))
 }

@@ -1,6 +1,6 @@
 //! The transforms of an image that an encoder runs forward and writes.
 
-use jxl_encode_palette::colours::ColourOrder;
+use crate::colours::ColourOrder;
 use jxlm_transform::transform::{Palette, Rct};
 
 /// A transform of an image.

@@ -106,7 +106,7 @@ impl Bits {
         })
     }
 
-    /// What samples of these counts cost by a code of their own.
+    /// What samples of these counts cost by a code of their own: if they have one symbol, the bits after it alone.
     fn samples(&self, counts: &[u32], sums: Sums) -> u64 {
         let room = u64::from(WHOLE.saturating_sub(sums.kinds));
         let part = ((room << 32) / u64::from(sums.total.max(1))).wrapping_add(1);
@@ -125,48 +125,36 @@ impl Bits {
         cost
     }
 
-    /// What the bits after samples of only one symbol cost.
-    fn after_only(&self, counts: &[u32], sums: Sums) -> u64 {
-        let rest = self
-            .after
-            .get(symbols_in(counts).saturating_sub(1))
-            .copied()
-            .unwrap_or(0);
-        u64::from(rest).saturating_mul(u64::from(sums.total))
-    }
-
     /// What symbols of these counts cost in a leaf with a code of its own.
     pub(crate) fn cost(&self, prices: Prices, counts: &[u32]) -> u64 {
         let sums = sums_of(counts);
-        if sums.kinds < 2 {
-            return self.after_only(counts, sums).saturating_mul(prices.scale);
-        }
-        let own = prices
-            .leaf
-            .saturating_add(prices.symbol.saturating_mul(u64::from(sums.kinds)))
-            .saturating_mul(BIT);
+        let own = if sums.kinds < 2 {
+            0
+        } else {
+            prices
+                .leaf
+                .saturating_add(prices.symbol.saturating_mul(u64::from(sums.kinds)))
+        };
         self.samples(counts, sums)
             .saturating_mul(prices.scale)
-            .saturating_add(own)
+            .saturating_add(own.saturating_mul(BIT))
     }
 
     /// What symbols of these counts cost by a code with its head.
     pub(crate) fn cost_with_head(&self, scale: u64, counts: &[u32]) -> u64 {
         let sums = sums_of(counts);
-        if sums.kinds < 2 {
-            return self
-                .after_only(counts, sums)
-                .saturating_mul(scale)
-                .saturating_add(ONLY_HEAD.saturating_mul(BIT));
-        }
-        let last = symbols_in(counts).saturating_sub(1);
-        let last = last.saturating_add(last.saturating_sub(16)) as u64;
-        let kinds = u64::from(sums.kinds);
-        let absent = last.saturating_add(1).saturating_sub(kinds);
-        let head = absent
-            .saturating_mul(5)
-            .saturating_add(kinds.saturating_mul(9))
-            .saturating_add(HEAD);
+        let head = if sums.kinds < 2 {
+            ONLY_HEAD
+        } else {
+            let last = symbols_in(counts).saturating_sub(1);
+            let last = last.saturating_add(last.saturating_sub(16)) as u64;
+            let kinds = u64::from(sums.kinds);
+            let absent = last.saturating_add(1).saturating_sub(kinds);
+            absent
+                .saturating_mul(5)
+                .saturating_add(kinds.saturating_mul(9))
+                .saturating_add(HEAD)
+        };
         self.samples(counts, sums)
             .saturating_mul(scale)
             .saturating_add(head.saturating_mul(BIT))

@@ -10,19 +10,16 @@ const ZERO: usize = 15;
 /// The number of cuts between levels.
 const CUTS: usize = 30;
 
-/// The level of the size of a difference.
-fn level_of_size(size: u32) -> usize {
-    if size < 4 {
-        return size as usize;
-    }
-    let width = 31u32.saturating_sub(size.leading_zeros());
-    let half = size.wrapping_shr(width.saturating_sub(1)) & 1;
-    (width.saturating_mul(2).saturating_add(half) as usize).min(ZERO)
-}
-
 /// The level of a difference in units of 2 to the power of `shift`.
 pub(crate) fn level_of(difference: i32, shift: u32) -> usize {
-    let level = level_of_size(difference.unsigned_abs().wrapping_shr(shift));
+    let size = difference.unsigned_abs().wrapping_shr(shift);
+    let level = if size < 4 {
+        size as usize
+    } else {
+        let width = 31u32.saturating_sub(size.leading_zeros());
+        let half = size.wrapping_shr(width.saturating_sub(1)) & 1;
+        (width.saturating_mul(2).saturating_add(half) as usize).min(ZERO)
+    };
     if difference < 0 {
         ZERO.saturating_sub(level)
     } else {

@@ -1,15 +1,12 @@
 //! How a picture is coded: a choice that no sample depends on.
 
-use crate::best::{
-    add_best_ways_of, add_broad_way, best_order, best_ways, cheapest_of, is_small, likeliest_colour,
-};
+use crate::best::{add_best_way, best_ways, is_small, likeliest_colour};
 use crate::effort::Effort;
 use crate::looks::ways_by_looks;
-use crate::palettes::add_palette_ways;
-use crate::ranks::{Ranks, add_rank_ways, ranks_of};
+use crate::palettes::{Coded, add_palette_ways, orders_of, ranks_of};
+use jxl_encode_image::colours::ColourOrder;
 use jxl_encode_image::transform::PalettePlan;
 use jxl_encode_learn::scheme::Scheme;
-use jxl_encode_properties::broad::scheme_by_all;
 use jxl_encode_properties::neighbours::{Care, FEW_BITS, are_alike, scheme_by_neighbours};
 use jxl_image_header::channel::BitDepth;
 use jxl_picture::picture::{Picture, is_grey};
@@ -33,6 +30,8 @@ pub struct Advice {
     pub(crate) cost: u64,
     /// Whether its tree is by all properties and predictors.
     pub(crate) broad: bool,
+    /// The order of the colours of its palette of all channels, if it has one.
+    pub(crate) order: Option<ColourOrder>,
 }
 
 /// The samples of a picture, and how they are stored.
@@ -123,13 +122,14 @@ impl Advice {
             clusters: Vec::new(alloc),
             colour: None,
             palettes: Vec::new(alloc),
-            cost: 0,
+            cost: u64::MAX,
             broad: false,
+            order: None,
         }
     }
 
     /// By this scheme, after this colour transform or without one; `broad`, if the scheme is by all properties and predictors.
-    fn by(alloc: Global, scheme: Scheme, colour: Option<u32>, broad: bool) -> Advice {
+    pub(crate) fn by(alloc: Global, scheme: Scheme, colour: Option<u32>, broad: bool) -> Advice {
         Advice {
             nodes: scheme.nodes,
             clusters: scheme.clusters,
@@ -137,6 +137,7 @@ impl Advice {
             palettes: Vec::new(alloc),
             cost: scheme.cost,
             broad,
+            order: None,
         }
     }
 
@@ -176,16 +177,6 @@ const ALIKE_STEP: u64 = 195;
 /// About how many samples of each channel are looked at before a colour transform is chosen.
 const LOOKED: usize = 1 << 12;
 
-/// How many samples are taken at the greatest effort to learn a tree by all properties and predictors.
-pub(crate) const ALL_SAMPLES: usize = 1 << 20;
-
-/// How many samples are taken to see what the weighted predictor saves.
-const TRIED_SAMPLES: usize = 1 << 15;
-
-/// The share of the cost that the weighted predictor has to save where samples of one channel repeat: decoding takes long with
-/// it.
-const WEIGHTS_GAIN: u64 = 9;
-
 /// The cheapest way to code a picture by a tree that is learnt from some of its samples, with this care, after one of these
 /// colour transforms; none, if there is none of them.
 pub(crate) fn by_neighbours(
@@ -206,56 +197,33 @@ pub(crate) fn by_neighbours(
     Ok(best)
 }
 
-/// The way to code a picture by all properties and predictors, after this colour transform or without one, learnt from about
-/// this number of samples; with the weighted predictor and its errors if `weighted` says so.
-pub(crate) fn by_all(
-    alloc: Global,
-    picture: Samples<'_>,
-    samples: usize,
-    colour: Option<u32>,
-    weighted: bool,
-) -> Result<Advice, OutOfMemory> {
-    let bits = picture.depth.bits_per_sample;
-    let scheme = scheme_by_all(alloc, picture.channels, colour, bits, samples, weighted)?;
-    Ok(Advice::by(alloc, scheme, colour, true))
-}
-
-/// Whether the weighted predictor and its errors save more than a ninth of what some of the samples cost by all other
-/// predictors and properties, after this colour transform or without one.
-pub(crate) fn saves_by_weights(
-    alloc: Global,
-    picture: Samples<'_>,
-    colour: Option<u32>,
-) -> Result<bool, OutOfMemory> {
-    let with = by_all(alloc, picture, TRIED_SAMPLES, colour, true)?.cost;
-    let without = by_all(alloc, picture, TRIED_SAMPLES, colour, false)?.cost;
-    Ok(with < without.saturating_sub(without / WEIGHTS_GAIN))
-}
-
-/// Adds an advice, unless a picture is coded alike by one of them.
+/// Adds an advice before those that cost more, unless a picture is coded alike by one of them.
 pub(crate) fn add_advice(list: &mut Vec<Advice>, advice: Advice) -> Result<(), OutOfMemory> {
-    for other in list.iter() {
+    let mut place: usize = 0;
+    for at in 0..list.len() {
+        let other = &list[at];
         if other.is_same(&advice) {
             return Ok(());
         }
+        if other.cost <= advice.cost {
+            place = at + 1;
+        }
     }
-    list.push(advice)?;
+    list.insert(place.min(list.len()), advice)?;
     Ok(())
 }
 
-/// Adds the ways that are learnt so: at lower efforts by neighbours after the likeliest of these colour transforms. By
-/// few samples the tree is learnt with each of these, as a look takes no less time.
-pub(crate) fn add_ways_of(
+/// Adds the way that is learnt so: at lower efforts by neighbours after the likeliest of these colour transforms. By few
+/// samples the tree is learnt with each of these, as a look takes no less time.
+pub(crate) fn add_way_of(
     alloc: Global,
     list: &mut Vec<Advice>,
     picture: Samples<'_>,
     learning: Learning,
     colours: &[Option<u32>],
 ) -> Result<(), OutOfMemory> {
-    match learning {
-        Learning::At(Effort::Best) => return add_best_ways_of(alloc, list, picture, colours),
-        Learning::Broad => return add_broad_way(alloc, list, picture, colours),
-        _ => {}
+    if learning.effort() == Effort::Best && picture.depth.exp_bits == 0 {
+        return add_best_way(alloc, list, picture, learning, colours);
     }
     let care = learning.care(picture);
     let few = matches!(learning, Learning::Look(_)) || care.pixels <= FEW_PIXELS;
@@ -294,29 +262,28 @@ pub(crate) fn colours_of(picture: &Picture, effort: Effort) -> &'static [Option<
     &[None, Some(LUMA)]
 }
 
-/// What the cheapest of these ways costs.
-pub(crate) fn least_cost(list: &[Advice]) -> u64 {
-    let mut least = u64::MAX;
-    for advice in list {
-        least = least.min(advice.cost);
-    }
-    least
-}
-
-/// Adds the ways without a palette of all channels: by the ranks of values, if there are some, in place of the values. Most
+/// Adds the way without a palette of all channels: by the ranks of values, if there are some, in place of the values. Most
 /// samples of the picture are alike if `alike` says so.
-pub(crate) fn add_other_ways(
+pub(crate) fn add_other_way(
     alloc: Global,
     list: &mut Vec<Advice>,
     picture: &Picture,
     alike: bool,
-    ranks: &Option<Ranks>,
+    ranks: &Option<Coded>,
     learning: Learning,
 ) -> Result<(), OutOfMemory> {
     let colours = colours_of(picture, learning.effort());
     match ranks {
-        Some(ranks) => add_rank_ways(alloc, list, ranks, alike, learning, colours),
-        None => add_ways_of(alloc, list, Samples::of(picture, alike), learning, colours),
+        Some(ranks) => ranks.add_way(alloc, list, alike, learning, colours),
+        None => add_way_of(alloc, list, Samples::of(picture, alike), learning, colours),
+    }
+}
+
+/// What a way costs; the greatest cost, if there is none.
+pub(crate) fn cost_of(way: Option<&Advice>) -> u64 {
+    match way {
+        Some(way) => way.cost,
+        None => u64::MAX,
     }
 }
 
@@ -326,39 +293,28 @@ fn is_nearly_flat(list: &[Advice], picture: &Picture) -> bool {
     let size = picture.header.size;
     let across = u64::from(size.width.div_ceil(GROUP_DIM));
     let down = u64::from(size.height.div_ceil(GROUP_DIM));
-    least_cost(list) / GROUP_COST <= across.saturating_mul(down)
+    cost_of(list.first()) / GROUP_COST <= across.saturating_mul(down)
 }
 
-/// The ranks of the values of a picture, if they are few, and none of these ways has a palette of all channels.
-fn other_ranks(
-    alloc: Global,
-    list: &[Advice],
-    picture: &Picture,
-) -> Result<Option<Ranks>, OutOfMemory> {
-    if best_order(list, picture).is_some() {
-        Ok(None)
-    } else {
-        ranks_of(alloc, picture)
-    }
-}
-
-/// Ways to code a picture, of which samples repeat if `repeats` says so: several of a small picture and of one that is nearly
-/// flat, and at lower efforts than the greatest else the cheapest, as far as costs say. At the usual effort only the likeliest
-/// of a picture that is large, or does not repeat, are learnt, as far as looks say.
+/// Ways to code a picture, of which samples repeat if `repeats` says so, the cheapest first as far as costs say: several of a
+/// small picture and of one that is nearly flat, and else at lower efforts than the greatest one. At the usual effort only the
+/// likeliest of a picture that is large, or does not repeat, are learnt, as far as looks say.
 pub fn advices_for(
     alloc: Global,
     picture: &Picture,
     effort: Effort,
     repeats: bool,
 ) -> Result<Vec<Advice>, OutOfMemory> {
-    let mut list = Vec::new(alloc);
     let small = is_small(picture);
+    let copied = small && repeats && effort == Effort::Usual;
+    let channels = picture.channels.len();
     let bits = picture.header.bit_depth.bits_per_sample;
     let alike = are_alike(alloc, &picture.channels, bits, FEW_PIXELS)?;
-    if matches!(effort, Effort::Usual) && !(small && repeats) {
-        let list = ways_by_looks(alloc, picture, alike)?;
+    if effort == Effort::Usual && !copied {
+        let mut list = ways_by_looks(alloc, picture, alike)?;
         if !is_nearly_flat(&list, picture) {
-            return cheapest_of(alloc, list, 1);
+            list.truncate(1);
+            return Ok(list);
         }
     }
     // At the greatest effort the ways of the usual one come first.
@@ -366,26 +322,37 @@ pub fn advices_for(
         Effort::Fast => Effort::Fast,
         _ => Effort::Usual,
     };
-    add_palette_ways(alloc, &mut list, picture, alike, tried)?;
-    let ranks = other_ranks(alloc, &list, picture)?;
-    let learning = Learning::At(tried);
-    add_other_ways(alloc, &mut list, picture, alike, &ranks, learning)?;
-    if small && repeats && matches!(effort, Effort::Usual) {
-        // With copies, fewer clusters are often shorter.
-        let learning = Learning::At(Effort::Fast);
-        add_other_ways(alloc, &mut list, picture, alike, &ranks, learning)?;
-    }
+    let (learning, fast) = (Learning::At(tried), Learning::At(Effort::Fast));
+    let mut list = Vec::new(alloc);
+    add_palette_ways(
+        alloc,
+        &mut list,
+        picture,
+        alike,
+        learning,
+        orders_of(tried, channels),
+    )?;
+    let ranks = if list.is_empty() {
+        ranks_of(alloc, picture)?
+    } else {
+        None
+    };
+    add_other_way(alloc, &mut list, picture, alike, &ranks, learning)?;
     let flat = is_nearly_flat(&list, picture);
-    if flat && !matches!(effort, Effort::Fast) {
-        let learning = Learning::At(Effort::Fast);
-        add_palette_ways(alloc, &mut list, picture, alike, Effort::Fast)?;
-        add_other_ways(alloc, &mut list, picture, alike, &ranks, learning)?;
+    if flat && effort != Effort::Fast {
+        let orders = orders_of(Effort::Fast, channels);
+        add_palette_ways(alloc, &mut list, picture, alike, fast, orders)?;
+    }
+    if copied || flat {
+        // With copies, fewer clusters are often shorter.
+        add_other_way(alloc, &mut list, picture, alike, &ranks, fast)?;
     }
     match effort {
-        _ if flat => Ok(list),
-        Effort::Best => best_ways(alloc, list, picture, repeats, alike),
-        Effort::Fast if small => Ok(list),
-        Effort::Usual if small => cheapest_of(alloc, list, SMALL_WAYS),
-        _ => cheapest_of(alloc, list, 1),
+        _ if flat => {}
+        Effort::Best => return best_ways(alloc, list, picture, repeats, alike),
+        Effort::Fast if small => {}
+        Effort::Usual if small => list.truncate(SMALL_WAYS),
+        _ => list.truncate(1),
     }
+    Ok(list)
 }

@@ -2,14 +2,13 @@
 //! only by the best of them trees are learnt with most care. They are heuristics: no sample depends on them.
 
 use crate::advice::{
-    ALL_SAMPLES, Advice, Learning, Samples, add_advice, add_other_ways, by_all, by_neighbours,
-    colours_of, saves_by_weights,
+    Advice, Learning, Samples, add_advice, add_other_way, by_neighbours, colours_of, cost_of,
 };
 use crate::effort::Effort;
 use crate::joined::CHANNEL;
-use crate::palettes::add_palette_ways_by;
-use crate::ranks::ranks_of;
-use jxl_encode_palette::colours::ColourOrder;
+use crate::palettes::{add_palette_ways, ranks_of};
+use jxl_encode_image::colours::ColourOrder;
+use jxl_encode_properties::broad::scheme_by_all;
 use jxl_encode_properties::neighbours::Care;
 use jxl_encode_properties::source::samples_in;
 use jxl_picture::picture::Picture;
@@ -23,6 +22,16 @@ const LOOKED: usize = 1 << 15;
 
 /// The most samples of a small picture.
 const SMALL: usize = 1 << 16;
+
+/// How many samples are taken to learn a tree by all properties and predictors.
+const ALL_SAMPLES: usize = 1 << 20;
+
+/// How many samples are taken to see what the weighted predictor saves.
+const TRIED_SAMPLES: usize = 1 << 15;
+
+/// The share of the cost that the weighted predictor has to save where samples of one channel repeat: decoding takes long with
+/// it.
+const WEIGHTS_GAIN: u64 = 5;
 
 /// The share of the samples of a channel that are looked at, if it has few.
 const LOOKED_SHARE: usize = 4;
@@ -42,12 +51,9 @@ const WAYS: usize = 4;
 /// The share by which ways without a palette of all channels may cost more than those by one, and are tried with most care.
 const MARGIN: u64 = 8;
 
-/// The most nodes of a tree that is used for a small picture of few colours without a palette of all channels: such a picture
-/// is decoded in far less time by one leaf.
-const FEW_NODES: usize = 1;
-
-/// The most nodes of one that is used for such a picture by a palette of all channels, unless more save much.
-const FEW_PALETTE_NODES: usize = 7;
+/// The most nodes of a tree that is used for a small picture of few colours, unless more save much: it is decoded in far less
+/// time.
+const FEW_NODES: usize = 7;
 
 /// The share of the cost by a palette that more nodes have to save.
 const NODES_GAIN: u64 = 8;
@@ -80,88 +86,57 @@ pub(crate) fn likeliest_colour(
     }
 }
 
-/// Adds the ways of these samples at the greatest effort: those by all properties and predictors; of floats the cheapest by
-/// neighbours. Those of few samples are without the weighted predictor.
-pub(crate) fn add_best_ways_of(
+/// Whether the weighted predictor and its errors save more than a fifth of what some of the samples cost by all other
+/// predictors and properties, after this colour transform or without one.
+fn saves_by_weights(
     alloc: Global,
-    list: &mut Vec<Advice>,
     samples: Samples<'_>,
-    colours: &[Option<u32>],
-) -> Result<(), OutOfMemory> {
-    if samples.depth.exp_bits != 0 {
-        let care = Learning::At(Effort::Best).care(samples);
-        return match by_neighbours(alloc, samples, care, colours)? {
-            Some(way) => add_advice(list, way),
-            None => Ok(()),
-        };
-    }
-    let colour = likeliest_colour(alloc, samples, colours, LOOKED)?;
-    let weighted = samples_in(samples.channels) > SMALL;
-    let way = by_all(alloc, samples, ALL_SAMPLES, colour, weighted)?;
-    add_advice(list, way)
+    colour: Option<u32>,
+) -> Result<bool, OutOfMemory> {
+    let (channels, bits) = (samples.channels, samples.depth.bits_per_sample);
+    let with = scheme_by_all(alloc, channels, colour, bits, TRIED_SAMPLES, true)?.cost;
+    let without = scheme_by_all(alloc, channels, colour, bits, TRIED_SAMPLES, false)?.cost;
+    Ok(with < without.saturating_sub(without / WEIGHTS_GAIN))
 }
 
-/// Adds the way by all properties and predictors alone, after the likeliest of these colour transforms; without the weighted
-/// predictor, unless it saves much of one channel alone: where samples repeat, it mostly does not.
-pub(crate) fn add_broad_way(
+/// Adds the way by all properties and predictors, after the likeliest of these colour transforms. Few samples are coded without
+/// the weighted predictor, and where samples repeat, all but one channel of which it saves much: decoding takes long with it.
+pub(crate) fn add_best_way(
     alloc: Global,
     list: &mut Vec<Advice>,
     samples: Samples<'_>,
+    learning: Learning,
     colours: &[Option<u32>],
 ) -> Result<(), OutOfMemory> {
     let colour = likeliest_colour(alloc, samples, colours, LOOKED)?;
-    let weighted = if samples.channels.len() == 1 {
-        saves_by_weights(alloc, samples, colour)?
-    } else {
-        false
+    let channels = samples.channels;
+    let bits = samples.depth.bits_per_sample;
+    let weighted = match learning {
+        Learning::Broad if channels.len() > 1 => false,
+        Learning::Broad => saves_by_weights(alloc, samples, colour)?,
+        _ => samples_in(channels) > SMALL,
     };
-    let way = by_all(alloc, samples, ALL_SAMPLES, colour, weighted)?;
-    add_advice(list, way)
+    let scheme = scheme_by_all(alloc, channels, colour, bits, ALL_SAMPLES, weighted)?;
+    add_advice(list, Advice::by(alloc, scheme, colour, true))
 }
 
-/// The order of colours of a way's palette of all channels; none, if it has no such palette.
-fn order_of(way: &Advice, picture: &Picture) -> Option<ColourOrder> {
-    match way.palettes.first() {
-        Some(plan) if plan.count == picture.channels.len() => Some(plan.order),
-        _ => None,
-    }
-}
-
-/// The order of the cheapest palette of all channels of these ways, and what the way costs; none, if there is no such palette.
-pub(crate) fn best_order(ways: &[Advice], picture: &Picture) -> Option<(ColourOrder, u64)> {
-    let mut best: Option<(ColourOrder, u64)> = None;
+/// The first of these ways that has a palette of all channels, if `palette` says so, or none; with `broad` only those by all
+/// properties count.
+fn first_of(ways: &[Advice], palette: bool, broad: bool) -> Option<&Advice> {
     for way in ways {
-        let cheaper = match best {
-            Some((_, cost)) => way.cost < cost,
-            None => true,
-        };
-        if let Some(order) = order_of(way, picture) {
-            if cheaper {
-                best = Some((order, way.cost));
-            }
+        if way.order.is_some() == palette && (way.broad || !broad) {
+            return Some(way);
         }
     }
-    best
+    None
 }
 
-/// What the cheapest of the ways costs that have a palette of all channels, if `palette` says so, or none; with `broad` only
-/// those by all properties count.
-fn least_of_ways(ways: &[Advice], picture: &Picture, palette: bool, broad: bool) -> u64 {
-    let mut least = u64::MAX;
-    for way in ways {
-        if order_of(way, picture).is_some() == palette && (way.broad || !broad) {
-            least = least.min(way.cost);
-        }
-    }
-    least
-}
-
-/// The ways for which it says so, and those by all properties and predictors.
-fn kept_of(alloc: Global, ways: Vec<Advice>, keep: &[bool]) -> Result<Vec<Advice>, OutOfMemory> {
+/// The ways by all properties and predictors, and the cheapest of these ways, at most this many.
+fn cheapest_of(alloc: Global, ways: Vec<Advice>, most: usize) -> Result<Vec<Advice>, OutOfMemory> {
     let mut kept = Vec::new(alloc);
     let mut at: usize = 0;
     for way in ways {
-        if way.broad || keep.get(at).copied().unwrap_or(false) {
+        if way.broad || at < most {
             kept.push(way)?;
         }
         at = at.saturating_add(1);
@@ -169,122 +144,39 @@ fn kept_of(alloc: Global, ways: Vec<Advice>, keep: &[bool]) -> Result<Vec<Advice
     Ok(kept)
 }
 
-/// How many of these ways cost less than this one, or as much and are before it.
-fn rank_of(ways: &[Advice], place: usize) -> usize {
-    let Some(way) = ways.get(place) else {
-        return ways.len();
-    };
-    let mut rank: usize = 0;
-    for at in 0..ways.len() {
-        if ways[at].cost < way.cost || (ways[at].cost == way.cost && at < place) {
-            rank = rank.saturating_add(1);
-        }
-    }
-    rank
-}
-
-/// The ways by all properties and predictors, and the cheapest of these ways, at most this many.
-pub(crate) fn cheapest_of(
-    alloc: Global,
-    ways: Vec<Advice>,
-    most: usize,
-) -> Result<Vec<Advice>, OutOfMemory> {
-    let mut keep = Vec::new(alloc);
-    for at in 0..ways.len() {
-        keep.push(rank_of(&ways, at) < most)?;
-    }
-    kept_of(alloc, ways, &keep)
-}
-
-/// Whether a way has a palette of all channels, and is the cheapest in the order of its colours of those by some properties.
-fn leads_order(ways: &[Advice], picture: &Picture, place: usize) -> bool {
-    let Some(way) = ways.get(place) else {
-        return false;
-    };
-    let order = order_of(way, picture);
-    for at in 0..ways.len() {
-        let other = &ways[at];
-        let before = other.cost < way.cost || (other.cost == way.cost && at < place);
-        if before && !other.broad && order_of(other, picture) == order {
-            return false;
-        }
-    }
-    order.is_some() && !way.broad
-}
-
-/// The ways that are decoded in little time: by a palette of all channels, or by a tree that, if it is by all properties, costs
-/// at most this.
-fn quick_ways(
-    alloc: Global,
-    ways: Vec<Advice>,
-    picture: &Picture,
-    most: u64,
-) -> Result<Vec<Advice>, OutOfMemory> {
-    let mut kept = Vec::new(alloc);
+/// Whether one of the ways by some properties has this order of colours.
+fn has_order(ways: &[Advice], order: Option<ColourOrder>) -> bool {
     for way in ways {
-        if !way.broad || way.cost <= most || order_of(&way, picture).is_some() {
-            kept.push(way)?;
+        if way.order == order && !way.broad {
+            return true;
         }
     }
-    Ok(kept)
+    false
 }
 
-/// Whether the tree of a way is so small that a small picture of few colours is decoded in little time.
-fn has_few_nodes(way: &Advice, picture: &Picture) -> bool {
-    let most = match order_of(way, picture) {
-        Some(_) => FEW_PALETTE_NODES,
-        None => FEW_NODES,
-    };
-    way.nodes.len() <= most
-}
-
-/// What the cheapest of the ways costs that have a palette of all channels and so small a tree.
-fn least_of_few_nodes(ways: &[Advice], picture: &Picture) -> u64 {
-    let mut least = u64::MAX;
-    for way in ways {
-        if order_of(way, picture).is_some() && has_few_nodes(way, picture) {
-            least = least.min(way.cost);
-        }
-    }
-    least
-}
-
-/// The ways whose trees are so small, and those by a palette of all channels that cost far less.
-fn ways_of_few_nodes(
-    alloc: Global,
-    ways: Vec<Advice>,
-    picture: &Picture,
-) -> Result<Vec<Advice>, OutOfMemory> {
-    let least = least_of_few_nodes(&ways, picture);
-    let most = least.saturating_sub(least / NODES_GAIN);
-    let mut kept = Vec::new(alloc);
-    for way in ways {
-        let saves = order_of(&way, picture).is_some() && way.cost < most;
-        if saves || has_few_nodes(&way, picture) {
-            kept.push(way)?;
-        }
-    }
-    Ok(kept)
-}
-
-/// The ways that are tried to the end where samples repeat: those by all properties, and the cheapest of the others in each
-/// order of a palette of all channels.
-fn copied_of(
-    alloc: Global,
-    ways: Vec<Advice>,
-    picture: &Picture,
-) -> Result<Vec<Advice>, OutOfMemory> {
-    let broad = least_of_ways(&ways, picture, true, true);
+/// The ways that are tried to the end where samples repeat: those by all properties that are decoded in little time or cost
+/// far less, and the cheapest of the others in each order of a palette of all channels.
+fn copied_of(alloc: Global, ways: Vec<Advice>) -> Result<Vec<Advice>, OutOfMemory> {
+    let broad = cost_of(first_of(&ways, true, true));
     let most = broad.saturating_sub(broad / BROAD_GAIN);
-    let ways = quick_ways(alloc, ways, picture, most)?;
-    let mut keep = Vec::new(alloc);
-    for at in 0..ways.len() {
-        keep.push(leads_order(&ways, picture, at))?;
+    let palettes = first_of(&ways, true, false).is_some();
+    let mut kept = Vec::new(alloc);
+    for way in ways {
+        let leads = if palettes {
+            way.order.is_some() && !has_order(&kept, way.order)
+        } else {
+            kept.len() < COPIED_WAYS
+        };
+        let keeps = if way.broad {
+            way.cost <= most || way.order.is_some()
+        } else {
+            leads
+        };
+        if keeps {
+            kept.push(way)?;
+        }
     }
-    if keep.contains(&true) {
-        return kept_of(alloc, ways, &keep);
-    }
-    cheapest_of(alloc, ways, COPIED_WAYS)
+    Ok(kept)
 }
 
 /// The way by one predictor alone, with a leaf and a code for each of these channels, after this colour transform or without
@@ -330,15 +222,34 @@ fn add_plain_ways(
     Ok(())
 }
 
-/// The ways that are tried to the end of a small picture of few colours. With copies those by one predictor alone may be the
-/// shortest, and they are decoded in the least time.
+/// What the cheapest of the ways costs that has a palette of all channels and so small a tree that it is decoded in little
+/// time.
+fn least_of_few_nodes(ways: &[Advice]) -> u64 {
+    for way in ways {
+        if way.order.is_some() && way.nodes.len() <= FEW_NODES {
+            return way.cost;
+        }
+    }
+    u64::MAX
+}
+
+/// The ways that are tried to the end of a small picture of few colours: by a palette of all channels, with small trees or
+/// those that cost far less. With copies those by one predictor alone may be the shortest, and they are decoded in the least
+/// time.
 fn few_ways(
     alloc: Global,
     ways: Vec<Advice>,
     picture: &Picture,
 ) -> Result<Vec<Advice>, OutOfMemory> {
-    let few = ways_of_few_nodes(alloc, ways, picture)?;
-    let mut kept = cheapest_of(alloc, few, SMALL_WAYS)?;
+    let least = least_of_few_nodes(&ways);
+    let most = least.saturating_sub(least / NODES_GAIN);
+    let mut kept = Vec::new(alloc);
+    for way in ways {
+        let quick = way.nodes.len() <= FEW_NODES || way.cost < most;
+        if way.order.is_some() && quick && (way.broad || kept.len() < SMALL_WAYS) {
+            kept.push(way)?;
+        }
+    }
     let colours = colours_of(picture, Effort::Best);
     add_plain_ways(alloc, &mut kept, picture.channels.len(), colours)?;
     Ok(kept)
@@ -349,18 +260,9 @@ pub(crate) fn is_small(picture: &Picture) -> bool {
     samples_in(&picture.channels) <= SMALL
 }
 
-/// How the trees are learnt that take most time: of a larger picture of which samples repeat by all properties alone.
-fn learning_of(picture: &Picture, repeats: bool) -> Learning {
-    if repeats && !is_small(picture) && picture.header.bit_depth.exp_bits == 0 {
-        Learning::Broad
-    } else {
-        Learning::At(Effort::Best)
-    }
-}
-
 /// The ways that are tried at the greatest effort, where these are those of lower ones: samples repeat if `repeats` says so. A
 /// small picture of few colours is tried by palettes, by small trees of lower efforts and by single predictors alone: it is
-/// decoded in less time.
+/// decoded in less time. Of a larger one of which samples repeat, trees are learnt by all properties alone.
 pub(crate) fn best_ways(
     alloc: Global,
     ways: Vec<Advice>,
@@ -373,27 +275,34 @@ pub(crate) fn best_ways(
     if picture.channels.len() > 1 {
         let learning = Learning::At(Effort::Usual);
         let orders = &[ColourOrder::Sample];
-        add_palette_ways_by(alloc, &mut ways, picture, alike, learning, orders)?;
+        add_palette_ways(alloc, &mut ways, picture, alike, learning, orders)?;
     }
-    let learning = learning_of(picture, repeats);
-    let broad = matches!(learning, Learning::Broad);
-    let other = least_of_ways(&ways, picture, false, false);
-    let mut palette = u64::MAX;
-    if let Some((order, cost)) = best_order(&ways, picture) {
-        palette = cost;
-        add_palette_ways_by(alloc, &mut ways, picture, alike, learning, &[order])?;
+    let broad = repeats && !small && picture.header.bit_depth.exp_bits == 0;
+    let learning = if broad {
+        Learning::Broad
+    } else {
+        Learning::At(Effort::Best)
+    };
+    let other = cost_of(first_of(&ways, false, false));
+    let palette = cost_of(first_of(&ways, true, false));
+    let order = match first_of(&ways, true, false) {
+        Some(way) => way.order,
+        None => None,
+    };
+    if let Some(order) = order {
+        add_palette_ways(alloc, &mut ways, picture, alike, learning, &[order])?;
     }
     // By estimates: whether a palette is not clearly better than none, and, learnt with care, not clearly better than that.
     let likely = other <= palette.saturating_add(palette / MARGIN);
-    let learnt = least_of_ways(&ways, picture, true, true);
+    let learnt = cost_of(first_of(&ways, true, true));
     let clear = broad && learnt.saturating_mul(4) <= other.saturating_mul(3);
-    let few = small && palette < u64::MAX;
+    let few = small && order.is_some();
     if likely && !clear && !few {
         let ranks = ranks_of(alloc, picture)?;
-        add_other_ways(alloc, &mut ways, picture, alike, &ranks, learning)?;
+        add_other_way(alloc, &mut ways, picture, alike, &ranks, learning)?;
     }
     if broad {
-        return copied_of(alloc, ways, picture);
+        return copied_of(alloc, ways);
     }
     if few {
         return few_ways(alloc, ways, picture);

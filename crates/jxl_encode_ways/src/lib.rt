@@ -9,4 +9,3 @@ pub mod grids;
 mod joined;
 mod looks;
 mod palettes;
-mod ranks;

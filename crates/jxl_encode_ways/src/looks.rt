@@ -1,13 +1,10 @@
 //! Looks at few samples, which tell what ways to code a picture may cost: only the likeliest are then learnt from more samples.
 //! They are heuristics: no sample depends on them.
 
-use crate::advice::{
-    Advice, Learning, Samples, add_other_ways, add_ways_of, colours_of, least_cost,
-};
+use crate::advice::{Advice, Learning, Samples, add_other_way, add_way_of, colours_of, cost_of};
 use crate::best::is_small;
 use crate::effort::Effort;
-use crate::palettes::{AllByPalette, all_by_palette, orders_of};
-use crate::ranks::ranks_of;
+use crate::palettes::{Coded, all_by_palette, orders_of, ranks_of};
 use jxl_picture::picture::Picture;
 use jxlm_base::grid::OutOfMemory;
 use std::alloc::Global;
@@ -47,7 +44,7 @@ fn is_near(cost: u64, other: u64, share: u64, small: bool) -> bool {
 /// A palette of all channels, and what the picture may cost by it.
 #[derive(Drop)]
 struct Looked {
-    palette: AllByPalette,
+    palette: Coded,
     cost: u64,
 }
 
@@ -63,36 +60,14 @@ fn likeliest_palette(
             return Ok(best);
         };
         let mut list = Vec::new(alloc);
-        palette.add_ways(alloc, &mut list, alike, look_at(picture))?;
-        let cost = least_cost(&list);
+        palette.add_way(alloc, &mut list, alike, look_at(picture), &[None])?;
+        let cost = cost_of(list.first());
         best = match best {
             Some(old) if old.cost <= cost => Some(old),
             _ => Some(Looked { palette, cost }),
         };
     }
     Ok(best)
-}
-
-/// A colour transform or none, and what the picture may cost by it without a palette.
-#[derive(Clone, Copy)]
-struct Plain {
-    colour: Option<u32>,
-    cost: u64,
-}
-
-/// What the picture may cost without a palette, by the likeliest colour transform.
-fn likeliest_plain(alloc: Global, picture: &Picture, alike: bool) -> Result<Plain, OutOfMemory> {
-    let mut list = Vec::new(alloc);
-    let samples = Samples::of(picture, alike);
-    let colours = colours_of(picture, Effort::Usual);
-    add_ways_of(alloc, &mut list, samples, look_at(picture), colours)?;
-    Ok(Plain {
-        colour: match list.last() {
-            Some(way) => way.colour,
-            None => None,
-        },
-        cost: least_cost(&list),
-    })
 }
 
 /// The ways of the usual effort: by the likeliest palette of all channels, unless the picture may cost far less without one;
@@ -105,19 +80,25 @@ pub(crate) fn ways_by_looks(
 ) -> Result<Vec<Advice>, OutOfMemory> {
     let mut list = Vec::new(alloc);
     let learning = Learning::At(Effort::Usual);
+    let samples = Samples::of(picture, alike);
     let Some(best) = likeliest_palette(alloc, picture, alike)? else {
         let ranks = ranks_of(alloc, picture)?;
-        add_other_ways(alloc, &mut list, picture, alike, &ranks, learning)?;
+        add_other_way(alloc, &mut list, picture, alike, &ranks, learning)?;
         return Ok(list);
     };
-    let plain = likeliest_plain(alloc, picture, alike)?;
+    let mut looked = Vec::new(alloc);
+    let colours = colours_of(picture, Effort::Usual);
+    add_way_of(alloc, &mut looked, samples, look_at(picture), colours)?;
+    let plain = cost_of(looked.first());
     let small = is_small(picture);
-    if is_near(best.cost, plain.cost, 4, small) {
-        best.palette.add_ways(alloc, &mut list, alike, learning)?;
+    if is_near(best.cost, plain, 4, small) {
+        best.palette
+            .add_way(alloc, &mut list, alike, learning, &[None])?;
     }
-    if is_near(plain.cost, best.cost, 2, small) {
-        let samples = Samples::of(picture, alike);
-        add_ways_of(alloc, &mut list, samples, learning, &[plain.colour])?;
+    if is_near(plain, best.cost, 2, small) {
+        if let Some(way) = looked.first() {
+            add_way_of(alloc, &mut list, samples, learning, &[way.colour])?;
+        }
     }
     Ok(list)
 }

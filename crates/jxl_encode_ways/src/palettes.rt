@@ -1,23 +1,27 @@
-//! Ways to code a picture of few colours by a palette. They are heuristics: no sample depends on them.
+//! Ways to code a picture by palettes: one of all channels, whose colours are few, or one of each channel of colours, whose
+//! values are few and far apart: the ranks of its values. They are heuristics: no sample depends on them.
 
-use crate::advice::{Advice, GROUP_DIM, Learning, Samples, add_advice, add_ways_of};
+use crate::advice::{Advice, GROUP_DIM, Learning, Samples, add_advice, add_way_of};
 use crate::effort::Effort;
 use crate::joined::{CHANNEL, Levels, joined};
+use jxl_encode_image::colours::ColourOrder;
+use jxl_encode_image::palette::{TableGrids, tables_of};
 use jxl_encode_image::transform::PalettePlan;
 use jxl_encode_learn::scheme::Scheme;
-use jxl_encode_palette::colours::ColourOrder;
-use jxl_encode_palette::palette::{TableGrids, tables_of};
 use jxl_encode_properties::neighbours::{Care, scheme_by_neighbours};
 use jxl_image_header::channel::BitDepth;
-use jxl_picture::picture::Picture;
+use jxl_picture::picture::{Picture, colours as colours_in};
 use jxlm_base::grid::{AlignedGrid, OutOfMemory};
 use std::alloc::Global;
 
 /// The most colours of a palette.
-pub(crate) const MOST_COLOURS: usize = 16384;
+const MOST_COLOURS: usize = 16384;
 
 /// How many pixels a picture has at least for each colour of a palette.
 const PIXELS: usize = 8;
+
+/// How many samples of a channel are looked at before all of its values are counted.
+const LOOKED: usize = 1 << 15;
 
 /// By how many slopes the samples of tables are told apart.
 const TABLE_SLOPES: usize = 3;
@@ -40,45 +44,11 @@ fn cluster_count(clusters: &[u8]) -> u8 {
     most.saturating_add(1)
 }
 
-/// The way whose tree is that of tables, and of all other channels; none, if it has too many clusters.
-fn way_of(
-    alloc: Global,
-    table: &Scheme,
-    index: Advice,
-    palettes: &[PalettePlan],
-    large: bool,
-) -> Result<Option<Advice>, OutOfMemory> {
-    let shift = cluster_count(&table.clusters);
-    if cluster_count(&index.clusters).checked_add(shift).is_none() {
-        return Ok(None);
-    }
-    let tables = palettes.len().min(255) as i32;
-    let (property, value, behind) = if large {
-        (STREAM, 0, 0)
-    } else {
-        (CHANNEL, tables.saturating_sub(1), tables)
-    };
-    let greater = Levels::new(&index.nodes, &index.clusters, shift, behind);
-    let others = Levels::new(&table.nodes, &table.clusters, 0, 0);
-    let tree = joined(alloc, property, value, greater, others)?;
-    let mut plans = Vec::new(alloc);
-    for plan in palettes {
-        plans.push(*plan)?;
-    }
-    Ok(Some(Advice {
-        nodes: tree.nodes,
-        clusters: tree.clusters,
-        colour: index.colour,
-        palettes: plans,
-        cost: index.cost.saturating_add(table.cost),
-        broad: index.broad,
-    }))
-}
-
 /// How indices are stored.
-pub(crate) fn depth_of(colours: usize) -> BitDepth {
+fn depth_of(colours: usize) -> BitDepth {
     let bits_per_sample = match colours {
-        0..=16 => 4,
+        0..=4 => 2,
+        5..=16 => 4,
         17..=256 => 8,
         257..=1024 => 10,
         1025..=4096 => 12,
@@ -91,84 +61,149 @@ pub(crate) fn depth_of(colours: usize) -> BitDepth {
     }
 }
 
-/// Channels as palettes code them: the tables, all other channels, and how these are stored.
-#[derive(Clone, Copy)]
-pub(crate) struct Coded<'a> {
-    pub(crate) tables: &'a [AlignedGrid<i32>],
-    pub(crate) samples: Samples<'a>,
+/// Whether this number of values, from the least to the greatest, are so far apart that their ranks may take fewer bits.
+fn are_far_apart(count: usize, least: i32, most: i32) -> bool {
+    let span = u64::from(most.abs_diff(least)).saturating_add(1);
+    (count as u64).saturating_mul(4) <= span.saturating_mul(3)
 }
 
-/// The scheme of the tables.
-fn scheme_of_tables(
-    alloc: Global,
-    coded: Coded<'_>,
-    learning: Learning,
-) -> Result<Scheme, OutOfMemory> {
-    let tables = Samples {
-        channels: coded.tables,
-        depth: BYTES,
-        alike: true,
-    };
-    let care = Care {
-        pixels: usize::MAX,
-        slopes: TABLE_SLOPES,
-        ..learning.care(tables)
-    };
-    scheme_by_neighbours(alloc, tables.channels, None, BYTES.bits_per_sample, care)
+/// Whether the samples of a table in rising order are so far apart that its indices may take fewer bits than the
+/// samples that they stand for: a table of several channels always is.
+fn is_sparse(table: &AlignedGrid<i32>) -> bool {
+    if table.height() != 1 || table.width() == 0 {
+        return true;
+    }
+    let last = table.get(table.width() - 1, 0);
+    are_far_apart(table.width(), table.get(0, 0), last)
 }
 
-/// Adds the ways by these palettes, and one of these colour transforms.
-pub(crate) fn add_ways_by(
-    alloc: Global,
-    list: &mut Vec<Advice>,
-    coded: Coded<'_>,
-    palettes: &[PalettePlan],
-    colours: &[Option<u32>],
-    learning: Learning,
-) -> Result<(), OutOfMemory> {
-    // The indices of a picture of several groups are in other sections than the table.
-    let large = match coded.samples.channels.get(0) {
-        Some(first) => first.width().max(first.height()) > GROUP_DIM as usize,
-        None => false,
-    };
-    let scheme = scheme_of_tables(alloc, coded, learning)?;
-    let mut ways = Vec::new(alloc);
-    add_ways_of(alloc, &mut ways, coded.samples, learning, colours)?;
-    for way in ways {
-        if let Some(advice) = way_of(alloc, &scheme, way, palettes, large)? {
-            add_advice(list, advice)?;
+/// Channels of a picture as palettes code them.
+#[derive(Drop)]
+pub(crate) struct Coded {
+    plans: Vec<PalettePlan>,
+    tables: Vec<AlignedGrid<i32>>,
+    // Indices, and the channels without a palette.
+    channels: Vec<AlignedGrid<i32>>,
+    // The most colours of a palette.
+    most: usize,
+    // The order of the colours of a palette of all channels.
+    order: Option<ColourOrder>,
+}
+
+impl Coded {
+    /// No channels, of which a palette of all is in this order.
+    fn new(alloc: Global, order: Option<ColourOrder>) -> Coded {
+        Coded {
+            plans: Vec::new(alloc),
+            tables: Vec::new(alloc),
+            channels: Vec::new(alloc),
+            most: 0,
+            order,
         }
     }
-    Ok(())
-}
 
-/// All channels of a picture by a palette.
-#[derive(Drop)]
-pub(crate) struct AllByPalette {
-    plan: PalettePlan,
-    tables: Vec<AlignedGrid<i32>>,
-    indices: Vec<AlignedGrid<i32>>,
-    depth: BitDepth,
-}
+    /// Adds channels of a picture by a palette. Returns false if they are not one to four of one size, or their colours are too
+    /// many or not far apart.
+    fn add(
+        &mut self,
+        alloc: Global,
+        picture: &Picture,
+        plan: PalettePlan,
+    ) -> Result<bool, OutOfMemory> {
+        let (first, count) = (plan.first, plan.count);
+        let end = first.saturating_add(count);
+        if first >= end || end > picture.channels.len() {
+            return Ok(false);
+        }
+        let channels = &picture.channels[first..end];
+        let most = plan.most.min(picture.channels[first].buf().len() / PIXELS);
+        let plan = PalettePlan { most, ..plan };
+        let Some(found) = tables_of(alloc, channels, plan.order, most)? else {
+            return Ok(false);
+        };
+        let TableGrids { table, index } = found;
+        if !is_sparse(&table) {
+            return Ok(false);
+        }
+        self.most = self.most.max(table.width());
+        self.tables.push(table)?;
+        self.channels.push(index)?;
+        self.plans.push(plan)?;
+        Ok(true)
+    }
 
-impl AllByPalette {
-    /// Adds the ways by it that are learnt so.
-    pub(crate) fn add_ways(
+    /// The way whose tree is that of tables, and of all other channels.
+    fn way_of(
+        &self,
+        alloc: Global,
+        table: &Scheme,
+        index: Advice,
+        large: bool,
+    ) -> Result<Advice, OutOfMemory> {
+        let tables = self.plans.len().min(255) as i32;
+        let (property, value, behind) = if large {
+            (STREAM, 0, 0)
+        } else {
+            (CHANNEL, tables.saturating_sub(1), tables)
+        };
+        let shift = cluster_count(&table.clusters);
+        let greater = Levels::new(&index.nodes, &index.clusters, shift, behind);
+        let others = Levels::new(&table.nodes, &table.clusters, 0, 0);
+        let tree = joined(alloc, property, value, greater, others)?;
+        let mut palettes = Vec::new(alloc);
+        for plan in &self.plans {
+            palettes.push(*plan)?;
+        }
+        Ok(Advice {
+            nodes: tree.nodes,
+            clusters: tree.clusters,
+            colour: index.colour,
+            palettes,
+            cost: index.cost.saturating_add(table.cost),
+            broad: index.broad,
+            order: self.order,
+        })
+    }
+
+    /// Adds the way by these palettes that is learnt so, after one of these colour transforms. Most samples of the picture are
+    /// alike if `alike` says so.
+    pub(crate) fn add_way(
         &self,
         alloc: Global,
         list: &mut Vec<Advice>,
         alike: bool,
         learning: Learning,
+        colours: &[Option<u32>],
     ) -> Result<(), OutOfMemory> {
-        let coded = Coded {
-            tables: &self.tables,
-            samples: Samples {
-                channels: &self.indices,
-                depth: self.depth,
-                alike,
-            },
+        // The indices of a picture of several groups are in other sections than the table.
+        let large = match self.channels.get(0) {
+            Some(first) => first.width().max(first.height()) > GROUP_DIM as usize,
+            None => false,
         };
-        add_ways_by(alloc, list, coded, &[self.plan], &[None], learning)
+        let tables = Samples {
+            channels: &self.tables,
+            depth: BYTES,
+            alike: true,
+        };
+        let care = Care {
+            pixels: usize::MAX,
+            slopes: TABLE_SLOPES,
+            ..learning.care(tables)
+        };
+        let bits = BYTES.bits_per_sample;
+        let scheme = scheme_by_neighbours(alloc, tables.channels, None, bits, care)?;
+        let samples = Samples {
+            channels: &self.channels,
+            depth: depth_of(self.most),
+            alike,
+        };
+        let mut ways = Vec::new(alloc);
+        add_way_of(alloc, &mut ways, samples, learning, colours)?;
+        for way in ways {
+            let way = self.way_of(alloc, &scheme, way, large)?;
+            add_advice(list, way)?;
+        }
+        Ok(())
     }
 }
 
@@ -185,67 +220,32 @@ pub(crate) fn orders_of(effort: Effort, channels: usize) -> &'static [ColourOrde
     }
 }
 
-/// Whether this number of values, from the least to the greatest, are so far apart that their ranks may take fewer bits.
-pub(crate) fn are_far_apart(count: usize, least: i32, most: i32) -> bool {
-    let span = u64::from(most.abs_diff(least)).saturating_add(1);
-    (count as u64).saturating_mul(4) <= span.saturating_mul(3)
-}
-
-/// Whether the samples of a table in rising order are so far apart that its indices may take fewer bits than the
-/// samples that they stand for: a table of several channels always is.
-pub(crate) fn is_sparse(table: &AlignedGrid<i32>) -> bool {
-    if table.height() != 1 || table.width() == 0 {
-        return true;
-    }
-    let least = table.get(0, 0);
-    let most = table.get(table.width() - 1, 0);
-    are_far_apart(table.width(), least, most)
-}
-
 /// All channels by a palette in this order, if they are one to four of one size, and their colours few.
 pub(crate) fn all_by_palette(
     alloc: Global,
     picture: &Picture,
     order: ColourOrder,
     effort: Effort,
-) -> Result<Option<AllByPalette>, OutOfMemory> {
-    let channels = &picture.channels;
-    let pixels = match channels.get(0) {
-        Some(first) => first.buf().len(),
-        None => 0,
-    };
-    let colours = match effort {
-        Effort::Fast => MOST_COLOURS / 4,
-        _ => MOST_COLOURS,
-    };
-    let most = colours.min(pixels / PIXELS);
-    let Some(found) = tables_of(alloc, channels, order, most)? else {
-        return Ok(None);
-    };
-    let TableGrids { table, index } = found;
-    if !is_sparse(&table) {
-        return Ok(None);
-    }
-    let depth = depth_of(table.width());
-    let mut tables = Vec::new(alloc);
-    tables.push(table)?;
-    let mut indices = Vec::new(alloc);
-    indices.push(index)?;
-    Ok(Some(AllByPalette {
-        plan: PalettePlan {
-            first: 0,
-            count: channels.len(),
-            order,
-            most,
+) -> Result<Option<Coded>, OutOfMemory> {
+    let mut coded = Coded::new(alloc, Some(order));
+    let plan = PalettePlan {
+        first: 0,
+        count: picture.channels.len(),
+        order,
+        most: match effort {
+            Effort::Fast => MOST_COLOURS / 4,
+            _ => MOST_COLOURS,
         },
-        tables,
-        indices,
-        depth,
-    }))
+    };
+    if coded.add(alloc, picture, plan)? {
+        Ok(Some(coded))
+    } else {
+        Ok(None)
+    }
 }
 
 /// Adds the ways by a palette of all channels in each of these orders.
-pub(crate) fn add_palette_ways_by(
+pub(crate) fn add_palette_ways(
     alloc: Global,
     list: &mut Vec<Advice>,
     picture: &Picture,
@@ -257,19 +257,56 @@ pub(crate) fn add_palette_ways_by(
         let Some(found) = all_by_palette(alloc, picture, *order, learning.effort())? else {
             return Ok(());
         };
-        found.add_ways(alloc, list, alike, learning)?;
+        found.add_way(alloc, list, alike, learning, &[None])?;
     }
     Ok(())
 }
 
-/// Adds the ways by palettes of all channels at an effort.
-pub(crate) fn add_palette_ways(
-    alloc: Global,
-    list: &mut Vec<Advice>,
-    picture: &Picture,
-    alike: bool,
-    effort: Effort,
-) -> Result<(), OutOfMemory> {
-    let orders = orders_of(effort, picture.channels.len());
-    add_palette_ways_by(alloc, list, picture, alike, Learning::At(effort), orders)
+/// Whether some of these samples, of this many bits, already have values that are not far apart.
+fn are_dense(alloc: Global, samples: &[i32], bits: u32) -> Result<bool, OutOfMemory> {
+    let mut seen = vec![in alloc; false; 1usize.wrapping_shl(bits.min(16))]?;
+    let mut count: usize = 0;
+    let (mut least, mut most) = (i32::MAX, i32::MIN);
+    let step = samples.len() / LOOKED | 1;
+    for at in 0..samples.len().min(LOOKED) {
+        let Some(sample) = samples.get(at.saturating_mul(step)).copied() else {
+            break;
+        };
+        least = least.min(sample);
+        most = most.max(sample);
+        if let Some(flag) = seen.get_mut(sample.cast_unsigned() as usize) {
+            if !*flag {
+                *flag = true;
+                count = count.saturating_add(1);
+            }
+        }
+    }
+    Ok(!are_far_apart(count, least, most))
+}
+
+/// The channels of colours of a picture by the ranks of their values, beside all others, if they have few, and are not its only
+/// channel.
+pub(crate) fn ranks_of(alloc: Global, picture: &Picture) -> Result<Option<Coded>, OutOfMemory> {
+    if picture.channels.len() < 2 {
+        return Ok(None);
+    }
+    let mut coded = Coded::new(alloc, None);
+    let bits = picture.header.bit_depth.bits_per_sample;
+    for channel in 0..picture.channels.len() {
+        let grid = &picture.channels[channel];
+        if channel >= colours_in(&picture.header) {
+            coded.channels.push(grid.try_clone(alloc)?)?;
+            continue;
+        }
+        let plan = PalettePlan {
+            first: channel,
+            count: 1,
+            order: ColourOrder::Sample,
+            most: MOST_COLOURS,
+        };
+        if are_dense(alloc, grid.buf(), bits)? || !coded.add(alloc, picture, plan)? {
+            return Ok(None);
+        }
+    }
+    Ok(Some(coded))
 }

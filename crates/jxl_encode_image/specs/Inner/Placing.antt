@@ -14,7 +14,7 @@ use Rattle.jxlm_transform.specs.Lists.{layout_of, list_of}
 use Rattle.jxlm_transform.specs.Transforms.{Transform}
 use Rattle.jxlm_transform.specs.declared.channels.ModularChannels.{ModularChannels}
 use Rattle.jxlm_transform.specs.declared.transform.Palette.{Palette}
-use Rattle.jxl_encode_palette.specs.Palettes.{IsPaletteFor}
+use Rattle.jxl_encode_image.specs.Palettes.{IsPaletteFor}
 use Rattle.jxl_encode_image.specs.Images.{IsCodedImage, LieCoded}
 use Rattle.jxl_encode_image.specs.Preparations.{image_transforms}
 use Rattle.jxl_encode_image.specs.declared.transform.ImageTransform.{ImageTransform}

@@ -1,2 +1,0 @@
-pub mod Palettes
-pub mod Inner
