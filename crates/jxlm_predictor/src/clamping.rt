@@ -1,11 +1,10 @@
-//! Property 9 where it is clamped in place of being reduced to 32 bits.
+//! Property 9 where it is clamped in place of being reduced to 32 bits, far enough out for each cut of a tree that allows it.
 
-ghost use Rattle.std.specs.Prelude.{◌≡◌, ◌+ℤ◌, ◌-ℤ◌, ℤ, List, neg_ℤ, pos};
+ghost use Rattle.std.specs.Prelude.{◌≡◌, ◌+ℤ◌, ◌-ℤ◌, ℤ, List};
 ghost use Rattle.jxlm_base.specs.Regions.{store_meanings};
-ghost use Rattle.jxlm_bits.specs.Numbers.{clamp};
 ghost use Rattle.jxlm_predictor.specs.Holding.{IsCurrent, state_of, store_of, surroundings};
 ghost use Rattle.jxlm_predictor.specs.Standing.{Setting, StandsAt};
-ghost use Rattle.jxlm_predictor.specs.Sums.{gradient_sum as sum_clamped};
+ghost use Rattle.jxlm_predictor.specs.Sums.{clamp_sum, gradient_sum as sum_clamped};
 
 use crate::predictor::Properties;
 use jxlm_base::sample::Sample;
@@ -18,30 +17,30 @@ fn sum(w: i32, nw: i32, n: i32) -> i64
     w as i64 - nw as i64 + n as i64
 }
 
-/// The number clamped to -512..=511.
+/// The number clamped to -8193..=8191.
 #[inline(always)]
 fn near_zero(number: i64) -> i32
-    ensures { result ≡ clamp (neg_ℤ (pos 512)) (pos 511) number }
+    ensures { result ≡ clamp_sum number }
 {
-    if number < -512 {
-        -512
-    } else if number > 511 {
-        511
+    if number < -8193 {
+        -8193
+    } else if number > 8191 {
+        8191
     } else {
         number as i32
     }
 }
 
-/// West less north west plus north, clamped to -512..=511.
+/// West less north west plus north, clamped to -8193..=8191.
 #[inline(always)]
 pub fn clamped_sum(w: i32, nw: i32, n: i32) -> i32
-    ensures { result ≡ clamp (neg_ℤ (pos 512)) (pos 511) (w -ℤ nw +ℤ n) }
+    ensures { result ≡ clamp_sum (w -ℤ nw +ℤ n) }
 {
     near_zero(sum(w, nw, n))
 }
 
 impl<S: Sample> Properties<'_, S> {
-    /// The sum of property 9 at the cell, clamped to -512..=511.
+    /// The sum of property 9 at the cell, clamped to -8193..=8191.
     #[inline(always)]
     pub fn clamped_sum(&self) -> i32
         requires { IsCurrent self.now }

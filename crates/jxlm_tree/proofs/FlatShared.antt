@@ -31,7 +31,7 @@ unpruned pins (decision p v a b) own few =
     ∙ ap (λ x. decision p v a x) (unpruned pins b (or-right (tests_place a) (tests_place b) below) (omega (arith, few)))
 
 -- nodes that serve a channel serve another one for which the same is left of the tree
-serves-alike : (t : Shape Leaf) (c : CompiledTree) (one other : Known) → pruned one t ≡ pruned other t →
+pub serves-alike : (t : Shape Leaf) (c : CompiledTree) (one other : Known) → pruned one t ≡ pruned other t →
     IsCompiled t one c.nodes.items c.root c.need_self_correcting c.prev_channels_named →
     IsCompiled t other c.nodes.items c.root c.need_self_correcting c.prev_channels_named
 serves-alike t c one other same d = record {
@@ -47,26 +47,31 @@ serves-alike t c one other same d = record {
   named_is = d.named_is;
 }
 
--- they serve the next channel, up to the last one for which the same is left
-pub serves-next : (t : Shape Leaf) (c : CompiledTree) (channel stream earlier : ℕ) → IsCompiledFor t channel stream earlier c → channel < c.last_alike →
-    IsCompiledFor t (channel + 1) stream (earlier + 1) c
-serves-next t c channel stream earlier s more =
-    let same = s.alike 1 (omega (arith, more)) in
+-- they serve later channels, up to the last one for which the same is left
+pub serves-later : (t : Shape Leaf) (c : CompiledTree) (channel stream earlier m : ℕ) → IsCompiledFor t channel stream earlier c → channel + m ≤ c.last_alike →
+    IsCompiledFor t (channel + m) stream (earlier + m) c
+serves-later t c channel stream earlier m s within =
+    let same = s.alike m within in
     record {
-      tree = serves-alike t c (known_at channel stream earlier) (known_at (channel + 1) stream (earlier + 1)) (sym same) s.tree;
+      tree = serves-alike t c (known_at channel stream earlier) (known_at (channel + m) stream (earlier + m)) (sym same) s.tree;
       table = s.table;
       alike = λ k less.
-          ap (λ i. pruned (known_at i stream (earlier + 1 + k)) t) (let e : channel + 1 + k ≡ channel + (1 + k) = omega arith in e)
-          ∙ ap (λ i. pruned (known_at (channel + (1 + k)) stream i) t) (let e : earlier + 1 + k ≡ earlier + (1 + k) = omega arith in e)
-          ∙ s.alike (1 + k) (omega (arith, less)) ∙ sym same;
+          ap (λ i. pruned (known_at i stream (earlier + m + k)) t) (let e : channel + m + k ≡ channel + (m + k) = omega arith in e)
+          ∙ ap (λ i. pruned (known_at (channel + (m + k)) stream i) t) (let e : earlier + m + k ≡ earlier + (m + k) = omega arith in e)
+          ∙ s.alike (m + k) (omega (arith, less)) ∙ sym same;
       ends = λ k e few.
-          let i : channel + (1 + k) ≡ channel + 1 + k = omega arith in
-          let j : earlier + (1 + k) ≡ earlier + 1 + k = omega arith in
-          subst (λ (n : ℕ). taken_alike (known_side (known_at (channel + 1 + k) stream n)) (known_side (known_at (channel + 1 + k + 1) stream (n + 1))) t ≡ false) j
-          (subst (λ (n : ℕ). taken_alike (known_side (known_at n stream (earlier + (1 + k)))) (known_side (known_at (n + 1) stream (earlier + (1 + k) + 1))) t ≡ false) i
-          (s.ends (1 + k) (omega (arith, e)) few));
-      reaches = λ few. omega (arith, more);
+          let i : channel + (m + k) ≡ channel + m + k = omega arith in
+          let j : earlier + (m + k) ≡ earlier + m + k = omega arith in
+          subst (λ (n : ℕ). taken_alike (known_side (known_at (channel + m + k) stream n)) (known_side (known_at (channel + m + k + 1) stream (n + 1))) t ≡ false) j
+          (subst (λ (n : ℕ). taken_alike (known_side (known_at n stream (earlier + (m + k)))) (known_side (known_at (n + 1) stream (earlier + (m + k) + 1))) t ≡ false) i
+          (s.ends (m + k) (omega (arith, e)) few));
+      reaches = λ few. within;
     }
+
+-- so they serve the next one
+pub serves-next : (t : Shape Leaf) (c : CompiledTree) (channel stream earlier : ℕ) → IsCompiledFor t channel stream earlier c → channel < c.last_alike →
+    IsCompiledFor t (channel + 1) stream (earlier + 1) c
+serves-next t c channel stream earlier s more = serves-later t c channel stream earlier 1 s (omega (arith, more))
 
 -- so each channel takes what is known alike: nothing is
 alike-open : (f g : ℕ → ℤ → Option Bool) (t : Shape Leaf) (pins : Known) → f ≡ known_side pins → tests_place t ≡ false → earlier_named t ≤ pins.prev_channels → taken_alike f g t ≡ true

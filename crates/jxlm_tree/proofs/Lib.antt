@@ -13,6 +13,7 @@ pub mod FlatMade
 pub mod FlatSteps
 pub mod FlatAsks
 pub mod FlatShared
+pub mod ChannelRuns
 pub mod ClusterTables
 pub mod FlatPaths
 pub mod FlatForced

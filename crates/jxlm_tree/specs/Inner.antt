@@ -1,5 +1,6 @@
 pub mod Kept
 pub mod LeafSets
+pub mod Streams
 pub mod Walking
 pub mod Compiled
 pub mod FlatNodes

@@ -9,4 +9,5 @@ pub mod ma;
 pub mod paths;
 mod sets;
 mod steps;
+mod streams;
 mod sums;

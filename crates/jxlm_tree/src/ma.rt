@@ -1,6 +1,6 @@
 //! Meta-adaptive trees with the decoders of their leaves.
 
-ghost use Rattle.std.specs.Prelude.{◌≡◌, ◌≤◌, ◌^◌, IfOk, IfErr};
+ghost use Rattle.std.specs.Prelude.{◌≡◌, ◌≤◌, ◌^◌, ℕ, IfOk, IfErr, IfSome};
 ghost use Rattle.jxlm_bits.specs.Bits.{bytes_of, position_of};
 ghost use Rattle.jxlm_bits.specs.ErrorKind.{NoMemory, kind_of};
 ghost use Rattle.jxlm_tree.specs.FlatTree.{ClustersStandIn, flat_tree};
@@ -9,6 +9,7 @@ ghost use Rattle.jxlm_ma_tree.specs.Tree.{AllLeaves, node_count, depth};
 ghost use Rattle.jxlm_ma_tree.specs.TreeReading.{IsLeafOf, IsOutOfMemory, MemoryGives, TreeGives};
 
 use crate::flat::{CompiledTree, FlatMaTree};
+use crate::streams::StreamNodes;
 use jxlm_base::grid::OutOfMemory;
 use jxlm_bits::bits::Bitstream;
 use jxlm_bits::decoder::Decoder;
@@ -39,6 +40,8 @@ pub struct MaConfig<D: Decoder> {
     tree: Rc<MaTree>,
     // Its nodes, where they are the same for every channel and stream.
     anywhere: Option<Rc<CompiledTree>>,
+    // Its nodes for two runs of channels, where they are the same for every stream.
+    by_channel: Option<Rc<StreamNodes>>,
     decoder: D,
     num_tree_nodes: usize,
 }
@@ -58,7 +61,7 @@ impl<D: Decoder> Model for MaConfig<D> {
     ghost view = { λ c. config_of (shape_of c.tree.value.root) c.decoder };
 
     ghost invariant = { λ c. IsKept (D.meaning.cluster_map c.decoder) c.tree.value rc_value c.anywhere
-        c.num_tree_nodes };
+        rc_value c.by_channel c.num_tree_nodes };
 }
 
 impl<D: Decoder> MaConfig<D> {
@@ -91,10 +94,12 @@ impl<D: Decoder> MaConfig<D> {
             num_nodes,
         } = parsed;
         let anywhere = CompiledTree::anywhere(alloc, &tree)?;
+        let by_channel = StreamNodes::of(alloc, &tree, num_nodes)?;
         let tree = Rc::new(alloc, tree)?;
         Ok(MaConfig {
             tree,
             anywhere,
+            by_channel,
             decoder,
             num_tree_nodes: num_nodes,
         })
@@ -115,9 +120,14 @@ impl<D: Decoder> MaConfig<D> {
             Some(shared) => Some(shared.clone()?),
             None => None,
         };
+        let by_channel = match &self.by_channel {
+            Some(shared) => Some(shared.clone()?),
+            None => None,
+        };
         Ok(MaConfig {
             tree,
             anywhere,
+            by_channel,
             decoder,
             num_tree_nodes: self.num_tree_nodes,
         })
@@ -127,7 +137,8 @@ impl<D: Decoder> MaConfig<D> {
     /// the stream, and `prev_channels` the number of earlier channels that it may ask for.
     ///
     /// The tree is shared. So are its compiled nodes where it asks for neither channel nor stream, and no earlier
-    /// channel that it names is missing.
+    /// channel that it names is missing. With 1,024 nodes or more, a tree that asks for the channel and not for the
+    /// stream is compiled once for two runs of channels, each of which has all channels before it as earlier ones.
     ///
     /// # Errors
     ///
@@ -155,6 +166,21 @@ impl<D: Decoder> MaConfig<D> {
         })
     }
 
+    // The nodes for the samples of a channel of whatever stream, where they are kept for it.
+    fn kept_nodes(&self, channel: u32, prev_channels: u32) -> Result<Option<Rc<CompiledTree>>>
+        ensures serves { (stream : ℕ) → IfOk result (λ o. IfSome o (λ c.
+            IsCompiledFor self.now.tree channel stream prev_channels c.value)) }
+        ensures err { IfErr result (λ e. kind_of e ≡ NoMemory) }
+    {
+        if channel != prev_channels {
+            return Ok(None);
+        }
+        match &self.by_channel {
+            Some(kept) => kept.for_channel(channel),
+            None => Ok(None),
+        }
+    }
+
     // The nodes for the samples of a channel: those that are shared, where they serve it.
     fn compiled_for(
         &self,
@@ -170,6 +196,9 @@ impl<D: Decoder> MaConfig<D> {
             if self.tree.prev_channels_named <= prev_channels {
                 return Ok(shared.clone()?);
             }
+        }
+        if let Some(kept) = self.kept_nodes(channel, prev_channels)? {
+            return Ok(kept);
         }
         let compiled = CompiledTree::new(alloc, &self.tree, channel, stream_idx, prev_channels)?;
         Ok(Rc::new(alloc, compiled)?)

@@ -73,10 +73,14 @@ fn rule_out(sets: &mut [u64], property: u32, value: i32, first: usize, end: usiz
     take_out(sets, from, from + last + 1, leaves);
 }
 
-// How many leaves are left of a tree once known decisions are taken.
-fn count_leaves(tree: &MaTreeNode, known: &Known) -> usize
-    ensures { result ≡ min (length (leaves_of (pruned known.now (shape_of tree.now)))) 18446744073709551615 }
+// How many leaves are left of a tree once known decisions are taken, up to this number: leaves after these are not
+// looked at.
+fn count_leaves(tree: &MaTreeNode, known: &Known, most: usize) -> usize
+    ensures { result ≡ min (length (leaves_of (pruned known.now (shape_of tree.now)))) most }
 {
+    if most == 0 {
+        return 0;
+    }
     match tree {
         MaTreeNode::Leaf(_) => 1,
         MaTreeNode::Decision {
@@ -85,12 +89,15 @@ fn count_leaves(tree: &MaTreeNode, known: &Known) -> usize
             left,
             right,
         } => match known_value(known, *property) {
-            None => count_leaves(left, known).saturating_add(count_leaves(right, known)),
+            None => {
+                let first = count_leaves(left, known, most);
+                first + count_leaves(right, known, most - first)
+            }
             Some(x) => {
                 if x > *value {
-                    count_leaves(left, known)
+                    count_leaves(left, known, most)
                 } else {
-                    count_leaves(right, known)
+                    count_leaves(right, known, most)
                 }
             }
         },
@@ -184,7 +191,7 @@ impl LeafSets {
         ensures sets { IfOk result (λ o. IfSome o (AreOf (pruned known.now (shape_of tree.now)) deep)) }
         ensures none { IfOk result (λ o. o ≡ None → FitsSets (pruned known.now (shape_of tree.now)) deep → ⊥) }
     {
-        let count = count_leaves(tree, known);
+        let count = count_leaves(tree, known, MOST_LEAVES + 1);
         if deep < TABLES || count > MOST_LEAVES || !is_served(tree, known) {
             return Ok(None);
         }

@@ -26,3 +26,7 @@ new-requires-clause-multipliers g c =
     let clusters = g.D.Decoder.meaning.cluster_map c.self.inside.decoder in
     subst (λ (m : MaTree). AllLeaves HasMultiplier (shape_of m.root)) (sym c.deref-2.ensures)
     (each_leaf {P = IsLeafOf clusters} {Q = HasMultiplier} (λ (l : Leaf) (h : IsLeafOf clusters l). (h.least, h.below)) (shape_of c.self.inside.tree.value.root) c.self.invariant.leaves)
+
+pub returns-in-Some-2-clause-compiled : goal.returns-in-Some-2-clause-compiled
+returns-in-Some-2-clause-compiled g c =
+    subst (λ o. IfSome o (λ k. IsCompiledFor c.args.self.now.tree c.args.channel c.args.stream_idx c.args.prev_channels k.value)) c.in-Some-2.is (c.in_ok-kept.ensures.serves c.args.stream_idx)

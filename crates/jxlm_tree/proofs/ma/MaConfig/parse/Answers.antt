@@ -9,3 +9,8 @@ pub anywhere-requires-clause-multipliers : goal.anywhere-requires-clause-multipl
 anywhere-requires-clause-multipliers g c =
     let clusters = g.D.Decoder.meaning.cluster_map c.in_ok-parsed.parsed.decoder in
     each_leaf {P = IsLeafOf clusters} {Q = HasMultiplier} (λ (l : Leaf) (h : IsLeafOf clusters l). (h.least, h.below)) (shape_of c.in_ok-parsed.parsed.tree.root) c.in_ok-parsed.ensures.leaves
+
+pub of-requires-clause-multipliers : goal.of-requires-clause-multipliers
+of-requires-clause-multipliers g c =
+    let clusters = g.D.Decoder.meaning.cluster_map c.in_ok-parsed.parsed.decoder in
+    each_leaf {P = IsLeafOf clusters} {Q = HasMultiplier} (λ (l : Leaf) (h : IsLeafOf clusters l). (h.least, h.below)) (shape_of c.in_ok-parsed.parsed.tree.root) c.in_ok-parsed.ensures.leaves
