@@ -16,16 +16,16 @@ use Rattle.jxlm_groups.specs.declared.part.SectionPart.{SectionPart}
 use Rattle.jxlm_groups.specs.declared.part.SectionPart.TheVariants as parts
 use Rattle.jxlm_groups.specs.declared.pass.Pass.{Pass}
 use Rattle.jxlm_groups.proofs.PartChannels.{few_channels}
-use Rattle.jxlm_header.specs.Header.{header}
+use Rattle.jxlm_header.specs.Header.{file_header}
 use Rattle.jxlm_header.specs.Opening.{Opening, depth_limit, node_limit, opening_of}
 use Rattle.jxlm_nested.specs.Starts.{IsStartAt, opening_at}
 use Rattle.jxlm_samples.specs.Coded.{IsCodedWhole}
 use Rattle.jxlm_samples.specs.Part.{cell_count}
-use Rattle.jxlm_transform.specs.Channels.{Channel, ChannelList, image_list}
+use Rattle.jxlm_transform.specs.Channels.{Channel, ChannelList, image_list, tables_for}
 use Rattle.jxlm_transform.specs.ChannelSteps.{CodedList}
 use Rattle.jxlm_transform.specs.Params.{IsValidChannel}
 use Rattle.jxlm_transform.specs.declared.param.ModularChannelParams.{ModularChannelParams}
-use Rattle.jxlm_transform.specs.declared.param.PaletteTables.TheVariants.{OfColours}
+use Rattle.jxlm_transform.specs.declared.param.PaletteTables.TheVariants.{OfDeltasToo}
 use Rattle.jxlm_tree.specs.Tree.{Config, depth}
 use Rattle.jxlm_tree.specs.TreeReading.{IsTreeAt}
 use Rattle.jxlm_section_split.proofs.Openings.{opened_steps}
@@ -49,7 +49,7 @@ use Rattle.jxl_encode_frame.specs.Codings.{AreSections, part_by_tree}
 use Rattle.jxl_encode_frame.specs.Laws.{SectionsAreStill}
 use Rattle.jxl_encode_frame.proofs.Codewords.{each_once}
 use Rattle.jxl_encode_frame.proofs.Ends.{prepared_sides}
-use Rattle.jxl_encode_frame.proofs.Headers.{not_weighted, opens, plain_header, uses_global}
+use Rattle.jxl_encode_frame.proofs.Headers.{not_weighted, opens, opens_any, plain_header, uses_global}
 use Rattle.jxl_encode_image.proofs.Parts.{part_sides}
 use Rattle.jxl_encode_frame.proofs.Readers.{at_start, place_is, reader}
 use Rattle.jxl_encode_frame.proofs.Streams.{streams_rise}
@@ -57,7 +57,7 @@ use Rattle.jxl_encode_frame.proofs.Within.{header_ends}
 
 module _ {D : Type 0} (d : Meaning D) (w : Width) (config : Config D) (ps : List ModularChannelParams) (group_dim bit_depth : ℕ)
     (passes : List Pass) (layout : Layout) (first : List ℕ) (p : ℕ) (sections : List (List ℕ)) (trees : TreeLimits) (image : List (Grid ℤ)) (low : depth config.tree ≤ trees.depth)
-    (valid : All IsValidChannel ps) (one : IsTrue (one_picture (image_list ps).channels)) (can : IsTrue (can_group passes []))
+    (valid : All IsValidChannel ps) (files : tables_for (image_list ps).channels ≡ OfDeltasToo) (one : IsTrue (one_picture (image_list ps).channels)) (can : IsTrue (can_group passes []))
     (c : AreSections d w config (image_list ps) group_dim trees passes first p (section_of layout sections) image) where
   abbrev given : ChannelList
   given = image_list ps
@@ -73,13 +73,13 @@ module _ {D : Type 0} (d : Meaning D) (w : Width) (config : Config D) (ps : List
   list = c.ready.coded.list
 
   opened : opening_at (Some config) first given p ≡ Ok (record { value = head; position = c.global.samples_at })
-  opened = opens true c.ready.transforms c.ready.accepted.spelled first p c.global.samples_at c.global.header given c.ready.coded c.ready.accepted.come c.ready.count config
+  opened = opens true c.ready.transforms c.ready.accepted.spelled first p c.global.samples_at c.global.header given c.ready.coded files c.ready.accepted.come c.ready.count config
 
   start : IsStartAt d (Some config) first given p head config c.global.samples_at
   start = record { tree_at = c.global.samples_at; header = opened; tree = (refl, refl) }
 
   header_within : c.global.samples_at ≤ 8 * length first
-  header_within = header_ends first OfColours p (shared_header c.ready.transforms) c.global.samples_at c.global.header
+  header_within = header_ends first OfDeltasToo p (shared_header c.ready.transforms) c.global.samples_at c.global.header
 
   abbrev Stands : Type 0
   Stands = HeaderStands d w (Some config) given group_dim bit_depth first p passes (section_of layout sections)
@@ -134,7 +134,7 @@ module _ {D : Type 0} (d : Meaning D) (w : Width) (config : Config D) (ps : List
 
   -- with a header that uses the frame's tree, or has one of its own
   group_by : (part : SectionPart) (g : IsOne part) (shared : Bool) (tree_at samples_at end : ℕ) (own : Config D) →
-      header.Stands (c.groups part g.0 g.1).0 0 (plain_header shared []) tree_at →
+      file_header.Stands (c.groups part g.0 g.1).0 0 (plain_header shared []) tree_at →
       MatchBool shared ((◌≡◌ {A = Option (Config D)} (Some config) (Some own)) × (samples_at ≡ tree_at)) (IsTreeAt d (c.groups part g.0 g.1).0 (node_limit (channels_in x passes part)) depth_limit tree_at own samples_at) →
       depth own.tree ≤ trees.depth →
       IsCodedWhole d w (part_by_tree own (channels_in x passes part) (c.groups part g.0 g.1).1) (c.groups part g.0 g.1).0 own.decoder samples_at (grids_in (pieces_of x passes part) c.ready.samples) end → GroupCodes part g
@@ -156,7 +156,7 @@ module _ {D : Type 0} (d : Meaning D) (w : Width) (config : Config D) (ps : List
                 samples_at = samples_at;
                 start = record {
                   tree_at = tree_at;
-                  header = opens shared [] (All-nil IsSpelled) bytes 0 tree_at stands given_list alone refl (omega (arith, few, most)) config;
+                  header = opens_any shared bytes 0 tree_at stands given_list alone refl (omega (arith, few, most)) config;
                   tree = tree;
                 };
               };
@@ -310,5 +310,5 @@ module _ {D : Type 0} (d : Meaning D) (w : Width) (config : Config D) (ps : List
   )
 
 pub sections_still : {D : Type 0} (d : Meaning D) (w : Width) → SectionsAreStill d w
-sections_still d w config ps group_dim bit_depth passes layout first p sections trees image low valid one can c before =
-    still d w config ps group_dim bit_depth passes layout first p sections trees image low valid one can c before
+sections_still d w config ps group_dim bit_depth passes layout first p sections trees image low valid files one can c before =
+    still d w config ps group_dim bit_depth passes layout first p sections trees image low valid files one can c before

@@ -8,6 +8,7 @@ use Rattle.jxlm_bits.specs.declared.bits.U32Spec.TheVariants.{Const, Offset}
 use Rattle.jxlm_header.specs.Header.{Header, header_by}
 use Rattle.jxlm_predictor.specs.declared.predictor.Predictor.{Predictor}
 use Rattle.jxlm_transform.specs.Transforms.{Transform, palette_by, rct, squeeze_params, transform_by}
+use Rattle.jxlm_transform.proofs.TransformLaws.{rct_there}
 use Rattle.jxlm_transform.specs.declared.param.PaletteTables.{PaletteTables}
 use Rattle.jxlm_transform.specs.declared.transform.Palette.{Palette}
 use Rattle.jxlm_transform.specs.declared.transform.Rct.{Rct}
@@ -81,7 +82,7 @@ module _ (bytes : List ℕ) where
   transform_ends : (tables : PaletteTables) (weights : WpHeader) (p : ℕ) (t : Transform) (q : ℕ) → (transform_by tables weights).Stands bytes p t q → Within q
   transform_ends tables weights p t q s =
       let (kind, m, numbered, chosen) = s in
-      by_test (Within q) _ _ (kind == 0) (λ h. let le = rct_ends m h.0 h.1 h.2 in let e = h.3.1 in omega (arith, le, e))
+      by_test (Within q) _ _ (kind == 0) (λ h. let le = rct_ends m h.0 h.1 (rct_there tables bytes m h.0 h.1 h.2) in let e = h.3.1 in omega (arith, le, e))
       (by_test (Within q) _ _ (kind == 1) (λ h. let le = palette_ends tables weights m h.0 h.1 h.2 in let e = h.3.1 in omega (arith, le, e))
       (by_test (Within q) _ _ (kind == 2) (λ h.
       let (count, n, counted, listed) = h.2 in

@@ -12,7 +12,7 @@ use Rattle.jxlm_groups.specs.Pieces.{part_channels, pieces}
 use Rattle.jxlm_groups.specs.declared.part.SectionPart.{SectionPart}
 use Rattle.jxlm_groups.specs.declared.part.SectionPart.TheVariants as parts
 use Rattle.jxlm_groups.specs.declared.pass.Pass.{Pass}
-use Rattle.jxlm_header.specs.Header.{header}
+use Rattle.jxlm_header.specs.Header.{file_header}
 use Rattle.jxlm_header.specs.Opening.{depth_limit, node_limit}
 use Rattle.jxlm_samples.specs.Coded.{IsCodedWhole}
 use Rattle.jxlm_samples.specs.Part.{Part, cell_count}
@@ -47,7 +47,7 @@ module _ {D : Type 0} (d : Meaning D) (w : Width) where
   -- channels, coded whole by that tree.
   pub record CodesByOwnTree (deepest : ℕ) (channels : List Channel) (stream : ℕ) (bytes : List ℕ) (grids : List (Grid ℤ)) : Type 0 where
     pub tree_at : ℕ
-    pub header : header.Stands bytes 0 own_header tree_at
+    pub header : file_header.Stands bytes 0 own_header tree_at
     pub own : Config D
     pub samples_at : ℕ
     pub tree : IsTreeAt d bytes (node_limit channels) depth_limit tree_at own samples_at
@@ -59,7 +59,7 @@ module _ {D : Type 0} (d : Meaning D) (w : Width) (config : Config D) where
   -- From bit p on a header with these transforms is in the bytes, and after it samples of these channels are coded whole.
   pub record CodesBehindHeader (ts : List Transform) (channels : List Channel) (stream : ℕ) (bytes : List ℕ) (p : ℕ) (grids : List (Grid ℤ)) : Type 0 where
     pub samples_at : ℕ
-    pub header : header.Stands bytes p (shared_header ts) samples_at
+    pub header : file_header.Stands bytes p (shared_header ts) samples_at
     pub end : ℕ
     pub coded : IsCodedWhole d w (part_by_tree config channels stream) bytes config.decoder samples_at grids end
 

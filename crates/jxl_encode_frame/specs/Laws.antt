@@ -9,10 +9,11 @@ use Rattle.jxlm_groups.specs.Pieces.{part_channels}
 use Rattle.jxlm_groups.specs.declared.part.SectionPart.{SectionPart}
 use Rattle.jxlm_groups.specs.declared.pass.Pass.{Pass}
 use Rattle.jxlm_samples.specs.Part.{cell_count}
-use Rattle.jxlm_transform.specs.Channels.{image_list}
+use Rattle.jxlm_transform.specs.Channels.{image_list, tables_for}
 use Rattle.jxlm_transform.specs.ChannelSteps.{CodedList}
 use Rattle.jxlm_transform.specs.Params.{IsSide, IsValidChannel}
 use Rattle.jxlm_transform.specs.declared.param.ModularChannelParams.{ModularChannelParams}
+use Rattle.jxlm_transform.specs.declared.param.PaletteTables.TheVariants.{OfDeltasToo}
 use Rattle.jxlm_transform.specs.Transforms.{Transform}
 use Rattle.jxlm_tree.specs.Tree.{Config, depth}
 use Rattle.jxlm_section_split.specs.CutPicture.{one_pass}
@@ -43,12 +44,13 @@ OneSectionIsAll {D} d = (w : Width) (config : Config D) (given : List ModularCha
     (section_of : SectionPart → Option (List ℕ × ℕ)) (image : List (Grid ℤ)) →
     IsOneSection d w config (image_list given) group_dim bytes p image → AreSections d w config (image_list given) group_dim trees passes bytes p section_of image
 
--- The sections of an image are a frame of it, as the decoder defines it: its channels are of one picture, the passes can cut it,
--- and the tree that they share is not too deep. Groups' own trees are within the limits.
+-- The sections of an image are a frame of it, as the decoder defines it: its channels are of one picture and have the tables of
+-- palettes of files, the passes can cut it, and the tree that they share is not too deep. Groups' own trees are within the limits.
 abbrev pub SectionsAreStill : {D : Type 0} → Meaning D → Width → Type 0
 SectionsAreStill {D} d w = (config : Config D) (given : List ModularChannelParams) (group_dim bit_depth : ℕ) (passes : List Pass) (layout : Layout)
     (first : List ℕ) (p : ℕ) (sections : List (List ℕ)) (trees : TreeLimits) (image : List (Grid ℤ)) → depth config.tree ≤ trees.depth →
-    All IsValidChannel given → IsTrue (one_picture (image_list given).channels) → IsTrue (can_group passes []) →
+    All IsValidChannel given → tables_for (image_list given).channels ≡ OfDeltasToo → IsTrue (one_picture (image_list given).channels) →
+    IsTrue (can_group passes []) →
     AreSections d w config (image_list given) group_dim trees passes first p (section_of layout sections) image → (before : ℕ) → (after : ℕ) ×
     IsStill d w (Some config) (image_list given) group_dim bit_depth first p passes (section_of layout sections) trees image before after
 

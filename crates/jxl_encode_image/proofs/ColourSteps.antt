@@ -14,15 +14,16 @@ use Rattle.jxlm_encode_transform.specs.Redo.{IsNoPalette, UndoesNoPalette}
 use Rattle.jxlm_encode_transform.proofs.NoPalettes.{no_palettes}
 use Rattle.jxlm_transform.specs.ChannelSteps.{RctStep, Step}
 use Rattle.jxlm_transform.specs.Lists.{layout_of, list_of}
-use Rattle.jxlm_transform.specs.Transforms.{IsRct, OfRct}
+use Rattle.jxlm_transform.specs.Transforms.{OfRct}
 use Rattle.jxlm_transform.specs.declared.channels.ModularChannels.{ModularChannels}
 use Rattle.jxlm_transform.specs.declared.transform.Rct.{Rct}
+use Rattle.jxl_encode_image.specs.Preparations.{IsFileRct}
 use Rattle.jxl_encode_image.specs.Inner.Placing.{GoesOnTo, IsPlacedFor, LieAlone}
 use Rattle.jxl_encode_image.specs.declared.transform.ImageTransform.{ImageTransform}
 use Rattle.jxl_encode_image.specs.declared.transform.ImageTransform.TheVariants as images
 use Rattle.jxl_encode_image.proofs.Steps.{by_step, goes_next, lie_next, step_has, step_leaves}
 
-module _ {S : Type 0} (t : Rct) (spelled : IsRct t) (old : ModularChannels) (store : List (Grid S)) (alone : LieAlone old store) (p : PlacedChannels) (placed : IsPlacedFor (OfRct t ∷ []) old p) where
+module _ {S : Type 0} (t : Rct) (spelled : IsFileRct t) (old : ModularChannels) (store : List (Grid S)) (alone : LieAlone old store) (p : PlacedChannels) (placed : IsPlacedFor (OfRct t ∷ []) old p) where
   abbrev u : ImageTransform
   u = images.Colour t
 

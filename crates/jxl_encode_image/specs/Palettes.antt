@@ -1,5 +1,5 @@
 -- A palette of channels: its table of colours and its indices (ISO/IEC 18181-1, Modular: palette).
-use Rattle.std.specs.Prelude.{◌≡◌, ℕ, ◌≤◌, ◌==◌, if◌then◌else◌, ℤ, List, length, map, false, None}
+use Rattle.std.specs.Prelude.{◌≡◌, ℕ, ◌≤◌, ◌==◌, if◌then◌else◌, ℤ, List, length, map, false, true, None}
 use Rattle.std.specs.Int.{Width}
 use Rattle.std.specs.List.{All}
 use Rattle.jxlm_base.specs.Grid.{Grid, meanings}
@@ -14,9 +14,9 @@ use Rattle.jxlm_inverse.specs.Palette.{IsPaletteOf}
 abbrev pub plain_predictor : ℕ → Predictor
 plain_predictor channels = if channels == 1 then West else Zero
 
--- a palette of channels from begin on, without differences, which clamps no indices
+-- a palette of channels from begin on, without differences, as files have it: it clamps no indices
 abbrev pub plain_palette : ℕ → ℕ → ℕ → Palette
-plain_palette begin channels colours = record { begin_c = begin; num_c = channels; nb_colours = colours; nb_deltas = 0; d_pred = plain_predictor channels; clamps_indices = false; wp_header = None }
+plain_palette begin channels colours = record { begin_c = begin; num_c = channels; nb_colours = colours; nb_deltas = 0; d_pred = plain_predictor channels; clamps_indices = false; implicit_rgb = true; wp_header = None }
 
 -- This palette, of one to four channels from begin on and at most 70911 colours, makes these channels of the table and the
 -- indices, whatever the bit depth; the table has a column for each colour, and a row for each channel.

@@ -8,8 +8,9 @@ use Rattle.jxlm_chain.specs.Chain.{Chain}
 use Rattle.jxlm_header.specs.Header.{Header}
 use Rattle.jxlm_transform.specs.Channels.{ChannelList}
 use Rattle.jxlm_transform.specs.ChannelSteps.{CodedList, coded_list}
-use Rattle.jxlm_transform.specs.Transforms.{IsPalette, IsRct, IsSqueeze, OfPalette, OfRct, OfSqueeze, Transform}
+use Rattle.jxlm_transform.specs.Transforms.{IsPalette, IsSqueeze, OfPalette, OfRct, OfSqueeze, Transform}
 use Rattle.jxlm_transform.specs.declared.transform.Palette.{Palette}
+use Rattle.jxlm_transform.specs.declared.transform.Rct.{Rct}
 use Rattle.jxlm_weighted.specs.WeightsHeader.{default_weights}
 use Rattle.jxl_encode_image.specs.Palettes.{plain_palette}
 use Rattle.jxl_encode_image.specs.declared.transform.ImageTransform.{ImageTransform}
@@ -23,7 +24,12 @@ shared_header ts = record { use_global_tree = true; wp_params = default_weights;
 abbrev pub own_header : Header
 own_header = record { use_global_tree = false; wp_params = default_weights; transform = [] }
 
--- a palette without differences that a header can spell; by the tables of deltas it is the same
+-- a colour transform that the header of a file can spell
+pub record IsFileRct (t : Rct) : Type 0 where
+  pub begin : t.begin_c ≤ 9287
+  pub kind : t.rct_type ≤ 41
+
+-- a palette without differences that the header of a file can spell
 pub record IsPlainPalette (t : Palette) : Type 0 where
   pub is : t ≡ plain_palette t.begin_c t.num_c t.nb_colours
   pub ranges : IsPalette t
@@ -31,7 +37,7 @@ pub record IsPlainPalette (t : Palette) : Type 0 where
 
 -- a transform that an encoder writes: a colour transform, a squeeze, or such a palette
 abbrev pub IsSpelled : Transform → Type 0
-IsSpelled (OfRct t) = IsRct t
+IsSpelled (OfRct t) = IsFileRct t
 IsSpelled (OfPalette t) = IsPlainPalette t
 IsSpelled (OfSqueeze steps) = IsSqueeze steps
 

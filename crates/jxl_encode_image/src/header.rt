@@ -5,11 +5,10 @@ ghost use Rattle.std.specs.List.{All};
 ghost use Rattle.jxlm_bits.specs.Grammar.{repeated, u32 as the_u32};
 ghost use Rattle.jxlm_bits.specs.declared.bits.U32Spec.TheVariants.{Const, Offset};
 ghost use Rattle.jxlm_bit_writer.specs.Writes.{Spells};
-ghost use Rattle.jxlm_header.specs.Header.{header};
-ghost use Rattle.jxlm_transform.specs.Transforms.{IsRct, OfPalette, OfRct, transform as the_transform};
-ghost use Rattle.jxlm_weighted.specs.WeightsHeader.{default_weights};
-ghost use Rattle.jxl_encode_image.specs.Preparations.{IsPlainPalette, IsSpelled, image_transforms, shared_header, transform_listed};
-ghost use Rattle.jxl_encode_image.specs.Inner.Lists.{transform_list};
+ghost use Rattle.jxlm_header.specs.Header.{file_header};
+ghost use Rattle.jxlm_transform.specs.Transforms.{OfPalette, OfRct};
+ghost use Rattle.jxl_encode_image.specs.Preparations.{IsFileRct, IsPlainPalette, IsSpelled, image_transforms, shared_header, transform_listed};
+ghost use Rattle.jxl_encode_image.specs.Inner.Lists.{file_transform, transform_list};
 
 use crate::transform::ImageTransform;
 use jxlm_bit_writer::spelled::{write_flag, write_number, write_u32};
@@ -35,10 +34,10 @@ fn write_count(bits: &mut BitWriter, count: u32) -> Result<(), AllocError>
     Ok(())
 }
 
-// Adds a colour transform that a header can spell.
+// Adds a colour transform that the header of a file can spell.
 fn write_colour(bits: &mut BitWriter, colour: Rct) -> Result<(), AllocError>
-    requires { IsRct colour }
-    ensures { IfOk result (λ _. Spells bits.old bits.new (the_transform default_weights) (OfRct colour)) }
+    requires { IsFileRct colour }
+    ensures { IfOk result (λ _. Spells bits.old bits.new file_transform (OfRct colour)) }
 {
     write_number(bits, 0, 2)?;
     write_u32(
@@ -63,7 +62,7 @@ fn write_colour(bits: &mut BitWriter, colour: Rct) -> Result<(), AllocError>
 // Adds a palette without differences.
 fn write_palette(bits: &mut BitWriter, palette: Palette) -> Result<(), AllocError>
     requires { IsPlainPalette palette }
-    ensures { IfOk result (λ _. Spells bits.old bits.new (the_transform default_weights) (OfPalette palette)) }
+    ensures { IfOk result (λ _. Spells bits.old bits.new file_transform (OfPalette palette)) }
 {
     write_number(bits, 1, 2)?;
     write_u32(
@@ -105,8 +104,7 @@ fn write_palette(bits: &mut BitWriter, palette: Palette) -> Result<(), AllocErro
 // Adds a transform.
 fn write_transform(bits: &mut BitWriter, transform: ImageTransform) -> Result<(), AllocError>
     requires { IsSpelled (transform_listed transform) }
-    ensures { IfOk result (λ _. Spells bits.old bits.new (the_transform default_weights)
-        (transform_listed transform)) }
+    ensures { IfOk result (λ _. Spells bits.old bits.new file_transform (transform_listed transform)) }
 {
     match transform {
         ImageTransform::Colour(colour) => {
@@ -124,7 +122,7 @@ fn write_transform(bits: &mut BitWriter, transform: ImageTransform) -> Result<()
 fn write_each(bits: &mut BitWriter, transforms: &[ImageTransform]) -> Result<(), AllocError>
     requires { All IsSpelled (image_transforms transforms.now) }
     ensures { IfOk result (λ _. Spells bits.old bits.new
-        (repeated (length transforms.now) (the_transform default_weights)) (image_transforms transforms.now)) }
+        (repeated (length transforms.now) file_transform) (image_transforms transforms.now)) }
 {
     for transform in transforms {
         write_transform(bits, *transform)?;
@@ -151,7 +149,8 @@ pub fn write_shared_header(
 ) -> Result<(), AllocError>
     requires few { length transforms.now ≤ 273 }
     requires spelled { All IsSpelled (image_transforms transforms.now) }
-    ensures { IfOk result (λ _. Spells bits.old bits.new header (shared_header (image_transforms transforms.now))) }
+    ensures { IfOk result (λ _. Spells bits.old bits.new file_header
+        (shared_header (image_transforms transforms.now))) }
 {
     write_flag(bits, true)?;
     write_flag(bits, true)?;

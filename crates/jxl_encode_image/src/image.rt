@@ -13,8 +13,8 @@ ghost use Rattle.jxlm_encode_transform.specs.Redo.{UndoesNoPalette};
 ghost use Rattle.jxlm_transform.specs.Channels.{AreGridsOf, HasItsMeta, image_list};
 ghost use Rattle.jxlm_transform.specs.Lists.{list_of};
 ghost use Rattle.jxlm_transform.specs.Params.{IsGroupDim, IsValidChannel};
-ghost use Rattle.jxlm_transform.specs.Transforms.{IsRct, transform_of};
-ghost use Rattle.jxl_encode_image.specs.Preparations.{IsSpelled, image_transforms, transform_listed};
+ghost use Rattle.jxlm_transform.specs.Transforms.{transform_of};
+ghost use Rattle.jxl_encode_image.specs.Preparations.{IsFileRct, IsSpelled, image_transforms, transform_listed};
 ghost use Rattle.jxl_encode_image.specs.Images.{IsCodedImage, IsPartIn, LieCoded};
 ghost use Rattle.jxl_encode_image.specs.Inner.Placing.{GoesOnTo, IsPlacedFor, LieAlone};
 
@@ -132,14 +132,14 @@ fn run_in<S: Sample>(
     Ok(store)
 }
 
-// The colour transform of this kind of the first three channels that are no meta channels, if it suits them, and a header can
-// spell it after so many transforms.
+// The colour transform of this kind of the first three channels that are no meta channels, if it suits them, and the header of
+// a file can spell it after so many transforms.
 fn colour_for(channels: &ModularChannels, many: usize, kind: u32) -> Option<Rct>
-    ensures spelled { IfSome result (λ t. IsRct t) }
+    ensures spelled { IfSome result (λ t. IsFileRct t) }
     ensures few { IfSome result (λ _. many < 273) }
 {
     let begin = channels.nb_meta_channels;
-    if kind > 73 || begin > LAST_BEGIN || many >= MOST_TRANSFORMS {
+    if kind > 41 || begin > LAST_BEGIN || many >= MOST_TRANSFORMS {
         return None;
     }
     let colour = Rct {

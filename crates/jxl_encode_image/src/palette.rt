@@ -50,6 +50,7 @@ fn plain_palette(begin_c: u32, num_c: u32, nb_colours: u32) -> Palette
         nb_deltas: 0,
         d_pred: plain_predictor(num_c),
         clamps_indices: false,
+        implicit_rgb: true,
         wp_header: None,
     }
 }

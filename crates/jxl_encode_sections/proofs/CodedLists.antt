@@ -11,7 +11,7 @@ use Rattle.jxlm_bits.specs.ErrorKind.{BadPalette, BadRct, ErrorKind}
 use Rattle.jxlm_base.specs.Grid.{Grid}
 use Rattle.jxlm_groups.specs.Cutting.{can_cut, fits_group, global_count, has_cells}
 use Rattle.jxlm_transform.specs.Channels.{Channel, ChannelList, image_list}
-use Rattle.jxlm_transform.specs.ChannelSteps.{CodedList, PaletteStep, RctStep, Step, coded_list, has_range, keeps_meta, list_after_all, one_size, range, steps_of, table_channel}
+use Rattle.jxlm_transform.specs.ChannelSteps.{CodedList, PaletteStep, RctStep, Step, coded_list, has_range, keeps_meta, list_after_all, one_size, range, steps_of, table_channel, table_of}
 use Rattle.jxlm_transform.specs.Params.{IsGroupDim, IsValidChannel}
 use Rattle.jxlm_transform.specs.Transforms.{Transform}
 use Rattle.jxlm_transform.specs.declared.channels.ModularChannels.{ModularChannels}
@@ -53,7 +53,7 @@ abbrev meta_after : Palette → ChannelList → ℕ
 meta_after t l = if nat_lt t.begin_c l.nb_meta then l.nb_meta + 2 - t.num_c else l.nb_meta + 1
 
 abbrev after_palette : Palette → ChannelList → ChannelList
-after_palette t l = record { channels = table_channel t.nb_colours t.num_c ∷ (take (t.begin_c + 1) l.channels ++ drop (t.begin_c + t.num_c) l.channels); nb_meta = meta_after t l }
+after_palette t l = record { channels = table_of t l.channels ∷ (take (t.begin_c + 1) l.channels ++ drop (t.begin_c + t.num_c) l.channels); nb_meta = meta_after t l }
 
 module _ (P : Channel → Type 0) where
   -- what holds of each channel that is no meta channel
@@ -73,7 +73,7 @@ module _ (P : Channel → Type 0) where
     back = drop (t.begin_c + t.num_c) cs
 
     abbrev m : ChannelList
-    m = record { channels = table_channel t.nb_colours t.num_c ∷ (front ++ back); nb_meta = meta }
+    m = record { channels = table_of t cs ∷ (front ++ back); nb_meta = meta }
 
     front_long : length front ≡ t.begin_c + 1
     front_long = let a = length-take (t.begin_c + 1) cs in omega (arith, a, there, some)

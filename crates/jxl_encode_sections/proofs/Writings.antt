@@ -6,7 +6,7 @@ use Rattle.jxlm_bit_writer.specs.declared.token.Token.{Token}
 use Rattle.jxlm_bit_writer.proofs.BitLists.{filled_stands}
 use Rattle.jxlm_bit_writer.proofs.WriteLaws.{after, becomes}
 use Rattle.jxlm_encode_write.specs.declared.tree.EncodeNode.{EncodeNode}
-use Rattle.jxlm_header.specs.Header.{header}
+use Rattle.jxlm_header.specs.Header.{file_header}
 use Rattle.jxlm_transform.specs.Transforms.{Transform}
 use Rattle.jxl_codestream.specs.Starts.{section_start}
 use Rattle.jxl_coding.specs.Symbols.{Codes}
@@ -16,7 +16,7 @@ use Rattle.jxl_encode_tree.specs.Trees.{IsWrittenTree}
 use Rattle.jxl_encode_sections.specs.Sections.{AreBehindHeader, IsFirstSection}
 
 -- a header, and samples after it
-pub part_written : (codes : Codes) (ts : List Transform) (tokens : List Token) (a b c : List ℕ) → Spells a b header (shared_header ts) → Adds b c (AreCoded codes tokens) → Adds a c (AreBehindHeader codes ts tokens)
+pub part_written : (codes : Codes) (ts : List Transform) (tokens : List Token) (a b c : List ℕ) → Spells a b file_header (shared_header ts) → Adds b c (AreCoded codes tokens) → Adds a c (AreBehindHeader codes ts tokens)
 part_written codes ts tokens a b c s t = becomes (after s t) (λ bytes p q h. record { samples_at = h.0; header = h.1; coded = h.2 })
 
 -- the start of the first section, the tree, and the global part

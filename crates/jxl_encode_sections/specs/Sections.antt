@@ -5,7 +5,7 @@ use Rattle.std.specs.Int.{Width}
 use Rattle.jxlm_base.specs.Grid.{Grid}
 use Rattle.jxlm_bit_writer.specs.declared.token.Token.{Token}
 use Rattle.jxlm_encode_write.specs.declared.tree.EncodeNode.{EncodeNode}
-use Rattle.jxlm_header.specs.Header.{header}
+use Rattle.jxlm_header.specs.Header.{file_header}
 use Rattle.jxlm_section_split.specs.CutPicture.{one_pass}
 use Rattle.jxlm_transform.specs.Channels.{ChannelList}
 use Rattle.jxlm_transform.specs.Transforms.{Transform}
@@ -27,7 +27,7 @@ use Rattle.jxl_lossless.specs.Sections.{section_of}
 -- decoder of these codes.
 pub record AreBehindHeader (codes : Codes) (ts : List Transform) (tokens : List Token) (bytes : List ℕ) (p q : ℕ) : Type 0 where
   pub samples_at : ℕ
-  pub header : header.Stands bytes p (shared_header ts) samples_at
+  pub header : file_header.Stands bytes p (shared_header ts) samples_at
   pub coded : AreCoded codes tokens bytes samples_at q
 
 -- From bit p up to bit q are the default factors, the tree of these nodes with these codes at its leaves, and behind a header the

@@ -5,7 +5,7 @@ use Rattle.std.proofs.lemmas.Bool.{cases_lt, ltb-false}
 use Rattle.std.proofs.lemmas.List.{get_or-take, get_or-drop, length-take, length-drop, length-append, length-map, get_or_append_left, get_or-append_right}
 use Rattle.jxlm_bits.specs.ErrorKind.{BadRct, BadPalette, BadSqueeze}
 use Rattle.jxlm_transform.specs.Channels.{Channel, ChannelList}
-use Rattle.jxlm_transform.specs.ChannelSteps.{Step, RctStep, PaletteStep, SqueezeStep, average_channel, has_range, keeps_meta, list_after, list_after_all, one_size, range, residual_channel, table_channel}
+use Rattle.jxlm_transform.specs.ChannelSteps.{Step, RctStep, PaletteStep, SqueezeStep, average_channel, has_range, keeps_meta, list_after, list_after_all, one_size, range, residual_channel, table_of}
 use Rattle.jxlm_transform.specs.declared.transform.Palette.{Palette}
 use Rattle.jxlm_transform.specs.declared.transform.SqueezeParams.{SqueezeParams}
 use Rattle.std.proofs.lemmas.List.Elements.{All-append, All-head, All-map, All-tail, All-weaker}
@@ -67,7 +67,7 @@ module _ (w h : ℕ) where
   IsPictured l = Beyond (IsOfPicture w h) l.nb_meta l.channels
 
   module _ (t : Palette) (cs : List Channel) (nb : ℕ) (some : 1 ≤ t.num_c) (there : t.begin_c + t.num_c ≤ length cs) (keeps : keeps_meta t.begin_c t.num_c nb ≡ true) (each : Beyond (IsOfPicture w h) nb cs) where
-    indexed : (meta : Bool) → nat_lt t.begin_c nb ≡ meta → Beyond (IsOfPicture w h) (if meta then nb + 2 - t.num_c else nb + 1) (table_channel t.nb_colours t.num_c ∷ (take (t.begin_c + 1) cs ++ drop (t.begin_c + t.num_c) cs))
+    indexed : (meta : Bool) → nat_lt t.begin_c nb ≡ meta → Beyond (IsOfPicture w h) (if meta then nb + 2 - t.num_c else nb + 1) (table_of t cs ∷ (take (t.begin_c + 1) cs ++ drop (t.begin_c + t.num_c) cs))
     indexed true e =
         let fits : t.begin_c + t.num_c ≤ nb = leb-true (t.begin_c + t.num_c) nb (either_of (nat_lt t.begin_c nb) (nat_le (t.begin_c + t.num_c) nb) keeps e) in
         let long = length-take (t.begin_c + 1) cs in
@@ -76,11 +76,11 @@ module _ (w h : ℕ) where
         beyond_append P (nb + 1 - t.num_c) (take (t.begin_c + 1) cs) (drop (t.begin_c + t.num_c) cs) (beyond_none P (nb + 1 - t.num_c) (take (t.begin_c + 1) cs) (omega (arith, long, fits)))
         (beyond_more P (nb - (t.begin_c + t.num_c)) (nb + 1 - t.num_c - length (take (t.begin_c + 1) cs)) (drop (t.begin_c + t.num_c) cs) (omega (arith, long, fits, there, some)) (beyond_drop P nb (t.begin_c + t.num_c) cs each)) in
         let same : nb + 1 - t.num_c + 1 ≡ nb + 2 - t.num_c = omega (arith, fits, some) in
-        subst (λ n. Beyond P n (table_channel t.nb_colours t.num_c ∷ (take (t.begin_c + 1) cs ++ drop (t.begin_c + t.num_c) cs))) same (beyond_cons P (nb + 1 - t.num_c) (table_channel t.nb_colours t.num_c) (take (t.begin_c + 1) cs ++ drop (t.begin_c + t.num_c) cs) rest)
+        subst (λ n. Beyond P n (table_of t cs ∷ (take (t.begin_c + 1) cs ++ drop (t.begin_c + t.num_c) cs))) same (beyond_cons P (nb + 1 - t.num_c) (table_of t cs) (take (t.begin_c + 1) cs ++ drop (t.begin_c + t.num_c) cs) rest)
     indexed false e =
         let low = ltb-false t.begin_c nb e in
         let P : Channel → Type 0 = IsOfPicture w h in
-        beyond_cons P nb (table_channel t.nb_colours t.num_c) (take (t.begin_c + 1) cs ++ drop (t.begin_c + t.num_c) cs)
+        beyond_cons P nb (table_of t cs) (take (t.begin_c + 1) cs ++ drop (t.begin_c + t.num_c) cs)
         (beyond_append P nb (take (t.begin_c + 1) cs) (drop (t.begin_c + t.num_c) cs) (beyond_take P nb (t.begin_c + 1) cs each)
         (beyond_more P (nb - (t.begin_c + t.num_c)) (nb - length (take (t.begin_c + 1) cs)) (drop (t.begin_c + t.num_c) cs) (omega (arith, low)) (beyond_drop P nb (t.begin_c + t.num_c) cs each)))
 

@@ -5,7 +5,7 @@ use Rattle.jxlm_bits.specs.Grammar.{Grammar, flag, u32, give, repeated, ◌>>=�
 use Rattle.jxlm_bits.specs.declared.bits.U32Spec.TheVariants.{Const, Offset}
 use Rattle.jxlm_transform.specs.Transforms.{Transform, IsTransform, KeepsWeights, transform_by, transform_of}
 use Rattle.jxlm_transform.specs.declared.param.PaletteTables.{PaletteTables}
-use Rattle.jxlm_transform.specs.declared.param.PaletteTables.TheVariants.{OfColours}
+use Rattle.jxlm_transform.specs.declared.param.PaletteTables.TheVariants.{OfColours, OfDeltasToo}
 use Rattle.jxlm_weighted.specs.SelfCorrecting.{IsHeader}
 use Rattle.jxlm_weighted.specs.WeightsHeader.{wp_header}
 use Rattle.jxlm_weighted.specs.declared.weights.WpHeader.{WpHeader}
@@ -29,6 +29,10 @@ header_by tables = do
 -- by tables of colours alone
 abbrev pub header : Grammar Header
 header = header_by OfColours
+
+-- by tables of deltas too, as in a file
+abbrev pub file_header : Grammar Header
+file_header = header_by OfDeltasToo
 
 -- a header, seen without its memory
 abbrev pub header_of : ModularHeader → Header

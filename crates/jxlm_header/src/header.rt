@@ -115,7 +115,8 @@ impl ModularHeader {
     /// # Errors
     ///
     /// `UnexpectedEof` if the input is truncated; `InvalidEnum` for a transform of kind 3, and for the
-    /// number of a predictor that is none. The reader is then after the last field that was read whole.
+    /// number of a predictor that is none; `InvalidRctParams` for a colour transform of a kind above 41
+    /// with tables of deltas. The reader is then after the last field that was read whole.
     /// `Buffer` if it is out of memory, at any transform; no error of a decoder comes.
     pub fn parse_by(
         alloc: Global,

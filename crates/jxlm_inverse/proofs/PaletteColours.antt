@@ -11,7 +11,7 @@ use Rattle.std.proofs.lemmas.List.{get_or_past}
 use Rattle.std.proofs.lemmas.Int.{to_z-of_z, fits_signed_from_abs, fits_signed_mul, unsigned_abs-mul, ints}
 use Rattle.jxlm_base.specs.Grid.{Grid, at}
 use Rattle.jxlm_transform.specs.declared.transform.Palette.{Palette}
-use Rattle.jxlm_inverse.specs.Palette.{colour_index, colour_of, deltas, listed_difference, implicit_colour}
+use Rattle.jxlm_inverse.specs.Palette.{colour_after, colour_index, colour_of, deltas, listed_difference, implicit_colour}
 
 -- a number below a power has no digit there
 pub no_digit : (b c n j : ℕ) → 0 < b → n ≤ c → j < b ^ n → j / b ^ c % b ≡ 0
@@ -123,9 +123,9 @@ module _ (depth : ℕ) (t : Palette) (table : Grid ℤ) (c : ℕ) where
   colour_listed (pos i) n h e l = let same : n ≡ i = omega arith in ap (λ j. at table j c) same ∙ grind (arith, nat_tests)
   colour_listed (negsuc i) n h e l = absurd (true_is_not_false h)
 
-  pub colour_implicit : (index : ℤ) (n : ℕ) → lt_z index (pos 0) ≡ false → n ≡ unsigned_abs index → t.nb_colours ≤ n → pos (implicit_colour depth (n - t.nb_colours) c) ≡ colour_of depth t table index c
+  pub colour_implicit : (index : ℤ) (n : ℕ) → lt_z index (pos 0) ≡ false → n ≡ unsigned_abs index → t.nb_colours ≤ n → pos (colour_after depth t (n - t.nb_colours) c) ≡ colour_of depth t table index c
   unfolding colour_of
-  colour_implicit (pos i) n h e l = let same : n ≡ i = omega arith in ap (λ j. pos (implicit_colour depth (j - t.nb_colours) c)) same ∙ grind (arith, nat_tests)
+  colour_implicit (pos i) n h e l = let same : n ≡ i = omega arith in ap (λ j. pos (colour_after depth t (j - t.nb_colours) c)) same ∙ grind (arith, nat_tests)
   colour_implicit (negsuc i) n h e l = absurd (true_is_not_false h)
 
 -- ---- the index whose colour is taken

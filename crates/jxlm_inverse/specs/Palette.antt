@@ -1,5 +1,5 @@
 -- Palettes (ISO/IEC 18181-1, Modular: inverse palette, its implicit colours and its table of deltas).
-use Rattle.std.specs.Prelude.{◌≡◌, ◌⊎◌, ℕ, zero, suc, ◌+◌, ◌-◌, ◌*◌, ◌/◌, ◌%◌, ◌^◌, ◌<◌, List, [], ◌∷◌, ◌++◌, length, take, map, get_or, nat_lt, min, ◌==◌, ◌&&◌, not, if◌then◌else◌, ℤ, pos, negsuc, ◌+ℤ◌, ◌-ℤ◌, ◌*ℤ◌, neg_ℤ, int_lt}
+use Rattle.std.specs.Prelude.{◌≡◌, ◌⊎◌, ℕ, zero, suc, ◌+◌, ◌-◌, ◌*◌, ◌/◌, ◌%◌, ◌^◌, ◌<◌, List, [], ◌∷◌, ◌++◌, length, take, map, get_or, nat_le, nat_lt, min, ◌==◌, ◌&&◌, not, if◌then◌else◌, ℤ, pos, negsuc, ◌+ℤ◌, ◌-ℤ◌, ◌*ℤ◌, neg_ℤ, int_lt}
 use Rattle.std.specs.List.{All}
 use Rattle.std.specs.Int.{Width, int_wrap}
 use Rattle.jxlm_base.specs.Grid.{Grid, grid, at, place, below}
@@ -51,9 +51,13 @@ implicit_colour depth j c =
     let most : ℕ = 2 ^ depth - 1 in
     if nat_lt j 64 then (j / 4 ^ c % 4) * most / 4 + 2 ^ (depth - 3) else ((j - 64) / 5 ^ c % 5) * most / 4
 
+-- colour j after the table in channel c: if implicit colours are of RGB alone, 0 from the fourth channel on
+abbrev pub colour_after : ℕ → Palette → ℕ → ℕ → ℕ
+colour_after depth t j c = if t.implicit_rgb && nat_le 3 c then 0 else implicit_colour depth j c
+
 -- the colour of an index in channel c: of the table, implicit, or a difference, whose step grows with depths 8 to 24
 unfoldable pub colour_of : ℕ → Palette → Grid ℤ → ℤ → ℕ → ℤ
-colour_of depth t table (pos i) c = if nat_lt i t.nb_colours then at table i c else pos (implicit_colour depth (i - t.nb_colours) c)
+colour_of depth t table (pos i) c = if nat_lt i t.nb_colours then at table i c else pos (colour_after depth t (i - t.nb_colours) c)
 colour_of depth t table (negsuc k) c = listed_difference k c *ℤ pos (2 ^ (min depth 24 - 8))
 
 -- The index whose colour is taken. If the palette clamps indices, it is the nearest one from 0 to nb_colours - 1, and 0

@@ -11,7 +11,7 @@ ghost use Rattle.jxlm_base.specs.Regions.{Lies, grid_of, store_meanings};
 ghost use Rattle.jxlm_base.specs.Outside.{KeepsOutside, SetsRow};
 ghost use Rattle.jxlm_predictor.specs.Predictions.{prediction};
 ghost use Rattle.jxlm_predictor.specs.Standing.{Setting, StandsAt, IsReady, HasSameRoom, room_of, setting, weights_of};
-ghost use Rattle.jxlm_inverse.specs.Palette.{colour_index as the_colour_index, colour_of, deltas, implicit_colour, listed_difference, finished_channel, IsPaletteOf, PaletteHasOneImage, PaletteLies};
+ghost use Rattle.jxlm_inverse.specs.Palette.{colour_after as the_colour_after, colour_index as the_colour_index, colour_of, deltas, implicit_colour, listed_difference, finished_channel, IsPaletteOf, PaletteHasOneImage, PaletteLies};
 ghost use Rattle.jxlm_inverse.specs.Inner.PaletteSteps.{ChannelLies, ChannelsDone, channel_at, columns_of, FillsOn, FillsOnBy, AreSimple, IsSimple, IsSimpleIndex, IsSimpleRow, SetsNext, StandsBefore, StandsNext, index_in, kept, number_of, table_in};
 
 use jxlm_base::grid::{AlignedGrid, Region};
@@ -164,6 +164,19 @@ fn implicit_colour(depth: u32, j: u32, c: usize) -> u64
         quarters(depth, digit_of_four(j, c)) + eighth(depth)
     } else {
         quarters(depth, digit_of_five(j - 64, c))
+    }
+}
+
+/// The `j`-th colour after the table of a palette in channel `c`.
+fn colour_after(palette: &Palette, depth: u32, j: u32, c: usize) -> u64
+    requires { depth ≤ 32 }
+    ensures value { result ≡ the_colour_after depth palette.now j c }
+    ensures bound { result < 2 ^ 34 }
+{
+    if palette.implicit_rgb && c >= 3 {
+        0
+    } else {
+        implicit_colour(depth, j, c)
     }
 }
 
@@ -322,7 +335,7 @@ fn colour<S: Sample>(
     } else if place < palette.nb_colours {
         number_at(store, table, place as usize, c) as i64
     } else {
-        implicit_colour(bit_depth, place - palette.nb_colours, c) as i64
+        colour_after(palette, bit_depth, place - palette.nb_colours, c) as i64
     }
 }
 

@@ -4,7 +4,6 @@ use Rattle.std.specs.Int.{w32, int_wrap}
 use Rattle.std.proofs.lemmas.Bool.{eqb-true}
 use Rattle.std.proofs.lemmas.Bool.Decides.{nat_tests}
 use Rattle.std.proofs.lemmas.Int.{SFits-int_wrap, clamps, ints}
-use Rattle.jxlm_bits.specs.Numbers.{clamp}
 use Rattle.jxlm_tree.specs.FlatTree.{FlatTree, property_of, leaf_reached}
 use Rattle.jxlm_tree.specs.ShortTrees.{Fits}
 use Rattle.jxlm_tree.specs.Tree.{walk}
@@ -12,12 +11,12 @@ use Rattle.jxlm_ma_tree.proofs.Comparing.{less, not_less}
 use Rattle.jxlm_tree.proofs.FlatTrees.{asked_is, walk_by}
 use Rattle.jxlm_weighted.specs.Neighbours.{neighbours}
 use Rattle.jxlm_predictor.specs.Properties.{Surroundings, place_property}
-use Rattle.jxlm_predictor.specs.Sums.{gradient_sum}
+use Rattle.jxlm_predictor.specs.Sums.{clamp_sum, gradient_sum}
 use Rattle.jxlm_samples.specs.Part.{place_by, property_by}
 use Rattle.jxlm_samples.specs.RowNeighbours.{sum_by}
 
 -- a clamped number is one of 32 bits
-clamped-fit : (z : ℤ) → (neg_ℤ (pos (2 ^ 31)) ≤ℤ clamp (neg_ℤ (pos 512)) (pos 511) z) × (clamp (neg_ℤ (pos 512)) (pos 511) z <ℤ pos (2 ^ 31))
+clamped-fit : (z : ℤ) → (neg_ℤ (pos (2 ^ 31)) ≤ℤ clamp_sum z) × (clamp_sum z <ℤ pos (2 ^ 31))
 clamped-fit z = (omega (arith, ints, clamps), omega (arith, ints, clamps))
 
 -- and so is a sum as property 9 has it

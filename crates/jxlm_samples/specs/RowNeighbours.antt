@@ -1,7 +1,8 @@
 -- The neighbours of a cell in its row and in the row above (ISO/IEC 18181-1, Modular: neighbouring samples).
-use Rattle.std.specs.Prelude.{ℕ, zero, suc, ℤ, pos, neg_ℤ, ◌+ℤ◌, ◌-ℤ◌, List, get_or, Bool, true, false}
+use Rattle.std.specs.Prelude.{ℕ, zero, suc, ℤ, pos, ◌+ℤ◌, ◌-ℤ◌, List, get_or, Bool, true, false}
 use Rattle.std.specs.Int.{w32, int_wrap}
-use Rattle.jxlm_bits.specs.Numbers.{clamp, clamped_gradient}
+use Rattle.jxlm_bits.specs.Numbers.{clamped_gradient}
+use Rattle.jxlm_predictor.specs.Sums.{clamp_sum}
 
 -- the neighbours in column x of a row, from the row above (none above the first row) and the cells of the row before it
 module _ (above row : List ℤ) where
@@ -25,10 +26,10 @@ module _ (above row : List ℤ) where
 
 -- a sum as property 9 has it, clamped or reduced to 32 bits
 abbrev pub sum_by : Bool → ℤ → ℤ
-sum_by true z = clamp (neg_ℤ (pos 512)) (pos 511) z
+sum_by true z = clamp_sum z
 sum_by false z = int_wrap w32 z
 
 -- property 9 in column x of a row, from the row above and the row: west less north west plus north, clamped or reduced
 -- to 32 bits
 abbrev pub property_9_in : List ℤ → List ℤ → Bool → ℕ → ℤ
-property_9_in above row clamp_sum x = sum_by clamp_sum (west_in above row x -ℤ north_west_in above row x +ℤ north_in above row x)
+property_9_in above row clamped x = sum_by clamped (west_in above row x -ℤ north_west_in above row x +ℤ north_in above row x)

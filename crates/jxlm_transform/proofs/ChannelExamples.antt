@@ -42,7 +42,7 @@ two_channels : coded_sizes (OfRct (record { begin_c = 0; rct_type = 6 }) ∷ [])
 two_channels = refl
 
 abbrev palette : ℕ → ℕ → Transform
-palette n colours = OfPalette (record { begin_c = 0; num_c = n; nb_colours = colours; nb_deltas = 0; d_pred = Zero; clamps_indices = false; wp_header = None })
+palette n colours = OfPalette (record { begin_c = 0; num_c = n; nb_colours = colours; nb_deltas = 0; d_pred = Zero; clamps_indices = false; implicit_rgb = false; wp_header = None })
 
 -- a palette over three channels, and one over its table
 palette_of_three : coded_sizes (palette 3 5 ∷ []) three ≡ Ok ((5, 3) ∷ (16, 16) ∷ [])

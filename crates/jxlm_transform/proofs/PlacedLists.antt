@@ -16,7 +16,7 @@ use Rattle.std.proofs.lemmas.List.{map-append}
 use Rattle.std.proofs.lemmas.List.Folds.{list_all-map}
 use Rattle.std.proofs.lemmas.List.Sums.{AllPass-from_list_all}
 use Rattle.jxlm_base.specs.Regions.{region}
-use Rattle.jxlm_transform.specs.ChannelSteps.{PaletteStep, table_channel}
+use Rattle.jxlm_transform.specs.ChannelSteps.{PaletteStep, table_of}
 use Rattle.jxlm_transform.specs.Layout.{no_region}
 use Rattle.jxlm_transform.specs.Lists.{IsAfter, list_of}
 use Rattle.jxlm_transform.specs.declared.channels.ModularChannels.{ModularChannels}
@@ -60,7 +60,7 @@ table_first part t x xs new is = ap (map part) is ∙ ap (λ ys. part x ∷ ys) 
 
 -- what a palette does to a list that it suits, and to the places in it
 pub palette_after : (t : Palette) (l m : ModularChannels) (table : PlacedChannel) → IsOk (list_after (PaletteStep t) (list_of l)) → 1 ≤ t.num_c →
-    table.info ≡ table_channel t.nb_colours t.num_c → table.region ≡ region l.buffers 0 0 t.nb_colours t.num_c →
+    table.info ≡ table_of t (infos l.placed.items) → table.region ≡ region l.buffers 0 0 t.nb_colours t.num_c →
     m.placed.items ≡ table ∷ (take (t.begin_c + 1) l.placed.items ++ drop (t.begin_c + t.num_c) l.placed.items) →
     m.nb_meta_channels ≡ (if nat_lt t.begin_c l.nb_meta_channels then l.nb_meta_channels + 2 - t.num_c else l.nb_meta_channels + 1) →
     m.buffers ≡ l.buffers + 1 → IsAfter (PaletteStep t) l m
@@ -72,7 +72,7 @@ palette_after t l m table ok some info place items nb_meta buffers =
     let keeps : Bool = keeps_meta t.begin_c t.num_c l.nb_meta_channels in
     let suits : here && sized && keeps ≡ true = if_ok (here && sized && keeps) _ BadPalette ok in
     let there : t.begin_c + t.num_c ≤ length cs = in_range t.begin_c t.num_c cs (both_of here sized (both_of (here && sized) keeps suits).0).0 in
-    let channels : infos m.placed.items ≡ table_channel t.nb_colours t.num_c ∷ (take (t.begin_c + 1) cs ++ drop (t.begin_c + t.num_c) cs) =
+    let channels : infos m.placed.items ≡ table_of t cs ∷ (take (t.begin_c + 1) cs ++ drop (t.begin_c + t.num_c) cs) =
     table_first (λ p. p.info) t table xs m.placed.items items ∙ ap (λ c. c ∷ (take (t.begin_c + 1) cs ++ drop (t.begin_c + t.num_c) cs)) info in
     let lie : regions m.placed.items ≡ region l.buffers 0 0 t.nb_colours t.num_c ∷ (take (t.begin_c + 1) (regions xs) ++ drop (t.begin_c + t.num_c) (regions xs)) =
     table_first (λ p. p.region) t table xs m.placed.items items ∙ ap (λ r. r ∷ (take (t.begin_c + 1) (regions xs) ++ drop (t.begin_c + t.num_c) (regions xs))) place in

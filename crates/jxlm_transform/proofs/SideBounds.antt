@@ -5,7 +5,7 @@ use Rattle.std.specs.List.{All}
 use Rattle.jxlm_bits.specs.ErrorKind.{ErrorKind, BadRct, BadPalette, BadSqueeze, ◌>>=◌}
 use Rattle.jxlm_transform.proofs.ImageChannels.{IsWithinLimits, All-image_list}
 use Rattle.jxlm_transform.specs.Channels.{Channel, ChannelList, IsNarrow, image_list}
-use Rattle.jxlm_transform.specs.ChannelSteps.{CodedList, Step, RctStep, PaletteStep, SqueezeStep, average_channel, coded_list, list_after, list_after_all, range, residual_channel, steps_of, steps_of_squeeze, table_channel, with_halves, with_range}
+use Rattle.jxlm_transform.specs.ChannelSteps.{CodedList, Step, RctStep, PaletteStep, SqueezeStep, average_channel, coded_list, list_after, list_after_all, range, residual_channel, steps_of, steps_of_squeeze, table_of, with_halves, with_range}
 use Rattle.jxlm_transform.specs.Params.{IsValidChannel}
 use Rattle.jxlm_transform.specs.Transforms.{Transform, OfRct, OfPalette, OfSqueeze, IsPalette, IsTransform}
 use Rattle.jxlm_transform.specs.declared.param.ModularChannelParams.{ModularChannelParams}
@@ -23,8 +23,8 @@ narrow_residual : (horizontal : Bool) (c : Channel) → IsNarrow c → IsNarrow 
 narrow_residual true c h = (omega (arith, h.0), h.1)
 narrow_residual false c h = (h.0, omega (arith, h.1))
 
-narrow_table : (t : Palette) → IsPalette t → IsNarrow (table_channel t.nb_colours t.num_c)
-narrow_table t p = (omega (arith, p.colours, p.deltas), omega (arith, p.channels))
+narrow_table : (t : Palette) (cs : List Channel) → IsPalette t → IsNarrow (table_of t cs)
+narrow_table t cs p = (omega (arith, p.colours, p.deltas), omega (arith, p.channels))
 
 narrow_range : (begin n : ℕ) (cs : List Channel) → AreNarrow cs → AreNarrow (range begin n cs)
 narrow_range begin n cs h = All-take IsNarrow (begin + n - begin) (drop begin cs) (All-drop IsNarrow begin cs h)
@@ -52,8 +52,8 @@ StepFits other = Unit {0}
 narrow_step : (s : Step) (l m : ChannelList) → StepFits s → AreNarrow l.channels → list_after s l ≡ Ok m → AreNarrow m.channels
 narrow_step (RctStep t) l m fits k e = subst (λ (x : ChannelList). AreNarrow x.channels) (chosen _ l m BadRct e) k
 narrow_step (PaletteStep t) l m fits k e =
-    subst (λ (x : ChannelList). AreNarrow x.channels) (chosen _ _ m BadPalette e) (All-cons IsNarrow (table_channel t.nb_colours t.num_c) (take (t.begin_c + 1) l.channels ++ drop (t.begin_c + t.num_c) l.channels)
-    (narrow_table t fits)
+    subst (λ (x : ChannelList). AreNarrow x.channels) (chosen _ _ m BadPalette e) (All-cons IsNarrow (table_of t l.channels) (take (t.begin_c + 1) l.channels ++ drop (t.begin_c + t.num_c) l.channels)
+    (narrow_table t l.channels fits)
     (All-append IsNarrow (take (t.begin_c + 1) l.channels) (drop (t.begin_c + t.num_c) l.channels) (All-take IsNarrow (t.begin_c + 1) l.channels k) (All-drop IsNarrow (t.begin_c + t.num_c) l.channels k)))
 narrow_step (SqueezeStep t) l m fits k e =
     let cs = range t.begin_c t.num_c l.channels in

@@ -3,7 +3,7 @@ use Rattle.std.proofs.Common.{◌≡◌, ℕ, ◌+◌, ◌≤◌, Bool, true, fa
 use Rattle.std.specs.List.{list_all}
 use Rattle.jxlm_bits.specs.ErrorKind.{ErrorKind, BadRct, BadPalette, BadSqueeze, ◌>>=◌}
 use Rattle.jxlm_transform.specs.Channels.{Channel, ChannelList}
-use Rattle.jxlm_transform.specs.ChannelSteps.{Step, RctStep, PaletteStep, SqueezeStep, average_channel, can_be_squeezed, has_range, keeps_meta, list_after, list_after_all, one_size, range, residual_channel, squeeze_range, table_channel, with_halves}
+use Rattle.jxlm_transform.specs.ChannelSteps.{Step, RctStep, PaletteStep, SqueezeStep, average_channel, can_be_squeezed, has_range, keeps_meta, list_after, list_after_all, one_size, range, residual_channel, squeeze_range, table_of, with_halves}
 use Rattle.jxlm_transform.specs.declared.transform.Rct.{Rct}
 use Rattle.jxlm_transform.specs.declared.transform.Palette.{Palette}
 use Rattle.jxlm_transform.specs.declared.transform.SqueezeParams.{SqueezeParams}
@@ -36,7 +36,7 @@ rct_applies t l m e =
 pub record PaletteApplies (t : Palette) (l m : ChannelList) : Type 0 where
   pub there : t.begin_c + t.num_c ≤ length l.channels
   pub one_sized : one_size (range t.begin_c t.num_c l.channels) ≡ true
-  pub after_it : table_channel t.nb_colours t.num_c ∷ (take (t.begin_c + 1) l.channels ++ drop (t.begin_c + t.num_c) l.channels) ≡ m.channels
+  pub after_it : table_of t l.channels ∷ (take (t.begin_c + 1) l.channels ++ drop (t.begin_c + t.num_c) l.channels) ≡ m.channels
 
 pub palette_applies : (t : Palette) (l m : ChannelList) → list_after (PaletteStep t) l ≡ Ok m → PaletteApplies t l m
 palette_applies t l m e =
@@ -44,7 +44,7 @@ palette_applies t l m e =
     let sized : Bool = one_size (range t.begin_c t.num_c l.channels) in
     let meta : Bool = keeps_meta t.begin_c t.num_c l.nb_meta in
     let (test, same) = chosen (here && sized && meta) (record {
-      channels = table_channel t.nb_colours t.num_c ∷ (take (t.begin_c + 1) l.channels ++ drop (t.begin_c + t.num_c) l.channels);
+      channels = table_of t l.channels ∷ (take (t.begin_c + 1) l.channels ++ drop (t.begin_c + t.num_c) l.channels);
       nb_meta = if nat_lt t.begin_c l.nb_meta then l.nb_meta + 2 - t.num_c else l.nb_meta + 1;
     }) m BadPalette e in
     let (a, b) = both_of here sized (both_of (here && sized) meta test).0 in

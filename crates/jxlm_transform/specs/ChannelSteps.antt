@@ -4,9 +4,10 @@ use Rattle.std.specs.List.{list_all}
 use Rattle.std.specs.Int.{div_ceil}
 use Rattle.jxlm_bits.specs.ErrorKind.{ErrorKind, BadRct, BadPalette, BadSqueeze, UnlessNoMemory, kind_of, ◌>>=◌}
 use Rattle.jxlm_bits.specs.declared.error.Error.{Error}
-use Rattle.jxlm_transform.specs.Channels.{Channel, ChannelList}
+use Rattle.jxlm_transform.specs.Channels.{Channel, ChannelList, sums_for}
 use Rattle.jxlm_transform.specs.Transforms.{Transform, OfRct, OfPalette, OfSqueeze}
 use Rattle.jxlm_transform.specs.declared.param.ChannelShift.TheVariants.{Raw}
+use Rattle.jxlm_transform.specs.declared.param.GradientSums.{GradientSums}
 use Rattle.jxlm_transform.specs.declared.param.GradientSums.TheVariants.{Wrapped}
 use Rattle.jxlm_transform.specs.declared.param.PaletteTables.TheVariants.{OfColours}
 use Rattle.jxlm_transform.specs.declared.transform.Rct.{Rct}
@@ -43,9 +44,17 @@ one_size (c ∷ cs) = list_all (λ d. d.width == c.width && d.height == c.height
 abbrev pub keeps_meta : ℕ → ℕ → ℕ → Bool
 keeps_meta begin n nb_meta = not (nat_lt begin nb_meta) || nat_le (begin + n) nb_meta
 
--- a table: a column for each colour, a row for each channel; its shifts are -1
+-- a table: a column for each colour, a row for each channel; its shifts are -1, and no sums are asked for
 abbrev pub table_channel : ℕ → ℕ → Channel
 table_channel colours channels = record { width = colours; height = channels; original_width = colours; original_height = channels; hshift = negsuc 0; vshift = negsuc 0; original_shift = Raw (negsuc 0) (negsuc 0); palette_tables = OfColours; gradient_sums = Wrapped }
+
+-- the same with these sums
+abbrev pub table_by : ℕ → ℕ → GradientSums → Channel
+table_by colours channels sums = record (table_channel colours channels) { gradient_sums = sums }
+
+-- the table of a palette of some of these channels, with their sums
+abbrev pub table_of : Palette → List Channel → Channel
+table_of t cs = table_by t.nb_colours t.num_c (sums_for cs)
 
 -- a shift grows by one where a side is halved; a table's stays
 abbrev pub shift_of_half : ℤ → ℤ
@@ -88,7 +97,7 @@ list_after (PaletteStep t) l =
     let cs : List Channel = l.channels in
     if has_range t.begin_c t.num_c cs && one_size (range t.begin_c t.num_c cs) && keeps_meta t.begin_c t.num_c l.nb_meta then
     Ok (record {
-      channels = table_channel t.nb_colours t.num_c ∷ (take (t.begin_c + 1) cs ++ drop (t.begin_c + t.num_c) cs);
+      channels = table_of t cs ∷ (take (t.begin_c + 1) cs ++ drop (t.begin_c + t.num_c) cs);
       nb_meta = if nat_lt t.begin_c l.nb_meta then l.nb_meta + 2 - t.num_c else l.nb_meta + 1;
     })
     else Err BadPalette

@@ -6,9 +6,11 @@ use Rattle.jxlm_base.specs.declared.subgrid.Region.{Region}
 use Rattle.jxlm_transform.specs.declared.channels.ModularChannelInfo.{ModularChannelInfo}
 use Rattle.jxlm_transform.specs.declared.channels.PlacedChannel.{PlacedChannel}
 use Rattle.jxlm_transform.specs.declared.param.ModularChannelParams.{ModularChannelParams}
+use Rattle.jxlm_transform.specs.declared.param.GradientSums.{GradientSums}
+use Rattle.jxlm_transform.specs.declared.param.GradientSums.TheVariants.{Clamped, Wrapped}
 use Rattle.jxlm_transform.specs.declared.param.PaletteTables.{PaletteTables}
 use Rattle.jxlm_transform.specs.declared.param.PaletteTables.TheVariants.{OfColours, OfDeltasToo}
-use Rattle.jxlm_transform.specs.Params.{IsSide, has_deltas}
+use Rattle.jxlm_transform.specs.Params.{IsSide, are_clamped, has_deltas}
 use Rattle.jxlm_transform.specs.Shifts as shifts
 
 -- a coded channel: its sides, its picture's, its shifts (a table's are -1); the shift, tables of palettes and sums it came with
@@ -54,6 +56,10 @@ AreRegionsOf channels regions = AllZip (λ c r. (r.width ≡ c.width) × (r.heig
 -- the tables of palettes that a header of these channels has: with deltas where one of the channels asks for them
 abbrev pub tables_for : List Channel → PaletteTables
 tables_for channels = if list_any (λ c. has_deltas c.palette_tables) channels then OfDeltasToo else OfColours
+
+-- the sums of a table for some of these channels: clamped where one of the channels asks for them
+abbrev pub sums_for : List Channel → GradientSums
+sums_for channels = if list_any (λ c. are_clamped c.gradient_sums) channels then Clamped else Wrapped
 
 -- channels, the first nb_meta of which hold tables and what became of them
 pub record ChannelList : Type 0 where

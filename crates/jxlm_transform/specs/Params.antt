@@ -1,5 +1,5 @@
 -- What an image is read by.
-use Rattle.std.specs.Prelude.{◌≡◌, ℕ, ◌+◌, ◌≤◌, ◌^◌, ◌==◌, ◌&&◌, List, length, replicate, Bool, true, false, Option}
+use Rattle.std.specs.Prelude.{◌≡◌, ℕ, ◌+◌, ◌≤◌, ◌^◌, ◌==◌, ◌&&◌, nat_le, List, length, replicate, Bool, true, false, Option}
 use Rattle.std.specs.Borrow.{Bor}
 use Rattle.std.specs.Global.{Vec}
 use Rattle.std.specs.Int.{IsPowerOfTwo}
@@ -59,6 +59,11 @@ is_zero other = false
 -- by tables of deltas too, if it has one channel, no deltas and predictor 0.
 abbrev pub clamps_indices : PaletteTables → ℕ → ℕ → Predictor → Bool
 clamps_indices tables channels deltas predictor = has_deltas tables && (channels == 1) && (deltas == 0) && is_zero predictor
+
+-- whether a header may have a colour transform of this kind, which is one of 0 to 73: with tables of deltas up to 41
+abbrev pub has_colour_kind : PaletteTables → ℕ → Bool
+has_colour_kind OfColours kind = true
+has_colour_kind OfDeltasToo kind = nat_le kind 41
 
 -- whether property 9 is clamped where a channel's tree asks for it alone
 abbrev pub are_clamped : GradientSums → Bool

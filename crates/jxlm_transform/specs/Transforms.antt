@@ -1,16 +1,16 @@
 -- The transforms of a header, as they stand in the input (ISO/IEC 18181-1, Modular: TransformInfo and SqueezeParams).
-use Rattle.std.specs.Prelude.{◌≡◌, ◌⊎◌, ℕ, ◌+◌, ◌≤◌, List, length, slice_get, ok_or, ◌==◌, codes, Option, Some, None}
+use Rattle.std.specs.Prelude.{◌≡◌, ◌⊎◌, ℕ, ◌+◌, ◌≤◌, List, length, slice_get, ok_or, ◌==◌, codes, if◌then◌else◌, Option, Some, None, Ok, Err}
 use Rattle.std.specs.List.{All}
-use Rattle.jxlm_bits.specs.ErrorKind.{BadEnum}
+use Rattle.jxlm_bits.specs.ErrorKind.{BadEnum, BadRct}
 use Rattle.jxlm_bits.specs.Grammar.{Grammar, number, flag, u32, give, fail, either, repeated, ◌>>=◌, from_result}
 use Rattle.jxlm_bits.specs.declared.bits.U32Spec.TheVariants.{Const, Offset}
 use Rattle.jxlm_predictor.specs.Predictions.{predictors}
 use Rattle.jxlm_predictor.specs.declared.predictor.Predictor.{Predictor}
 use Rattle.jxlm_predictor.specs.declared.predictor.Predictor.TheVariants.{SelfCorrecting}
 use Rattle.jxlm_weighted.specs.declared.weights.WpHeader.{WpHeader}
-use Rattle.jxlm_transform.specs.Params.{clamps_indices, columns}
+use Rattle.jxlm_transform.specs.Params.{clamps_indices, columns, has_colour_kind, has_deltas}
 use Rattle.jxlm_transform.specs.declared.param.PaletteTables.{PaletteTables}
-use Rattle.jxlm_transform.specs.declared.param.PaletteTables.TheVariants.{OfColours}
+use Rattle.jxlm_transform.specs.declared.param.PaletteTables.TheVariants.{OfColours, OfDeltasToo}
 use Rattle.jxlm_transform.specs.declared.transform.Rct.{Rct}
 use Rattle.jxlm_transform.specs.declared.transform.Palette.{Palette}
 use Rattle.jxlm_transform.specs.declared.transform.SqueezeParams.{SqueezeParams}
@@ -40,6 +40,11 @@ rct = do
   kind ← u32 (Const 6) (Offset 0 2) (Offset 2 4) (Offset 10 6)
   give (record { begin_c = begin; rct_type = kind })
 
+-- one in a header with these tables: it has a kind that the header may have
+abbrev pub rct_by : PaletteTables → Grammar Rct
+rct_by OfColours = rct
+rct_by OfDeltasToo = rct >>= λ t. from_result (if has_colour_kind OfDeltasToo t.rct_type then Ok t else Err BadRct)
+
 -- a predictor's number; 14 and 15 name none
 abbrev pub predictor : Grammar Predictor
 predictor = do
@@ -51,7 +56,8 @@ abbrev pub weights_for : Predictor → WpHeader → Option WpHeader
 weights_for SelfCorrecting weights = Some weights
 weights_for other weights = None
 
--- a palette: its range, how wide its table is by its colours and deltas, the predictor of deltas, and whether it clamps indices
+-- a palette: its range, how wide its table is by its colours and deltas, the predictor of deltas, whether it clamps indices, and
+-- whether implicit colours are of RGB alone
 abbrev pub palette_by : PaletteTables → WpHeader → Grammar Palette
 palette_by tables weights = do
   begin ← begin_channel
@@ -59,7 +65,7 @@ palette_by tables weights = do
   colours ← u32 (Offset 0 8) (Offset 256 10) (Offset 1280 12) (Offset 5376 16)
   deltas ← u32 (Const 0) (Offset 1 8) (Offset 257 10) (Offset 1281 16)
   predictor ← predictor
-  give (record { begin_c = begin; num_c = channels; nb_colours = columns tables colours deltas; nb_deltas = deltas; d_pred = predictor; clamps_indices = clamps_indices tables channels deltas predictor; wp_header = weights_for predictor weights })
+  give (record { begin_c = begin; num_c = channels; nb_colours = columns tables colours deltas; nb_deltas = deltas; d_pred = predictor; clamps_indices = clamps_indices tables channels deltas predictor; implicit_rgb = has_deltas tables; wp_header = weights_for predictor weights })
 
 -- by tables of colours alone
 abbrev pub palette : WpHeader → Grammar Palette
@@ -84,7 +90,7 @@ squeeze = do
 abbrev pub transform_by : PaletteTables → WpHeader → Grammar Transform
 transform_by tables weights = do
   kind ← number 2
-  either (kind == 0) (rct >>= λ t. give (OfRct t)) (either (kind == 1) (palette_by tables weights >>= λ t. give (OfPalette t))
+  either (kind == 0) (rct_by tables >>= λ t. give (OfRct t)) (either (kind == 1) (palette_by tables weights >>= λ t. give (OfPalette t))
       (either (kind == 2) (squeeze >>= λ steps. give (OfSqueeze steps)) (fail (BadEnum (codes "TransformId") kind))))
 
 -- by tables of colours alone

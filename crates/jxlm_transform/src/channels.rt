@@ -5,10 +5,10 @@ ghost use Rattle.std.specs.List.{All, list_any};
 ghost use Rattle.jxlm_bits.specs.ErrorKind.{NoMemory, kind_of};
 ghost use Rattle.jxlm_base.specs.Regions.{region};
 ghost use Rattle.jxlm_lanes.specs.Squeeze.{averages as the_averages};
-ghost use Rattle.jxlm_transform.specs.ChannelSteps.{table_channel, average_channel, residual_channel, can_be_squeezed, shift_of_half as the_grown};
-ghost use Rattle.jxlm_transform.specs.Channels.{image_channel, infos, regions, tables_for as the_tables};
+ghost use Rattle.jxlm_transform.specs.ChannelSteps.{table_by, average_channel, residual_channel, can_be_squeezed, shift_of_half as the_grown};
+ghost use Rattle.jxlm_transform.specs.Channels.{image_channel, infos, regions, sums_for as the_sums, tables_for as the_tables};
 ghost use Rattle.jxlm_transform.specs.Ends.{HasEnds};
-ghost use Rattle.jxlm_transform.specs.Params.{IsValidChannel, has_deltas};
+ghost use Rattle.jxlm_transform.specs.Params.{IsValidChannel, are_clamped, has_deltas};
 ghost use Rattle.jxlm_transform.specs.SqueezedRegions.{average_region, residual_region};
 
 use crate::param::{ChannelShift, GradientSums, ModularChannelParams, PaletteTables};
@@ -35,7 +35,7 @@ pub struct ModularChannelInfo {
     pub original_shift: ChannelShift,
     /// The tables of palettes with which it was given; for a table itself those of colours alone.
     pub palette_tables: PaletteTables,
-    /// The sums by which it was given; a table itself has those that wrap.
+    /// The sums by which it was given; a table has those of the channels that it is made for.
     pub gradient_sums: GradientSums,
 }
 
@@ -59,9 +59,13 @@ impl ModularChannelInfo {
         }
     }
 
-    /// The table of a palette: a column for each colour, and a row for each channel.
-    pub(crate) fn table(nb_colours: u32, num_c: u32) -> ModularChannelInfo
-        ensures { result ≡ table_channel nb_colours num_c }
+    /// The table of a palette: a column for each colour, and a row for each channel; and these sums.
+    pub(crate) fn table(
+        nb_colours: u32,
+        num_c: u32,
+        gradient_sums: GradientSums,
+    ) -> ModularChannelInfo
+        ensures { result ≡ table_by nb_colours num_c gradient_sums }
     {
         ModularChannelInfo {
             width: nb_colours,
@@ -72,7 +76,7 @@ impl ModularChannelInfo {
             vshift: -1,
             original_shift: ChannelShift::Raw(-1, -1),
             palette_tables: PaletteTables::OfColours,
-            gradient_sums: GradientSums::Wrapped,
+            gradient_sums,
         }
     }
 
@@ -287,6 +291,26 @@ pub fn tables_for(channels: &[PlacedChannel]) -> PaletteTables
         PaletteTables::OfDeltasToo
     } else {
         PaletteTables::OfColours
+    }
+}
+
+// Whether one of these channels asks for clamped sums.
+fn ask_for_clamped(channels: &[PlacedChannel]) -> bool
+    ensures { result ≡ list_any (λ p. are_clamped p.info.gradient_sums) channels.now }
+{
+    channels
+        .iter()
+        .any(|channel| channel.info.gradient_sums.are_clamped())
+}
+
+/// The sums of a table for some of these channels: clamped where one of the channels asks for them.
+pub(crate) fn sums_for(channels: &[PlacedChannel]) -> GradientSums
+    ensures { result ≡ the_sums (infos channels.now) }
+{
+    if ask_for_clamped(channels) {
+        GradientSums::Clamped
+    } else {
+        GradientSums::Wrapped
     }
 }
 

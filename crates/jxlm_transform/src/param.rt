@@ -4,7 +4,7 @@ ghost use Rattle.std.specs.Prelude.{◌≡◌, ◌+◌, ◌<◌, ◌≤◌, ◌�
 ghost use Rattle.std.specs.Int.{div_ceil};
 ghost use Rattle.std.specs.List.{All, list_any};
 ghost use Rattle.jxlm_transform.specs.Shifts.{IsValidShift, shift_size, jpeg_shift, shifts_of, IsShift, upsampled_side as the_upsampled_side};
-ghost use Rattle.jxlm_transform.specs.Params.{IsSide, IsValidChannel, IsGroupDim, IsValidParams, OneSizeIsValid, OneSizeOfImageIsValid, PowersAreGroupDims, are_clamped, clamps_indices, columns, has_deltas, params_of, channel_params, with_sums, with_tables};
+ghost use Rattle.jxlm_transform.specs.Params.{IsSide, IsValidChannel, IsGroupDim, IsValidParams, OneSizeIsValid, OneSizeOfImageIsValid, PowersAreGroupDims, are_clamped, clamps_indices, columns, has_colour_kind, has_deltas, params_of, channel_params, with_sums, with_tables};
 ghost use Rattle.jxlm_bits.specs.ErrorKind.{NoMemory, kind_of};
 
 use jxlm_bits::decoder::Decoder;
@@ -191,7 +191,8 @@ pub enum PaletteTables {
     /// One for each colour, the first of which may be deltas. So the Rust crate `jxl-modular` reads them.
     OfColours,
     /// One for each delta, and after them one for each colour. A palette of one channel, without deltas and with
-    /// predictor 0, clamps an index outside its table to it. So libjxl reads files.
+    /// predictor 0, clamps an index outside its table to it; the implicit colours of others are 0 in each channel from the
+    /// fourth on. A colour transform has a kind of at most 41. So libjxl reads files.
     OfDeltasToo,
 }
 
@@ -223,6 +224,16 @@ impl PaletteTables {
     {
         self.has_deltas() && num_c == 1 && nb_deltas == 0 && matches!(d_pred, Predictor::Zero)
     }
+
+    /// Whether a header may have a colour transform of this kind, which is one of 0 to 73.
+    pub(crate) fn has_colour_kind(&self, kind: u32) -> bool
+        ensures { result ≡ has_colour_kind self.now kind }
+    {
+        match self {
+            PaletteTables::OfColours => true,
+            PaletteTables::OfDeltasToo => kind <= 41,
+        }
+    }
 }
 
 /// How property 9, west less north west plus north, is brought to 32 bits.
@@ -230,9 +241,10 @@ impl PaletteTables {
 pub enum GradientSums {
     /// It is reduced to 32 bits, as each other property. So the Rust crate `jxl-modular` reads it.
     Wrapped,
-    /// It is clamped to -512..=511 in a channel whose tree asks for it alone, with cuts from -513 to 510, once the
-    /// decisions on the channel and the stream are taken, and predicts by the gradient alone, with offsets from -128 to
-    /// 127 and multipliers up to 127; else it is reduced. So libjxl reads and writes files.
+    /// It is clamped to -8193..=8191, which changes no decision, in a channel whose tree asks for it alone once the
+    /// decisions on the channel and the stream are taken, and predicts by the gradient alone: with cuts from -513 to 510,
+    /// offsets from -128 to 127 and multipliers up to 127, or with cuts from -8193 to 8190, offset 0 and multiplier 1. Else
+    /// it is reduced. So libjxl reads and writes files.
     Clamped,
 }
 

@@ -9,7 +9,7 @@ ghost use Rattle.jxlm_transform.specs.DefaultSqueeze.{LeavesSmallSides, TakesFew
 ghost use Rattle.jxlm_bits.specs.FieldRanges.{min_of, max_of};
 ghost use Rattle.jxlm_transform.specs.Params.{columns};
 ghost use Rattle.jxlm_transform.specs.Kinds.{is_palette as the_palettes, is_squeeze as the_squeezes};
-ghost use Rattle.jxlm_transform.specs.Transforms.{OfPalette, transform_of, begin_channel as the_begin_channel, rct, predictor, weights_for, palette, palette_by, squeeze_params, squeeze, transform, transform_by, IsRct, IsPalette, IsSqueezeParams, IsSqueeze, IsTransform, HasChannels, KeepsWeights, IsPaletteTransform, IsSqueezeTransform};
+ghost use Rattle.jxlm_transform.specs.Transforms.{OfPalette, transform_of, begin_channel as the_begin_channel, rct, rct_by, predictor, weights_for, palette, palette_by, squeeze_params, squeeze, transform, transform_by, IsRct, IsPalette, IsSqueezeParams, IsSqueeze, IsTransform, HasChannels, KeepsWeights, IsPaletteTransform, IsSqueezeTransform};
 
 mod lists;
 mod steps;
@@ -46,6 +46,8 @@ pub struct Palette {
     pub d_pred: Predictor,
     /// Whether an index outside the table is clamped to it.
     pub clamps_indices: bool,
+    /// Whether implicit colours are of RGB alone: 0 in each channel from the fourth on.
+    pub implicit_rgb: bool,
     /// The header's weights, where the predictor is the weighted (self-correcting) one.
     pub wp_header: Option<WpHeader>,
 }
@@ -138,6 +140,26 @@ impl Rct {
         )?;
         Ok(Rct { begin_c, rct_type })
     }
+
+    /// The colour transform that stands at the reader's position in a header with these tables: with tables of deltas its
+    /// kind is at most 41.
+    ///
+    /// # Errors
+    ///
+    /// As of [`parse`](Rct::parse), and `InvalidRctParams` for a greater kind.
+    pub fn parse_by(bits: &mut Bitstream<'_>, tables: PaletteTables) -> Result<Rct>
+        ensures gives { GivesExactly result (position_of bits.new)
+            ((rct_by tables).read (bytes_of bits.old) (position_of bits.old)) }
+        ensures ranges { IfOk result (λ t. IsRct t) }
+        ensures bytes { bytes_of bits.new ≡ bytes_of bits.old }
+    {
+        let colour = Rct::parse(bits)?;
+        if tables.has_colour_kind(colour.rct_type) {
+            Ok(colour)
+        } else {
+            Err(Error::InvalidRctParams)
+        }
+    }
 }
 
 /// A predictor by its number of 4 bits.
@@ -217,6 +239,7 @@ impl Palette {
             nb_deltas,
             d_pred,
             clamps_indices: tables.clamp_indices(num_c, nb_deltas, d_pred),
+            implicit_rgb: tables.has_deltas(),
             wp_header: kept_weights(d_pred, wp_header),
         })
     }
@@ -335,7 +358,8 @@ impl TransformInfo {
     /// # Errors
     ///
     /// `UnexpectedEof` if the input is truncated; `InvalidEnum` for kind 3, and for the number of
-    /// a predictor that is none. The reader is then after the last field that was read whole.
+    /// a predictor that is none; `InvalidRctParams` for a colour transform of a kind that such headers
+    /// do not have. The reader is then after the last field that was read whole.
     /// `Buffer` if it is out of memory, at any step of a squeeze.
     pub fn parse_by(
         alloc: Global,
@@ -352,7 +376,7 @@ impl TransformInfo {
     {
         let kind = read_kind(bits)?;
         match kind {
-            0 => Ok(TransformInfo::Rct(Rct::parse(bits)?)),
+            0 => Ok(TransformInfo::Rct(Rct::parse_by(bits, tables)?)),
             1 => Ok(TransformInfo::Palette(Palette::parse_by(bits, wp_header, tables)?)),
             2 => Ok(TransformInfo::Squeeze(Squeeze::parse(alloc, bits)?)),
             value => {
@@ -384,7 +408,7 @@ impl TransformInfo {
 
 /// The parser returns a transform exactly if the bits at its position code it.
 pub fn transforms_are_read_exactly()
-    ensures colour { IsExact rct }
+    ensures colour { (tables : PaletteTables) → IsExact (rct_by tables) }
     ensures palette { (tables : PaletteTables) (weights : WpHeader) → IsExact (palette_by tables weights) }
     ensures squeeze { IsExact squeeze }
     ensures all { (tables : PaletteTables) (weights : WpHeader) → IsExact (transform_by tables weights) }

@@ -136,6 +136,7 @@ fn of_transforms() {
     named(TransformInfo::is_palette);
     named(TransformInfo::is_squeeze);
     named(Rct::parse);
+    named(Rct::parse_by);
     named(Palette::parse);
     named(Palette::parse_by);
     named(Squeeze::parse);

@@ -7,13 +7,13 @@ ghost use Rattle.std.specs.Result.{is_ok};
 ghost use Rattle.jxlm_base.specs.Regions.{region};
 ghost use Rattle.jxlm_transform.specs.Channels.{HasItsMeta, infos, regions};
 ghost use Rattle.jxlm_transform.specs.Lists.{list_of};
-ghost use Rattle.jxlm_transform.specs.ChannelSteps.{PaletteStep, SqueezeStep, range, has_range as the_has_range, one_size as the_one_size, keeps_meta as the_keeps_meta, table_channel, can_be_squeezed, squeeze_range, average_channel, residual_channel, with_each_halved, RctStep, list_after};
+ghost use Rattle.jxlm_transform.specs.ChannelSteps.{PaletteStep, SqueezeStep, range, has_range as the_has_range, one_size as the_one_size, keeps_meta as the_keeps_meta, table_of, can_be_squeezed, squeeze_range, average_channel, residual_channel, with_each_halved, RctStep, list_after};
 ghost use Rattle.jxlm_transform.specs.Ends.{HasEnds};
 ghost use Rattle.jxlm_transform.specs.Lists.{IsAfter, IsSame};
 ghost use Rattle.jxlm_transform.specs.SqueezedRegions.{average_region, residual_region};
 
 use super::{Palette, Rct, SqueezeParams};
-use crate::channels::{ModularChannelInfo, ModularChannels, PlacedChannel};
+use crate::channels::{ModularChannelInfo, ModularChannels, PlacedChannel, sums_for};
 use jxlm_base::grid::OutOfMemory;
 use std::alloc::Global;
 
@@ -81,12 +81,13 @@ impl Palette {
             && keeps_meta(begin, count, channels.nb_meta_channels)
     }
 
-    /// The channel of the table after these channels: it is the whole of the next buffer.
+    /// The channel of the table after these channels, with their sums: it is the whole of the next buffer.
     pub fn table(&self, channels: &ModularChannels) -> PlacedChannel
-        ensures info { result.info ≡ table_channel self.now.nb_colours self.now.num_c }
+        ensures info { result.info ≡ table_of self.now (list_of channels.now).channels }
         ensures region { result.region ≡ region channels.now.buffers 0 0 self.now.nb_colours self.now.num_c }
     {
-        let info = ModularChannelInfo::table(self.nb_colours, self.num_c);
+        let sums = sums_for(&channels.placed);
+        let info = ModularChannelInfo::table(self.nb_colours, self.num_c, sums);
         PlacedChannel::whole(info, channels.buffers)
     }
 

@@ -1,6 +1,5 @@
 use Rattle.jxlm_bit_writer.proofs.WriteLaws.{none_repeated}
-use Rattle.jxlm_transform.specs.Transforms.{transform}
-use Rattle.jxlm_weighted.specs.WeightsHeader.{default_weights}
+use Rattle.jxl_encode_image.specs.Inner.Lists.{file_transform}
 use Rattle.jxl_encode_image.specs.declared.transform.ImageTransform.{ImageTransform}
 use Rattle.jxl_encode_image.specs.declared.transform.ImageTransform.TheVariants as images
 use Rattle.jxl_encode_image.proofs.HeaderSpellings.{listed_spelled, next_listed, whole_list}
@@ -10,7 +9,7 @@ abbrev none : ImageTransform
 none = images.Colour (record { begin_c = 0; rct_type = 0 })
 
 pub loop-transform-init : goal.loop-transform-init
-loop-transform-init c = none_repeated (transform default_weights) c.args.bits.now
+loop-transform-init c = none_repeated file_transform c.args.bits.now
 
 pub write_transform-requires : goal.write_transform-requires
 write_transform-requires c = listed_spelled c.args.transforms.now c.loop-transform.transform-index none c.requires c.loop-transform-test.true

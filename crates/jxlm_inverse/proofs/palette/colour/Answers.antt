@@ -27,7 +27,7 @@ returns-then-place-palette-clause-value g c =
 pub returns-else-place-palette-clause-value : goal.returns-else-place-palette-clause-value
 returns-else-place-palette-clause-value g c =
     let test : lt_z c.args.index (pos 0) ≡ false = ap (λ z. lt_z z (pos 0)) (sym (to_z-of_z w32 c.args.index c.ranges.index)) ∙ c.if-index-lt0.false in
-    let bound = c.implicit_colour.ensures.bound in
+    let bound = c.colour_after.ensures.bound in
     let place : c.unsigned_abs-place.result ≡ unsigned_abs c.args.index = cc (c.unsigned_abs-place.ensures.value, to_z-of_z w32 c.args.index c.ranges.index) in
-    to_z_pos w64 c.implicit_colour.result (omega arith) ∙ ap pos c.implicit_colour.ensures.value
+    to_z_pos w64 c.colour_after.result (omega arith) ∙ ap pos c.colour_after.ensures.value
     ∙ colour_implicit c.args.bit_depth c.args.palette.now (grid_of (store_meanings g.S.Sealed.to_int c.args.store.now) c.args.table) c.args.c c.args.index c.unsigned_abs-place.result test place c.if-place-palette.false

@@ -1,8 +1,8 @@
-use Rattle.jxlm_transform.proofs.TransformLaws.{exact-rct, exact-palette, exact-squeeze, exact-transform}
+use Rattle.jxlm_transform.proofs.TransformLaws.{exact-rct_by, exact-palette, exact-squeeze, exact-transform}
 use Rattle.jxlm_transform.proofs.transform.transforms_are_read_exactly.Goals as goal
 
 pub returns-clause-colour : goal.returns-clause-colour
-returns-clause-colour c = exact-rct
+returns-clause-colour c = exact-rct_by
 
 pub returns-clause-palette : goal.returns-clause-palette
 returns-clause-palette c = exact-palette

@@ -14,7 +14,7 @@ returns-in_err-parse-in-2-clause-gives c =
     let e = c.in_err-parse-in-2.field-0.0 in
     let bytes = bytes_of c.args.bits.now in
     let m = position_of c.read_kind.new.bits in
-    let q = position_of c.parse-in-2.new.bits in
+    let q = position_of c.parse.new.bits in
     let kind : (number 2).read bytes (position_of c.args.bits.now) ≡ Ok (record { value = 2; position = m }) = rw c.in-2.is at c.in_ok-kind.ensures.gives in
     rw (p.1, p.2) (unless_so (kind_of e) (IsErrorAt (squeeze.read bytes m) (kind_of e) q) _ (squeeze_error c.args.tables c.args.wp_header.now bytes (position_of c.args.bits.now) m q (kind_of e) kind)
     (rw c.read_kind.ensures.bytes at c.in_err-parse-in-2.ensures.gives))
