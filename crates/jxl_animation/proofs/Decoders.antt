@@ -14,8 +14,8 @@ use Rattle.jxl_picture.specs.Pictures.{AreChannels, IsWhole}
 use Rattle.jxl_picture.specs.declared.picture.Picture.{Picture}
 use Rattle.jxl_picture.specs.declared.limits.Limits.{Limits}
 use Rattle.jxl_codestream.specs.Fronts.{FrameAt, end_of}
-use Rattle.jxl_patches.specs.SavedParts.{slots_of}
-use Rattle.jxl_patches.specs.Slots.{Slots, no_slots}
+use Rattle.jxl_patches.specs.SavedParts.{singles_in, slots_of}
+use Rattle.jxl_patches.specs.Slots.{HoldSingles, Slots, no_slots}
 use Rattle.jxl_lossless.specs.Saved.{HoldChannels}
 use Rattle.jxl_lossless.proofs.Holding.{hold_none}
 use Rattle.jxl_layers.specs.Compositions.{is_displayed, is_final, picture_size, slots_after}
@@ -33,7 +33,7 @@ use Rattle.jxl_animation.specs.declared.frames.Made.{Made}
 use Rattle.jxl_animation.specs.declared.frames.ShownFrame.{ShownFrame}
 use Rattle.jxl_animation.specs.declared.frames.ShownPicture.{ShownPicture}
 use Rattle.jxl_animation.specs.declared.frames.Source.{Source}
-use Rattle.jxl_animation.proofs.States.{hold_after, not_final, one_more, same_state}
+use Rattle.jxl_animation.proofs.States.{hold_after, no_singles, not_final, one_more, same_state, singles_after}
 
 module _ (x y : FrameDecoder) where
   -- where nothing has changed
@@ -43,19 +43,20 @@ module _ (x y : FrameDecoder) where
     state = subst (λ (s : Source). IsReadyState s (state_of y)) (sym source) (subst (λ (s : State). IsReadyState x.source s) (sym state) ready.state);
   }
 
-  module _ (m : Made) (slots : slots_of y.slots ≡ slots_after x.source.image.size (frame_of m.front.header) (slots_of x.slots) m.pictures.items) (used : y.used ≡ used_after x m.front) where
+  module _ (m : Made) (slots : slots_of y.slots ≡ slots_after x.source.image.size (frame_of m.front.header) (slots_of x.slots) (singles_in m.singles) m.pictures.items) (used : y.used ≡ used_after x m.front) where
     pub ready_after : IsReadyDecoder x → IsMade x m → y.source ≡ x.source → y.start ≤ length (bytes_in x.source) → IsReadyDecoder y
     ready_after ready made source inside = record {
       source = subst (λ (s : Source). IsReadySource s) (sym source) ready.source;
       state = subst (λ (s : Source). IsReadyState s (state_of y)) (sym source) (record {
         inside = inside;
         within = subst (λ (n : ℕ). n ≤ x.source.limits.pixels) (sym used) made.within;
-        held = subst (λ (s : Slots). HoldChannels (image_in x.source) s) (sym slots) (hold_after (image_in x.source) (frame_of m.front.header) (slots_of x.slots) m.pictures.items ready.state.held made.sides);
+        held = subst (λ (s : Slots). HoldChannels (image_in x.source) s) (sym slots) (hold_after (image_in x.source) (frame_of m.front.header) (slots_of x.slots) (singles_in m.singles) m.pictures.items ready.state.held made.sides);
+        singles = subst (λ (s : Slots). HoldSingles s) (sym slots) (singles_after x.source.image.size (frame_of m.front.header) (slots_of x.slots) (singles_in m.singles) m.pictures.items ready.state.singles made.singles);
       });
     }
 
-    pub state_is : y.start ≡ m.front.start + end_of m.front.toc.entries.items → y.is_done ≡ is_final (frame_of m.front.header) → state_of y ≡ state_after (image_in x.source) (state_of x) (frame_at m.front) m.pictures.items
-    state_is start done = same_state (state_of y) (state_after (image_in x.source) (state_of x) (frame_at m.front) m.pictures.items) slots start used done
+    pub state_is : y.start ≡ m.front.start + end_of m.front.toc.entries.items → y.is_done ≡ is_final (frame_of m.front.header) → state_of y ≡ state_after (image_in x.source) (state_of x) (frame_at m.front) (singles_in m.singles) m.pictures.items
+    state_is start done = same_state (state_of y) (state_after (image_in x.source) (state_of x) (frame_at m.front) (singles_in m.singles) m.pictures.items) slots start used done
 
 -- by its header a picture is shown or not
 pub hidden_if : (h : Frame) (pictures : List (Grid ℤ)) (r : Option ShownFrame) → r ≡ None → IsShownIf h pictures r → is_displayed h ≡ false
@@ -95,6 +96,7 @@ opened_ready x bytes o same image start used slots ready = record {
     inside = subst (λ (n : ℕ). n ≤ length (bytes_in x.source)) (sym start) (subst (λ (b : List ℕ). o.start ≤ length b) same ready.inside);
     within = subst (λ (n : ℕ). n ≤ x.source.limits.pixels) (sym used) (omega arith);
     held = subst (λ (s : Slots). HoldChannels (image_in x.source) s) (sym slots) (hold_none (image_in x.source));
+    singles = subst (λ (s : Slots). HoldSingles s) (sym slots) no_singles;
   };
 }
 
@@ -121,14 +123,14 @@ module _ (o x y : FrameDecoder) (n k : ℕ) (hidden : List FrameAt) (source : x.
 -- decoder o went to x, and goes on to y by what the next frame made
 module _ (o x y : FrameDecoder) (m : Made) (n k l : ℕ) (hidden : List FrameAt) (source : x.source ≡ o.source)
     (passes : Passes o.source.limits (bytes_in o.source) (image_in o.source) (state_of o) n hidden (state_of x) k) (goes : GoesOn x m k l)
-    (state : state_of y ≡ state_after (image_in x.source) (state_of x) (frame_at m.front) m.pictures.items) where
-  makes_next : Makes o.source.limits (bytes_in o.source) (image_in o.source) (state_of x) (frame_at m.front) m.pictures.items (state_of y) k l
+    (state : state_of y ≡ state_after (image_in x.source) (state_of x) (frame_at m.front) (singles_in m.singles) m.pictures.items) where
+  makes_next : Makes o.source.limits (bytes_in o.source) (image_in o.source) (state_of x) (frame_at m.front) (singles_in m.singles) m.pictures.items (state_of y) k l
   makes_next =
-      subst (λ (t : State). Makes o.source.limits (bytes_in o.source) (image_in o.source) (state_of x) (frame_at m.front) m.pictures.items t k l) (sym (state ∙ ap (λ (s : Source). state_after (image_in s) (state_of x) (frame_at m.front) m.pictures.items) source))
-      (subst (λ (s : Source). Makes s.limits (bytes_in s) (image_in s) (state_of x) (frame_at m.front) m.pictures.items (state_after (image_in s) (state_of x) (frame_at m.front) m.pictures.items) k l) source goes)
+      subst (λ (t : State). Makes o.source.limits (bytes_in o.source) (image_in o.source) (state_of x) (frame_at m.front) (singles_in m.singles) m.pictures.items t k l) (sym (state ∙ ap (λ (s : Source). state_after (image_in s) (state_of x) (frame_at m.front) (singles_in m.singles) m.pictures.items) source))
+      (subst (λ (s : Source). Makes s.limits (bytes_in s) (image_in s) (state_of x) (frame_at m.front) (singles_in m.singles) m.pictures.items (state_after (image_in s) (state_of x) (frame_at m.front) (singles_in m.singles) m.pictures.items) k l) source goes)
 
   pub passes_more : is_displayed (frame_of m.front.header) ≡ false → Passes o.source.limits (bytes_in o.source) (image_in o.source) (state_of o) n (hidden ++ frame_at m.front ∷ []) (state_of y) l
-  passes_more none = one_more o.source.limits (bytes_in o.source) (image_in o.source) (state_of o) (state_of x) (state_of y) n k l hidden (frame_at m.front) m.pictures.items passes makes_next none
+  passes_more none = one_more o.source.limits (bytes_in o.source) (image_in o.source) (state_of o) (state_of x) (state_of y) n k l hidden (frame_at m.front) (singles_in m.singles) m.pictures.items passes makes_next none
 
   pub goes_on : is_displayed (frame_of m.front.header) ≡ false → y.is_done ≡ false
   goes_on none = ap (λ (s : State). s.done) state ∙ not_final (frame_of m.front.header) none
@@ -140,7 +142,8 @@ module _ (o x y : FrameDecoder) (m : Made) (n k l : ℕ) (hidden : List FrameAt)
     steps = k;
     passes = passes;
     frame = frame_at m.front;
-    makes = subst (λ (gs : List (Grid ℤ)). Makes o.source.limits (bytes_in o.source) (image_in o.source) (state_of x) (frame_at m.front) gs (state_of y) k l) (sym shown.channels) makes_next;
+    singles = singles_in m.singles;
+    makes = subst (λ (gs : List (Grid ℤ)). Makes o.source.limits (bytes_in o.source) (image_in o.source) (state_of x) (frame_at m.front) (singles_in m.singles) gs (state_of y) k l) (sym shown.channels) makes_next;
     displayed = shown.displayed;
     duration = shown.duration;
     timecode = shown.timecode;

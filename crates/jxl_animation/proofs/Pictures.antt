@@ -1,7 +1,7 @@
 -- The pictures that frames make, with all channels.
-use Rattle.std.proofs.Common.{◌≡◌, ℤ, Bool, true, false, List, Option, Result, Ok, Err, Some, None, refl, subst}
-use Rattle.std.specs.Prelude.{IfOk, MatchBool, if◌then◌else◌, is_some, not, ◌&&◌, ◌||◌}
-use Rattle.std.specs.Global.{Vec}
+use Rattle.std.proofs.Common.{◌≡◌, ℤ, Bool, true, false, List, Option, Some, None, refl, subst}
+use Rattle.std.specs.Prelude.{MatchBool, if◌then◌else◌, is_some, not, ◌&&◌, ◌||◌}
+use Rattle.std.specs.Float.{Float}
 use Rattle.std.specs.List.{list_all}
 use Rattle.jxlm_base.specs.Grid.{Grid}
 use Rattle.jxl_image_header.specs.Images.{Image}
@@ -44,17 +44,29 @@ not_taken : (b : Bool) (P Q : Type 0) → b ≡ false → Q → MatchBool b P Q
 not_taken true P Q e q = let bad : ⊥ = cc in absurd bad
 not_taken false P Q e q = q
 
-pub composed : {E : Type 0} (image : Image) (h : Frame) (slots : Slots) (channels given : List (Grid ℤ)) (r : Result (Vec (Grid ℤ)) E) → is_taken h ≡ false → given ≡ channels → IfOk r (λ v. IsComposed image h slots given v.items) →
-    IfOk r (λ v. IsPictureOf image h slots channels v.items)
-composed image h slots channels given (Ok v) isnt is made = not_taken (is_taken h) (v.items ≡ channels) (IsComposed image h slots channels v.items) isnt (subst (λ (gs : List (Grid ℤ)). IsComposed image h slots gs v.items) is made)
-composed image h slots channels given (Err e) isnt is made = tt
+is_whole_frame : (b : Bool) (P Q : Type 0) → b ≡ true → P → MatchBool b P Q
+is_whole_frame true P Q e p = p
+is_whole_frame false P Q e p = let bad : ⊥ = cc in absurd bad
+
+abbrev no_values : Option (List (Grid Float))
+no_values = None
+
+pub taken : (image : Image) (h : Frame) (slots : Slots) (channels : List (Grid ℤ)) → is_taken h ≡ true → IsPictureOf image h slots channels None channels
+taken image h slots channels e =
+    is_whole_frame (is_taken h) ((channels ≡ channels) × (no_values ≡ None)) ((values : List (Grid Float)) × (no_values ≡ Some values) × IsComposed image h slots channels values channels) e (refl, refl)
+
+pub composed : (image : Image) (h : Frame) (slots : Slots) (channels given : List (Grid ℤ)) (values : List (Grid Float)) (pictures : List (Grid ℤ)) → is_taken h ≡ false → given ≡ channels → IsComposed image h slots given values pictures →
+    IsPictureOf image h slots channels (Some values) pictures
+composed image h slots channels given values pictures isnt is made =
+    not_taken (is_taken h) ((pictures ≡ channels) × (Some values ≡ None)) ((vs : List (Grid Float)) × (Some values ≡ Some vs) × IsComposed image h slots channels vs pictures) isnt
+    (values, refl, subst (λ (gs : List (Grid ℤ)). IsComposed image h slots gs values pictures) is made)
 
 size_of_picture : (saved : Bool) (frame size : Size) → saved ≡ false → size ≡ (if saved then frame else size)
 size_of_picture true frame size e = cc
 size_of_picture false frame size e = refl
 
-pub composed_sides : {E : Type 0} (image : Image) (h : Frame) → has_shifts image ≡ false → (r : Result (Vec (Grid ℤ)) E) → is_taken h ≡ false → IfOk r (λ v. AreOfSize (channel_count image) image.size v.items) →
-    IfOk r (λ v. AreChannels image (picture_size image.size h) v.items)
-composed_sides image h none (Ok v) isnt are =
-    subst (λ (z : Size). AreChannels image z v.items) (size_of_picture (is_saved h) (frame_size image.size h) image.size (either_false (is_saved h) (is_whole h) isnt).0) (of_one_size image image.size v.items none are)
-composed_sides image h none (Err e) isnt are = tt
+pub composed_size : (size : Size) (h : Frame) → is_taken h ≡ false → size ≡ picture_size size h
+composed_size size h isnt = size_of_picture (is_saved h) (frame_size size h) size (either_false (is_saved h) (is_whole h) isnt).0
+
+pub composed_sides : (image : Image) (h : Frame) (pictures : List (Grid ℤ)) → has_shifts image ≡ false → is_taken h ≡ false → AreOfSize (channel_count image) image.size pictures → AreChannels image (picture_size image.size h) pictures
+composed_sides image h pictures none isnt are = subst (λ (z : Size). AreChannels image z pictures) (composed_size image.size h isnt) (of_one_size image image.size pictures none are)

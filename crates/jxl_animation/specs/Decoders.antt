@@ -7,6 +7,7 @@ use Rattle.jxl_picture.specs.Limits.{channel_count}
 use Rattle.jxl_picture.specs.Orientations.{IsUpright}
 use Rattle.jxl_picture.specs.declared.limits.Limits.{Limits}
 use Rattle.jxl_patches.specs.SavedParts.{slots_of}
+use Rattle.jxl_patches.specs.Slots.{HoldSingles}
 use Rattle.jxl_lossless.specs.Saved.{HoldChannels}
 use Rattle.jxl_lossless.specs.declared.error.FileError.TheVariants as files
 use Rattle.jxl_layers.specs.Openings.{Opens}
@@ -42,6 +43,7 @@ pub record IsReadyState (x : Source) (s : State) : Type 0 where
   pub inside : s.start ≤ length (bytes_in x)
   pub within : s.used ≤ x.limits.pixels
   pub held : HoldChannels (image_in x) s.slots
+  pub singles : HoldSingles s.slots
 
 pub record IsReadyDecoder (x : FrameDecoder) : Type 0 where
   pub source : IsReadySource x.source

@@ -1,5 +1,6 @@
 -- The frames of a codestream, one after another, and what each makes (ISO/IEC 18181-1, codestream; frame header).
-use Rattle.std.specs.Prelude.{◌≡◌, ℕ, ◌+◌, ◌-◌, ◌≤◌, ℤ, List, [], ◌∷◌, ◌++◌, drop, Bool, true, false, None, Some}
+use Rattle.std.specs.Prelude.{◌≡◌, ℕ, ◌+◌, ◌-◌, ◌≤◌, ℤ, List, [], ◌∷◌, ◌++◌, drop, Bool, true, false, Option, None, Some}
+use Rattle.std.specs.Float.{Float}
 use Rattle.jxlm_base.specs.Grid.{Grid}
 use Rattle.jxlm_bits.specs.ErrorKind.{UnlessMemory, kind_of}
 use Rattle.jxl_coding.specs.Parse.{decoder_at}
@@ -39,10 +40,10 @@ first_state start = record { slots = no_slots; start = start; used = 0; done = f
 abbrev pub used_before : Size → ℕ → Frame → ℕ
 used_before size used h = used + (cells_of size - cells_of (frame_size size h))
 
--- where the decoder is after a frame that made these channels
-abbrev pub state_after : Image → State → FrameAt → List (Grid ℤ) → State
-state_after image s f pictures = record {
-  slots = slots_after image.size f.header s.slots pictures;
+-- where the decoder is after a frame that made these channels, from these values if it was blended
+abbrev pub state_after : Image → State → FrameAt → Option (List (Grid Float)) → List (Grid ℤ) → State
+state_after image s f singles pictures = record {
+  slots = slots_after image.size f.header s.slots singles pictures;
   start = f.start + end_of f.entries;
   used = used_before image.size s.used f.header + cells_of (frame_size image.size f.header);
   done = is_final f.header;
@@ -65,18 +66,18 @@ module _ (limits : Limits) (bytes : List ℕ) (image : Image) where
 
   -- The next frame is decoded, with patches of what the slots hold, and makes these channels; the decoder goes from state s to t,
   -- and the steps in trees from n to m.
-  pub record Makes (s : State) (f : FrameAt) (pictures : List (Grid ℤ)) (t : State) (n m : ℕ) : Type 0 where
+  pub record Makes (s : State) (f : FrameAt) (singles : Option (List (Grid Float))) (pictures : List (Grid ℤ)) (t : State) (n m : ℕ) : Type 0 where
     pub comes : ComesNext s f
     pub channels : List (Grid ℤ)
     pub decoded : IsFrame (entropy decoder_at) image s.slots bytes f channels n m
-    pub made : IsPictureOf image f.header s.slots channels pictures
-    pub after : t ≡ state_after image s f pictures
+    pub made : IsPictureOf image f.header s.slots channels singles pictures
+    pub after : t ≡ state_after image s f singles pictures
 
   -- From state s to state t the decoder passed these frames, none of which is shown.
   pub data Passes (s : State) (n : ℕ) : List FrameAt → State → ℕ → Type 0 where
     NoFrame : Passes s n [] s n
-    OneMore : (fs : List FrameAt) (t : State) (m : ℕ) (f : FrameAt) (pictures : List (Grid ℤ)) (u : State) (k : ℕ) → Passes s n fs t m →
-        Makes t f pictures u m k → is_displayed f.header ≡ false → Passes s n (fs ++ f ∷ []) u k
+    OneMore : (fs : List FrameAt) (t : State) (m : ℕ) (f : FrameAt) (singles : Option (List (Grid Float))) (pictures : List (Grid ℤ)) (u : State) (k : ℕ) → Passes s n fs t m →
+        Makes t f singles pictures u m k → is_displayed f.header ≡ false → Passes s n (fs ++ f ∷ []) u k
 
   -- The next picture that is shown, after frames that are not: it has the channels that its frame makes.
   pub record ShowsNext (s : State) (shown : ShownFrame) (t : State) (n m : ℕ) : Type 0 where
@@ -85,7 +86,8 @@ module _ (limits : Limits) (bytes : List ℕ) (image : Image) where
     pub steps : ℕ
     pub passes : Passes s n hidden middle steps
     pub frame : FrameAt
-    pub makes : Makes middle frame shown.channels.items t steps m
+    pub singles : Option (List (Grid Float))
+    pub makes : Makes middle frame singles shown.channels.items t steps m
     pub displayed : is_displayed frame.header ≡ true
     pub duration : shown.duration ≡ frame.header.frame_use.duration
     pub timecode : shown.timecode ≡ frame.header.frame_use.timecode

@@ -13,14 +13,15 @@ ghost use Rattle.jxl_picture.specs.Pictures.{AreChannels, IsWhole};
 ghost use Rattle.jxl_picture.specs.declared.limits.Limits.{Limits};
 ghost use Rattle.jxl_codestream.specs.FrontParts.{IsReadyFrame, bytes_if, frame_at};
 ghost use Rattle.jxl_codestream.specs.Fronts.{end_of};
-ghost use Rattle.jxl_patches.specs.SavedParts.{slots_of};
+ghost use Rattle.jxl_patches.specs.SavedParts.{singles_in, slots_of};
 ghost use Rattle.jxl_lossless.specs.Frames.{IsFrame};
-ghost use Rattle.jxl_layers.specs.Compositions.{IsPictureOf, is_final as the_is_final, picture_size as the_picture_size, slots_after};
+ghost use Rattle.jxl_layers.specs.Compositions.{AreSinglesIf, IsPictureOf, is_final as the_is_final, picture_size as the_picture_size, slots_after};
 ghost use Rattle.jxl_layers.specs.Refusals.{composition_refusal as the_composition_refusal};
 ghost use Rattle.jxl_animation.specs.Files.{FileNotOpened, FrameOfFileFails, HasFewerFrames, IsFrameOfFile};
 ghost use Rattle.jxl_animation.specs.Inner.Readings.{IsShownIf};
 
 use crate::error::AnimationError;
+use jxl_blending::singles::Singles;
 use jxl_codestream::error::FrontError;
 use jxl_codestream::frame::{FrameFront, FrameStart};
 use jxl_coding::decoder::EntropyDecoder;
@@ -85,11 +86,19 @@ pub struct FrameDecoder<'a> {
     is_done: bool,
 }
 
-// What the next frame makes: its channels, or those of a picture.
+// What the next frame makes: its channels, or those of a picture, and what the samples of a blended picture stood for.
 #[derive(Drop)]
 struct Made {
     front: FrameFront,
     pictures: Vec<AlignedGrid<i32>>,
+    singles: Option<Vec<Singles>>,
+}
+
+// The same without the frame.
+#[derive(Drop)]
+struct Drawn {
+    pictures: Vec<AlignedGrid<i32>>,
+    singles: Option<Vec<Singles>>,
 }
 
 // Copies of these channels.
@@ -141,14 +150,16 @@ fn copy_of_profile(alloc: Global, profile: &Option<Vec<u8>>) -> Result<Option<Ve
 }
 
 // Saves what a frame made in a picture of this size, if others may use it.
-fn keep(slots: &mut SavedFrames, header: &FrameHeader, size: Size, pictures: Vec<AlignedGrid<i32>>)
-    ensures { slots_of slots.new ≡ slots_after size (frame_of header.now) (slots_of slots.old) pictures.items }
+fn keep(slots: &mut SavedFrames, header: &FrameHeader, size: Size, drawn: Drawn)
+    ensures { slots_of slots.new ≡ slots_after size (frame_of header.now) (slots_of slots.old)
+        (singles_in drawn.singles) drawn.pictures.items }
 {
     if !is_kept(header) {
         return;
     }
     let slot = header.frame_use.save_as_reference;
-    slots.save(slot, picture_size(header, size), pictures);
+    let Drawn { pictures, singles } = drawn;
+    slots.save_with(slot, picture_size(header, size), pictures, singles);
 }
 
 // Saves a copy of it, if others may use it.
@@ -158,16 +169,17 @@ fn keep_copy(
     header: &FrameHeader,
     size: Size,
     pictures: &[AlignedGrid<i32>],
+    singles: Option<Vec<Singles>>,
 ) -> Result<(), OutOfMemory>
     ensures ok { IfOk result (λ _. slots_of slots.new
-        ≡ slots_after size (frame_of header.now) (slots_of slots.old) pictures.now) }
+        ≡ slots_after size (frame_of header.now) (slots_of slots.old) (singles_in singles) pictures.now) }
     ensures err { IfErr result (λ _. slots_of slots.new ≡ slots_of slots.old) }
 {
     if !is_kept(header) {
         return Ok(());
     }
-    let copy = copies(alloc, pictures)?;
-    keep(slots, header, size, copy);
+    let pictures = copies(alloc, pictures)?;
+    keep(slots, header, size, Drawn { pictures, singles });
     Ok(())
 }
 
@@ -177,18 +189,19 @@ fn keep_and_show(
     slots: &mut SavedFrames,
     header: &FrameHeader,
     size: Size,
-    pictures: Vec<AlignedGrid<i32>>,
+    drawn: Drawn,
 ) -> Result<Option<ShownFrame>, OutOfMemory>
     ensures ok { IfOk result (λ _. slots_of slots.new
-        ≡ slots_after size (frame_of header.now) (slots_of slots.old) pictures.items) }
-    ensures shown { IfOk result (IsShownIf (frame_of header.now) pictures.items) }
+        ≡ slots_after size (frame_of header.now) (slots_of slots.old) (singles_in drawn.singles) drawn.pictures.items) }
+    ensures shown { IfOk result (IsShownIf (frame_of header.now) drawn.pictures.items) }
     ensures err { IfErr result (λ _. slots_of slots.new ≡ slots_of slots.old) }
 {
     if !is_displayed(header) {
-        keep(slots, header, size, pictures);
+        keep(slots, header, size, drawn);
         return Ok(None);
     }
-    keep_copy(alloc, slots, header, size, &pictures)?;
+    let Drawn { pictures, singles } = drawn;
+    keep_copy(alloc, slots, header, size, &pictures, singles)?;
     Ok(Some(ShownFrame {
         duration: header.frame_use.duration,
         timecode: header.frame_use.timecode,
@@ -363,21 +376,30 @@ impl<'a> FrameDecoder<'a> {
         alloc: Global,
         header: &FrameHeader,
         channels: Vec<AlignedGrid<i32>>,
-    ) -> Result<Vec<AlignedGrid<i32>>, OutOfMemory>
+    ) -> Result<Drawn, OutOfMemory>
         requires ready { IsReadyDecoder self.now }
         requires sides { AreChannels (image_in self.now.source)
             (frame_size self.now.source.image.size (frame_of header.now)) channels.items }
         requires composable { the_composition_refusal (image_in self.now.source) (frame_of header.now)
             (slots_of self.now.slots) ≡ None }
-        ensures made { IfOk result (λ v. IsPictureOf (image_in self.now.source) (frame_of header.now)
-            (slots_of self.now.slots) channels.items v.items) }
-        ensures sides { IfOk result (λ v. AreChannels (image_in self.now.source)
-            (the_picture_size self.now.source.image.size (frame_of header.now)) v.items) }
+        ensures made { IfOk result (λ d. IsPictureOf (image_in self.now.source) (frame_of header.now)
+            (slots_of self.now.slots) channels.items (singles_in d.singles) d.pictures.items) }
+        ensures sides { IfOk result (λ d. AreChannels (image_in self.now.source)
+            (the_picture_size self.now.source.image.size (frame_of header.now)) d.pictures.items) }
+        ensures singles { IfOk result (λ d. AreSinglesIf
+            (the_picture_size self.now.source.image.size (frame_of header.now)) (singles_in d.singles)) }
     {
         if is_taken(header) {
-            return Ok(channels);
+            return Ok(Drawn {
+                pictures: channels,
+                singles: None,
+            });
         }
-        compose(alloc, &self.source.image, header, &self.slots, &channels)
+        let composite = compose(alloc, &self.source.image, header, &self.slots, &channels)?;
+        Ok(Drawn {
+            pictures: composite.channels,
+            singles: Some(composite.singles),
+        })
     }
 
     // Reads, decodes and composes the next frame.
@@ -391,8 +413,13 @@ impl<'a> FrameDecoder<'a> {
     {
         let front = self.read_front(alloc)?;
         let channels = self.decode(alloc, &front, steps)?;
-        let pictures = self.picture(alloc, &front.header, channels)?;
-        Ok(Made { front, pictures })
+        let drawn = self.picture(alloc, &front.header, channels)?;
+        let Drawn { pictures, singles } = drawn;
+        Ok(Made {
+            front,
+            pictures,
+            singles,
+        })
     }
 
     // How many cells count after a frame.
@@ -440,14 +467,19 @@ impl<'a> FrameDecoder<'a> {
         ensures source { self.new.source ≡ self.old.source }
         ensures ready { IsReadyDecoder self.new }
         ensures state { IfOk result (λ _. state_of self.new ≡ state_after (image_in self.old.source)
-            (state_of self.old) (frame_at made.front) made.pictures.items) }
+            (state_of self.old) (frame_at made.front) (singles_in made.singles) made.pictures.items) }
         ensures shown { IfOk result (IsShownIf (frame_of made.front.header) made.pictures.items) }
         ensures whole { IfOk result (λ r. IfSome r (λ shown. IsWhole (image_in self.old.source) shown.channels.items)) }
         ensures err { IfErr result (λ _. state_of self.new ≡ state_of self.old) }
     {
-        let Made { front, pictures } = made;
+        let Made {
+            front,
+            pictures,
+            singles,
+        } = made;
         let size = self.source.image.size;
-        let shown = keep_and_show(alloc, &mut self.slots, &front.header, size, pictures)?;
+        let drawn = Drawn { pictures, singles };
+        let shown = keep_and_show(alloc, &mut self.slots, &front.header, size, drawn)?;
         self.pass(&front);
         Ok(shown)
     }

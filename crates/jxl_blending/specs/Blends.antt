@@ -1,61 +1,90 @@
--- What a sample of a frame makes of one of the picture below it (ISO/IEC 18181-1, frame header: BlendingInfo, BlendMode).
--- A sample or alpha v of a depth with the maximum m means v / m. Each formula of the standard stands here in whole numbers,
--- its value times the maximum of the channel as one fraction.
-use Rattle.std.specs.Prelude.{ℕ, if◌then◌else◌, ℤ, pos, negsuc, ◌+ℤ◌, ◌-ℤ◌, ◌*ℤ◌}
-use Rattle.std.specs.Int.{int_max, int_min, saturate_signed, w32}
-use Rattle.jxl_blending.specs.Fractions.{rounded_fraction}
-use Rattle.jxl_blending.specs.declared.fraction.Fraction.{Fraction}
+-- What a sample of a frame makes of one of the picture below it (ISO/IEC 18181-1, frame header: BlendingInfo, BlendMode). Each
+-- formula of the standard stands here in IEEE floats of 32 bits, by the operations and in the order of libjxl, so that results
+-- are the same to the last bit.
+use Rattle.std.specs.Prelude.{ℕ, if◌then◌else◌, ℤ, ◌+ℤ◌}
+use Rattle.std.specs.Int.{saturate_signed, w32}
+use Rattle.std.specs.Float.Ieee
+use Rattle.std.specs.Float.{Float, binary32}
+use Rattle.jxl_blending.specs.Scales.{loaded, shown, single_one, single_zero}
 use Rattle.jxl_blending.specs.declared.blending.BlendKind.{BlendKind}
 use Rattle.jxl_blending.specs.declared.blending.BlendKind.TheVariants.{Keep, Replace, Add, Alpha, Over, OverPremultiplied, AddByAlpha, Multiply}
 use Rattle.jxl_blending.specs.declared.blending.ChannelBlending.{ChannelBlending}
+use Rattle.jxl_blending.specs.declared.blending.Parts.{Parts}
 use Rattle.jxl_blending.specs.declared.blending.Point.{Point}
 
--- z, or 0 where z is negative
-abbrev pub natural_part : ℤ → ℕ
-natural_part (pos n) = n
-natural_part (negsuc n) = 0
+-- sums, differences, products and quotients, each rounded to the nearest float of 32 bits
+infix 60 ◌+ₛ◌ ◌-ₛ◌
+infix 70 ◌*ₛ◌ ◌/ₛ◌
+abbrev pub ◌+ₛ◌ : Float → Float → Float
+x +ₛ y = Ieee.add binary32 x y
+
+abbrev pub ◌-ₛ◌ : Float → Float → Float
+x -ₛ y = Ieee.sub binary32 x y
+
+abbrev pub ◌*ₛ◌ : Float → Float → Float
+x *ₛ y = Ieee.mul binary32 x y
+
+abbrev pub ◌/ₛ◌ : Float → Float → Float
+x /ₛ y = Ieee.div binary32 x y
+
+-- the number between 0 and 1 that is nearest to x; 1 for no number
+abbrev pub clamped : Float → Float
+clamped x = if Ieee.lt x single_one then (if Ieee.lt x single_zero then single_zero else x) else single_one
 
 -- what weighs the picture below: the frame's own sample for alpha and products, else its alpha
-abbrev pub factor : BlendKind → Point → ℤ
+abbrev pub factor : BlendKind → Parts → Float
 factor Alpha front = front.sample
 factor Multiply front = front.sample
 factor other front = front.alpha
 
 -- this factor, clamped between 0 and 1 if the header says so
-abbrev pub weight : ChannelBlending → Point → ℤ
-weight b front = if b.clamp then int_max (int_min (factor b.kind front) (pos b.one)) (pos 0) else factor b.kind front
+abbrev pub weight : ChannelBlending → Parts → Float
+weight b front = if b.clamp then clamped (factor b.kind front) else factor b.kind front
 
--- 1 - (1 - front)(1 - back), times one twice
-abbrev pub union : ℤ → ℤ → ℤ → ℤ
-union one front back = one *ℤ one -ℤ (one -ℤ front) *ℤ (one -ℤ back)
+-- 1 - (1 - front)(1 - back)
+abbrev pub union : Float → Float → Float
+union front back = single_one -ₛ ((single_one -ₛ front) *ₛ (single_one -ₛ back))
 
--- front alpha + back below (1 - alpha), where alpha is the frame's and below the picture's, times one twice
-abbrev pub over : ℤ → ℤ → ℤ → ℤ → ℤ → ℤ
-over one alpha front back below = front *ℤ alpha *ℤ one +ℤ back *ℤ below *ℤ (one -ℤ alpha)
+-- 1 / x where x is above 0, else 0
+abbrev pub reciprocal : Float → Float
+reciprocal x = if Ieee.lt single_zero x then single_one /ₛ x else single_zero
 
--- front + back (1 - alpha), times one
-abbrev pub premultiplied_over : ℤ → ℤ → ℤ → ℤ → ℤ
-premultiplied_over one alpha front back = front *ℤ one +ℤ back *ℤ (one -ℤ alpha)
+-- (front alpha + back below (1 - alpha)) / union, where alpha is the frame's and below the picture's; 0 where the union is 0 or less
+abbrev pub over : Float → Float → Float → Float → Float
+over alpha front back below = ((front *ₛ alpha) +ₛ ((back *ₛ below) *ₛ (single_one -ₛ alpha))) *ₛ reciprocal (union alpha below)
 
--- back + front alpha, times one
-abbrev pub sum_by_alpha : ℤ → ℤ → ℤ → ℤ → ℤ
-sum_by_alpha one alpha front back = back *ℤ one +ℤ front *ℤ alpha
+-- front + back (1 - alpha)
+abbrev pub premultiplied_over : Float → Float → Float → Float
+premultiplied_over alpha front back = front +ₛ (back *ₛ (single_one -ₛ alpha))
 
--- What a kind makes of a frame's sample, weighed by w, and one of the picture below, as a fraction. Samples over others are
--- divided by the new alpha; where it is 0 or below, they are 0.
-abbrev pub exact_fraction_by : BlendKind → ℕ → ℤ → Point → Point → Fraction
-exact_fraction_by Keep one w front back = record { numerator = back.sample; denominator = 1 }
-exact_fraction_by Replace one w front back = record { numerator = front.sample; denominator = 1 }
-exact_fraction_by Add one w front back = record { numerator = front.sample +ℤ back.sample; denominator = 1 }
-exact_fraction_by Alpha one w front back = record { numerator = union (pos one) w back.sample; denominator = one }
-exact_fraction_by Over one w front back = record { numerator = over (pos one) w front.sample back.sample back.alpha; denominator = natural_part (union (pos one) w back.alpha) }
-exact_fraction_by OverPremultiplied one w front back = record { numerator = premultiplied_over (pos one) w front.sample back.sample; denominator = one }
-exact_fraction_by AddByAlpha one w front back = record { numerator = sum_by_alpha (pos one) w front.sample back.sample; denominator = one }
-exact_fraction_by Multiply one w front back = record { numerator = back.sample *ℤ w; denominator = one }
+-- back + front alpha
+abbrev pub sum_by_alpha : Float → Float → Float → Float
+sum_by_alpha alpha front back = back +ₛ (front *ₛ alpha)
 
-abbrev pub exact_fraction : ChannelBlending → Point → Point → Fraction
-exact_fraction b front back = exact_fraction_by b.kind b.one (weight b front) front back
+-- what a kind makes of a frame's sample, weighed by w, and one of the picture below
+abbrev pub value_by : BlendKind → Float → Parts → Parts → Float
+value_by Keep w front back = back.sample
+value_by Replace w front back = front.sample
+value_by Add w front back = back.sample +ₛ front.sample
+value_by Alpha w front back = union w back.sample
+value_by Over w front back = over w front.sample back.sample back.alpha
+value_by OverPremultiplied w front back = premultiplied_over w front.sample back.sample
+value_by AddByAlpha w front back = sum_by_alpha w front.sample back.sample
+value_by Multiply w front back = back.sample *ₛ w
 
--- the number of 32 bits nearest to this fraction
+abbrev pub blended_value : ChannelBlending → Parts → Parts → Float
+blended_value b front back = value_by b.kind (weight b front) front back
+
+-- what a sample and its alpha stand for
+abbrev pub parts_of : ChannelBlending → Point → Parts
+parts_of b p = record { sample = loaded b.samples p.sample; alpha = loaded b.alpha p.alpha }
+
+-- The same of whole samples: those that are kept, replaced or added are exact, others are the nearest to what was made.
+abbrev pub sample_by : BlendKind → ChannelBlending → Point → Point → ℤ
+sample_by Keep b front back = back.sample
+sample_by Replace b front back = front.sample
+sample_by Add b front back = saturate_signed w32 (front.sample +ℤ back.sample)
+sample_by other b front back = shown b.samples (blended_value b (parts_of b front) (parts_of b back))
+
 abbrev pub blended_sample : ChannelBlending → Point → Point → ℤ
-blended_sample b front back = saturate_signed w32 (rounded_fraction (exact_fraction b front back))
+blended_sample b front back = sample_by b.kind b front back

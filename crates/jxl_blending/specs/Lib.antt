@@ -1,6 +1,6 @@
-pub mod Fractions
+pub mod Scales
+pub mod SingleGrids
 pub mod Blends
 pub mod Overlaps
 pub mod Choices
-pub mod BlendLaws
 pub mod Inner

@@ -2,9 +2,10 @@
 
 ghost use Rattle.std.specs.Prelude.{◌≡◌};
 ghost use Rattle.jxl_image_header.specs.Images.{image_of};
-ghost use Rattle.jxl_blending.specs.Choices.{colour_blending, colour_kind as the_colour_kind, extra_blending, extra_kind as the_extra_kind, is_premultiplied as the_is_premultiplied, one_by, one_of as the_one_of, one_of_extra as the_one_of_extra, over_kind as the_over_kind};
+ghost use Rattle.jxl_blending.specs.Choices.{alpha_blending, colour_blending, colour_kind as the_colour_kind, extra_blending, extra_clamp as the_extra_clamp, extra_kind as the_extra_kind, extra_scale as the_extra_scale, is_fine as the_is_fine, is_premultiplied as the_is_premultiplied, one_of as the_one_of, over_kind as the_over_kind, sample_scale as the_sample_scale, scale_of as the_scale_of};
 
 use crate::blending::{BlendKind, ChannelBlending};
+use crate::scale::Scale;
 use jxl_frame_header::blending::{BlendMode, BlendingInfo};
 use jxl_image_header::channel::BitDepth;
 use jxl_image_header::image::ImageHeader;
@@ -17,13 +18,44 @@ fn one_of(depth: BitDepth) -> u32
     ((1u64 << depth.bits_per_sample.min(32)) - 1) as u32
 }
 
-// The sample of an extra channel that stands for 1; 0 if there is no such channel.
-fn one_of_extra(image: &ImageHeader, channel: usize) -> u32
-    ensures { result ≡ the_one_of_extra (image_of image.now) channel }
+// Whether samples are rounded only once as they are loaded: where the colours have 23 bits or more.
+fn is_fine(image: &ImageHeader) -> bool
+    ensures { result ≡ the_is_fine (image_of image.now) }
+{
+    image.bit_depth.bits_per_sample >= 23
+}
+
+// What samples of a depth stand for.
+fn scale_of(depth: BitDepth, fine: bool) -> Scale
+    ensures { result ≡ the_scale_of depth fine }
+{
+    if depth.exp_bits != 0 {
+        Scale::Floats
+    } else if fine {
+        Scale::Fine(one_of(depth))
+    } else {
+        Scale::coarse(one_of(depth))
+    }
+}
+
+// The same of an extra channel; of no bits if there is no such channel.
+fn extra_scale(image: &ImageHeader, channel: usize) -> Scale
+    ensures { result ≡ the_extra_scale (image_of image.now) channel }
 {
     match image.ec_info.get(channel) {
-        Some(channel) => one_of(channel.bit_depth),
-        None => 0,
+        Some(channel) => scale_of(channel.bit_depth, is_fine(image)),
+        None => Scale::Fine(0),
+    }
+}
+
+/// What the samples of a channel stand for, after this number of colours.
+pub fn sample_scale(image: &ImageHeader, colours: usize, channel: usize) -> Scale
+    ensures { result ≡ the_sample_scale (image_of image.now) colours channel }
+{
+    if channel < colours {
+        scale_of(image.bit_depth, is_fine(image))
+    } else {
+        extra_scale(image, channel - colours)
     }
 }
 
@@ -98,13 +130,13 @@ fn extra_kind(mode: BlendMode, own: bool, premultiplied: bool) -> BlendKind
     }
 }
 
-// The sample that stands for 1: of products that of the channel, else that of alpha.
-fn one_for(kind: BlendKind, own: u32, alpha: u32) -> u32
-    ensures { result ≡ one_by kind own alpha }
+// Whether the factor of an extra channel is clamped. libjxl exchanges the two where a channel is blended by alpha.
+fn extra_clamp(mode: BlendMode, clamp: bool) -> bool
+    ensures { result ≡ the_extra_clamp mode clamp }
 {
-    match kind {
-        BlendKind::Multiply => own,
-        _ => alpha,
+    match mode {
+        BlendMode::Blend => !clamp,
+        _ => clamp,
     }
 }
 
@@ -115,12 +147,10 @@ impl ChannelBlending {
         ensures { result ≡ colour_blending (image_of image.now) info }
     {
         let premultiplied = is_premultiplied(image, info.alpha_channel);
-        let kind = colour_kind(info.mode, has_alpha(image), premultiplied);
-        let own = one_of(image.bit_depth);
-        let alpha = one_of_extra(image, info.alpha_channel as usize);
         ChannelBlending {
-            kind,
-            one: one_for(kind, own, alpha),
+            kind: colour_kind(info.mode, has_alpha(image), premultiplied),
+            samples: scale_of(image.bit_depth, is_fine(image)),
+            alpha: extra_scale(image, info.alpha_channel as usize),
             clamp: info.clamp,
         }
     }
@@ -130,16 +160,23 @@ impl ChannelBlending {
         ensures { result ≡ extra_blending (image_of image.now) info channel }
     {
         let premultiplied = is_premultiplied(image, info.alpha_channel);
-        let kind = extra_kind(
-            info.mode,
-            channel == info.alpha_channel as usize,
-            premultiplied,
-        );
-        let own = one_of_extra(image, channel);
-        let alpha = one_of_extra(image, info.alpha_channel as usize);
+        let own = channel == info.alpha_channel as usize;
         ChannelBlending {
-            kind,
-            one: one_for(kind, own, alpha),
+            kind: extra_kind(info.mode, own, premultiplied),
+            samples: extra_scale(image, channel),
+            alpha: extra_scale(image, info.alpha_channel as usize),
+            clamp: extra_clamp(info.mode, info.clamp),
+        }
+    }
+
+    /// How the extra channel of this number is blended that is the alpha by which colours are.
+    pub fn of_alpha(image: &ImageHeader, info: BlendingInfo, channel: usize) -> ChannelBlending
+        ensures { result ≡ alpha_blending (image_of image.now) info channel }
+    {
+        ChannelBlending {
+            kind: BlendKind::Alpha,
+            samples: extra_scale(image, channel),
+            alpha: extra_scale(image, channel),
             clamp: info.clamp,
         }
     }

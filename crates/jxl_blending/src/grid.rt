@@ -1,11 +1,13 @@
 //! A channel of a frame, blended into that of the picture.
 
 ghost use Rattle.std.specs.Prelude.{◌≡◌, ℕ, ◌+◌, ◌<◌, ◌≤◌, get_or, length, pos};
-ghost use Rattle.jxlm_base.specs.Grid.{at};
+ghost use Rattle.jxlm_base.specs.Grid.{IsFull, at};
 ghost use Rattle.jxl_blending.specs.Overlaps.{IsBlended, SameSides};
+ghost use Rattle.jxl_blending.specs.SingleGrids.{singles_of};
 
 use crate::blending::ChannelBlending;
 use crate::overlap::Overlap;
+use crate::singles::Singles;
 use jxlm_base::grid::AlignedGrid;
 
 /// Where a frame lies: the column and the row of the picture on which its first sample lies. They may be negative.
@@ -41,26 +43,27 @@ impl ChannelBlending {
         self,
         corner: Corner,
         front: Layer<'_>,
-        back_alpha: &AlignedGrid<i32>,
-        picture: &mut AlignedGrid<i32>,
+        back_alpha: &Singles,
+        picture: &mut Singles,
     )
         requires front { SameSides front.alpha.now front.samples.now }
-        requires back { SameSides back_alpha.now picture.old }
-        ensures { IsBlended self corner.x corner.y front.entry.samples.now front.entry.alpha.now back_alpha.now
-            picture.old picture.new }
+        requires back { SameSides (singles_of back_alpha.now) (singles_of picture.old) }
+        requires full { IsFull (singles_of picture.old) }
+        requires full_alpha { IsFull (singles_of back_alpha.now) }
+        ensures { IsBlended self corner.x corner.y front.entry.samples.now front.entry.alpha.now
+            (singles_of back_alpha.now) (singles_of picture.old) (singles_of picture.new) }
     {
-        let columns = Overlap::of_sides(corner.x, front.samples.width(), picture.width());
-        let rows = Overlap::of_sides(corner.y, front.samples.height(), picture.height());
+        let columns = Overlap::of_sides(corner.x, front.samples.width(), picture.width);
+        let rows = Overlap::of_sides(corner.y, front.samples.height(), picture.height);
         if columns.count == 0 {
             return;
         }
+        let width = picture.width;
         for j in 0..rows.count {
-            let y = rows.back + j;
             let samples = part(front.samples, columns.front, columns.count, rows.front + j);
             let alpha = part(front.alpha, columns.front, columns.count, rows.front + j);
-            let below = part(back_alpha, columns.back, columns.count, y);
-            let row = picture.get_row_mut(y);
-            self.blend_row(samples, alpha, below, columns.back, row);
+            let start = (rows.back + j) * width + columns.back;
+            self.blend_row(samples, alpha, &back_alpha.cells, start, &mut picture.cells);
         }
     }
 }

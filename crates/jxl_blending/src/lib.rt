@@ -4,8 +4,8 @@
 
 pub mod blending;
 pub mod choice;
-pub mod fraction;
 pub mod grid;
-pub mod laws;
 pub mod overlap;
 mod row;
+pub mod scale;
+pub mod singles;

@@ -4,6 +4,7 @@ use Rattle.std.specs.Prelude.{ℕ, ◌+◌, ◌-◌, ◌==◌, ◌&&◌, ◌||�
 use Rattle.std.specs.List.{list_all, list_any}
 use Rattle.std.specs.Option.{option_map_or, option_or}
 use Rattle.jxl_image_header.specs.Images.{Image, image_refusal}
+use Rattle.jxl_image_header.specs.declared.channel.BitDepth.{BitDepth}
 use Rattle.jxl_image_header.specs.declared.size.Size.{Size}
 use Rattle.jxl_image_header.specs.declared.refusal.Refusal.{Refusal as ImageRefusal}
 use Rattle.jxl_frame_header.specs.Blendings.{is_replace}
@@ -57,8 +58,16 @@ abbrev pub slots_refusal : Size → Slots → List BlendingInfo → Option Layer
 slots_refusal size slots [] = None
 slots_refusal size slots (b ∷ bs) = option_or (slot_refusal size slots b) (slots_refusal size slots bs)
 
+-- samples of a depth are floats of fewer than 32 bits
+abbrev pub is_short : BitDepth → Bool
+is_short d = not (d.exp_bits == 0) && not (d.bits_per_sample == 32)
+
+-- those of colours or of an extra channel are
+abbrev pub has_short_floats : Image → Bool
+has_short_floats image = is_short image.bit_depth || list_any (λ c. is_short c.bit_depth) image.ec_info
+
 -- what of a frame cannot be composed with what the slots hold, the first that holds
 abbrev pub composition_refusal : Image → Frame → Slots → Option LayerError
 composition_refusal image h slots = if is_taken h then None else
-    if has_floats image then Some BlendedFloats else if has_shifts image then Some ShiftedChannels else
+    if has_short_floats image then Some BlendedFloats else if has_shifts image then Some ShiftedChannels else
     slots_refusal image.size slots (h.blending_info ∷ h.ec_blending_info)

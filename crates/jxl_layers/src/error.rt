@@ -3,7 +3,7 @@
 /// Why a frame is not composed with what the slots hold.
 #[derive(Clone, Copy, Debug, PartialEq, Eq, thiserror::Error)]
 pub enum LayerError {
-    /// Samples that are floats are blended.
+    /// Samples that are floats of fewer than 32 bits are blended.
     #[error("not supported: blended floats")]
     BlendedFloats,
     /// A frame that does not replace the whole picture has an extra channel of another size.

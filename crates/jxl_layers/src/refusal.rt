@@ -6,7 +6,7 @@ ghost use Rattle.std.specs.Option.{option_map_or};
 ghost use Rattle.jxl_image_header.specs.Images.{image_of};
 ghost use Rattle.jxl_frame_header.specs.Frames.{frame_of, has_floats as the_has_floats, has_shifts as the_has_shifts};
 ghost use Rattle.jxl_patches.specs.SavedParts.{slots_of};
-ghost use Rattle.jxl_layers.specs.Refusals.{animation_refusal as the_animation_refusal, composition_refusal as the_composition_refusal, is_other as the_is_other, layer_refusal as the_layer_refusal, slot_refusal as the_slot_refusal, slots_refusal as the_slots_refusal, use_refusal as the_use_refusal};
+ghost use Rattle.jxl_layers.specs.Refusals.{animation_refusal as the_animation_refusal, composition_refusal as the_composition_refusal, has_short_floats as the_has_short_floats, is_other as the_is_other, is_short as the_is_short, layer_refusal as the_layer_refusal, slot_refusal as the_slot_refusal, slots_refusal as the_slots_refusal, use_refusal as the_use_refusal};
 
 use crate::error::LayerError;
 use crate::layer::is_taken;
@@ -14,7 +14,7 @@ use jxl_frame_header::blending::BlendingInfo;
 use jxl_frame_header::frame::FrameHeader;
 use jxl_frame_header::place::Crop;
 use jxl_frame_header::refusal::Refusal;
-use jxl_image_header::channel::ExtraChannel;
+use jxl_image_header::channel::{BitDepth, ExtraChannel};
 use jxl_image_header::image::ImageHeader;
 use jxl_image_header::refusal::Refusal as ImageRefusal;
 use jxl_image_header::size::Size;
@@ -45,6 +45,26 @@ fn has_floats(image: &ImageHeader) -> bool
     ensures { result ≡ the_has_floats (image_of image.now) }
 {
     image.bit_depth.exp_bits != 0 || some_floats(&image.ec_info)
+}
+
+// Whether samples of a depth are floats of fewer than 32 bits.
+fn is_short(depth: BitDepth) -> bool
+    ensures { result ≡ the_is_short depth }
+{
+    depth.exp_bits != 0 && depth.bits_per_sample != 32
+}
+
+fn some_short(channels: &[ExtraChannel]) -> bool
+    ensures { result ≡ list_any (λ c. the_is_short c.bit_depth) channels.now }
+{
+    channels.iter().any(|channel| is_short(channel.bit_depth))
+}
+
+// Whether those of colours or of an extra channel are.
+fn has_short_floats(image: &ImageHeader) -> bool
+    ensures { result ≡ the_has_short_floats (image_of image.now) }
+{
+    is_short(image.bit_depth) || some_short(&image.ec_info)
 }
 
 fn some_shifted(channels: &[ExtraChannel]) -> bool
@@ -147,7 +167,7 @@ pub fn composition_refusal(
     if is_taken(header) {
         return None;
     }
-    if has_floats(image) {
+    if has_short_floats(image) {
         return Some(LayerError::BlendedFloats);
     }
     if has_shifts(image) {

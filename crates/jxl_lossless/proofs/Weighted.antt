@@ -12,7 +12,7 @@ use Rattle.jxlm_transform.specs.Transforms.{OfPalette, OfRct, OfSqueeze, Transfo
 use Rattle.jxlm_transform.specs.declared.transform.Palette.{Palette}
 use Rattle.jxlm_predictor.specs.declared.predictor.Predictor.{Predictor}
 use Rattle.jxlm_predictor.specs.declared.predictor.Predictor.TheVariants as predictors
-use Rattle.jxlm_header.specs.Header.{Header, header}
+use Rattle.jxlm_header.specs.Header.{Header, file_header}
 use Rattle.jxl_modular.specs.declared.sections.Section.{Section}
 use Rattle.jxl_lossless.specs.Stills.{IsWeightedAt}
 use Rattle.jxl_lossless.specs.Inner.Weighted.{found_weighted, is_weighted, section_is_weighted, weighted, weighted_at}
@@ -62,7 +62,7 @@ stands_in (Err e) is = absurd (no is)
 
 -- one that is found is in the header
 pub stands_there : (bytes : List ℕ) (p : ℕ) → weighted_at bytes p ≡ true → IsWeightedAt bytes p
-stands_there bytes p e = stands_in (header.read bytes p) e
+stands_there bytes p e = stands_in (file_header.read bytes p) e
 
 module _ {X : Type 0} (test : X → Bool) where
   any_get : (xs : List X) (k : ℕ) (d : X) → k < length xs → test (get_or xs k d) ≡ true → list_any test xs ≡ true

@@ -16,7 +16,7 @@ use Rattle.jxlm_groups.specs.Cutting.{can_cut}
 use Rattle.jxlm_groups.specs.declared.part.SectionPart.{SectionPart}
 use Rattle.jxlm_groups.specs.declared.part.SectionPart.TheVariants as parts
 use Rattle.jxlm_groups.specs.declared.pass.Pass.{Pass}
-use Rattle.jxlm_header.specs.Header.{Header, header}
+use Rattle.jxlm_header.specs.Header.{Header, file_header}
 use Rattle.jxlm_tree.specs.Tree.{Config}
 use Rattle.jxlm_bits.specs.declared.decoder.DecoderError.{DecoderError}
 use Rattle.jxlm_samples.specs.Coded.{DecodingFails}
@@ -36,7 +36,7 @@ use Rattle.jxl_lossless.specs.declared.still.error.FrameError.TheVariants as err
 
 -- at bit p stands a Modular header with a palette of the weighted (self-correcting) predictor, by which files mean something else
 abbrev pub IsWeightedAt : List ℕ → ℕ → Type 0
-IsWeightedAt bytes p = (found : Found Header) × (header.read bytes p ≡ Ok found)
+IsWeightedAt bytes p = (found : Found Header) × (file_header.read bytes p ≡ Ok found)
     × (palette : Palette) × Any (λ t. t ≡ OfPalette palette) found.value.transform × (palette.d_pred ≡ SelfCorrecting)
 
 -- decoding the samples of a part from bit p returns this error

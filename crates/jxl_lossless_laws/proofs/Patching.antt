@@ -64,7 +64,7 @@ same_set (s ∷ ss) (o ∷ os) (suc k) f g z h = (z.0, same_set ss os k f g z.1 
 
 -- a frame with the same channels is saved in both
 pub same_saved : (some others : Slots) (k : ℕ) (size : Size) (gs hs : List (Grid ℤ)) → SameSlots some others → AreSameChannels gs hs → SameSlots (saved_in some k size gs) (saved_in others k size hs)
-same_saved some others k size gs hs z h = same_set some others k (record { size = size; channels = gs }) (record { size = size; channels = hs }) z (refl, h)
+same_saved some others k size gs hs z h = same_set some others k (record { size = size; channels = gs; singles = None }) (record { size = size; channels = hs; singles = None }) z (refl, h)
 
 pub same_sizes : (some others : Slots) → SameSlots some others → sizes_of some ≡ sizes_of others
 same_sizes [] [] z = refl

@@ -1,18 +1,22 @@
 //! What the four slots hold, in which frames are saved.
 
-ghost use Rattle.std.specs.Prelude.{◌≡◌, ◌<◌, [], None, Some, get_or, length, set};
+ghost use Rattle.std.specs.Prelude.{◌≡◌, ◌<◌, [], None, Some, get_or, length, option_copied, option_map, set};
 ghost use Rattle.jxl_patches.specs.Patched.{channel_of};
-ghost use Rattle.jxl_patches.specs.Slots.{no_slots, saved_in};
-ghost use Rattle.jxl_patches.specs.SavedParts.{frames_in, sizes_in, slots_of};
+ghost use Rattle.jxl_blending.specs.SingleGrids.{singles_of};
+ghost use Rattle.jxl_patches.specs.Slots.{no_slots, saved_in, saved_with, single_of};
+ghost use Rattle.jxl_patches.specs.SavedParts.{frames_in, sizes_in, singles_in, slots_of};
 
+use jxl_blending::singles::Singles;
 use jxl_image_header::size::Size;
 use jxlm_base::grid::AlignedGrid;
 
-/// A frame that was saved: how large it is, and its channels.
+/// A frame that was saved: how large it is, and its channels. Of a frame that was blended what these stood for before they
+/// were rounded.
 #[derive(Drop)]
 pub struct SavedFrame {
     pub size: Size,
     pub channels: Vec<AlignedGrid<i32>>,
+    pub singles: Option<Vec<Singles>>,
 }
 
 /// The frames that were saved: of each slot the frame that it holds, or none.
@@ -45,7 +49,25 @@ impl SavedFrames {
     pub fn save(&mut self, slot: u32, size: Size, channels: Vec<AlignedGrid<i32>>)
         ensures { slots_of self.new ≡ saved_in (slots_of self.old) slot size channels.items }
     {
-        keep(&mut self.slots, slot, SavedFrame { size, channels });
+        self.save_with(slot, size, channels, None);
+    }
+
+    /// The same, and of a frame that was blended what its samples stood for.
+    pub fn save_with(
+        &mut self,
+        slot: u32,
+        size: Size,
+        channels: Vec<AlignedGrid<i32>>,
+        singles: Option<Vec<Singles>>,
+    )
+        ensures { slots_of self.new ≡ saved_with (slots_of self.old) slot size channels.items (singles_in singles) }
+    {
+        let frame = SavedFrame {
+            size,
+            channels,
+            singles,
+        };
+        keep(&mut self.slots, slot, frame);
     }
 
     /// How large the frame is that a slot holds.
@@ -67,6 +89,19 @@ impl SavedFrames {
         match &self.slots[slot as usize] {
             Some(frame) => &frame.channels[channel],
             None => unreachable!(),
+        }
+    }
+
+    /// What the samples of a channel of this frame stood for, if it was blended.
+    pub fn singles(&self, slot: u32, channel: usize) -> Option<&Singles>
+        ensures { option_map singles_of (option_copied result) ≡ single_of (slots_of self.now) slot channel }
+    {
+        match self.slots.get(slot as usize) {
+            Some(Some(frame)) => match &frame.singles {
+                Some(singles) => singles.get(channel),
+                None => None,
+            },
+            _ => None,
         }
     }
 }

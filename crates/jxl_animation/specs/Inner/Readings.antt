@@ -6,7 +6,8 @@ use Rattle.jxl_picture.specs.Limits.{cells_of}
 use Rattle.jxl_picture.specs.Pictures.{AreChannels}
 use Rattle.jxl_codestream.specs.FrontParts.{IsReadyFrame, frame_at}
 use Rattle.jxl_codestream.specs.declared.frame.FrameFront.{FrameFront}
-use Rattle.jxl_layers.specs.Compositions.{is_displayed, picture_size}
+use Rattle.jxl_patches.specs.SavedParts.{singles_in}
+use Rattle.jxl_layers.specs.Compositions.{AreSinglesIf, is_displayed, picture_size}
 use Rattle.jxl_animation.specs.Decoders.{bytes_in, image_in, state_of}
 use Rattle.jxl_animation.specs.States.{Makes, state_after, used_before}
 use Rattle.jxl_animation.specs.declared.frames.FrameDecoder.{FrameDecoder}
@@ -21,12 +22,13 @@ used_after x f = used_before x.source.image.size x.used (frame_of f.header) + ce
 pub record IsMade (x : FrameDecoder) (m : Made) : Type 0 where
   pub frame : IsReadyFrame (bytes_in x.source) (image_in x.source) m.front
   pub sides : AreChannels (image_in x.source) (picture_size x.source.image.size (frame_of m.front.header)) m.pictures.items
+  pub singles : AreSinglesIf (picture_size x.source.image.size (frame_of m.front.header)) (singles_in m.singles)
   pub within : used_after x m.front ≤ x.source.limits.pixels
 
 -- the decoder goes on to this state, and the steps in trees are counted
 abbrev pub GoesOn : FrameDecoder → Made → ℕ → ℕ → Type 0
-GoesOn x m before after = Makes x.source.limits (bytes_in x.source) (image_in x.source) (state_of x) (frame_at m.front) m.pictures.items
-    (state_after (image_in x.source) (state_of x) (frame_at m.front) m.pictures.items) before after
+GoesOn x m before after = Makes x.source.limits (bytes_in x.source) (image_in x.source) (state_of x) (frame_at m.front) (singles_in m.singles) m.pictures.items
+    (state_after (image_in x.source) (state_of x) (frame_at m.front) (singles_in m.singles) m.pictures.items) before after
 
 -- A picture that is shown, of a frame with this header.
 pub record IsShownOf (h : Frame) (pictures : List (Grid ℤ)) (shown : ShownFrame) : Type 0 where

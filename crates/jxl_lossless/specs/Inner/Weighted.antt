@@ -7,7 +7,7 @@ use Rattle.jxlm_bits.specs.ErrorKind.{ErrorAt}
 use Rattle.jxlm_transform.specs.Transforms.{Transform, OfPalette}
 use Rattle.jxlm_predictor.specs.declared.predictor.Predictor.{Predictor}
 use Rattle.jxlm_predictor.specs.declared.predictor.Predictor.TheVariants.{SelfCorrecting}
-use Rattle.jxlm_header.specs.Header.{Header, header}
+use Rattle.jxlm_header.specs.Header.{Header, file_header}
 use Rattle.jxl_modular.specs.declared.sections.Section.{Section}
 
 -- the weighted (self-correcting) predictor
@@ -27,7 +27,7 @@ found_weighted (Err e) = false
 
 -- whether such a header stands at bit p; not where none can be read
 abbrev pub weighted_at : List ℕ → ℕ → Bool
-weighted_at bytes p = found_weighted (header.read bytes p)
+weighted_at bytes p = found_weighted (file_header.read bytes p)
 
 -- whether a section begins with such a header of its own
 abbrev pub section_is_weighted : Section → Bool

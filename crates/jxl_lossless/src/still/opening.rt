@@ -21,7 +21,7 @@ use jxlm_bits::decoder::Decoder;
 use jxlm_bits::error::Error;
 use jxlm_header::header::ModularHeader;
 use jxlm_predictor::predictor::Predictor;
-use jxlm_transform::param::ModularParams;
+use jxlm_transform::param::{ModularParams, PaletteTables};
 use jxlm_transform::transform::TransformInfo;
 use std::alloc::Global;
 
@@ -56,7 +56,7 @@ fn begins_weighted(alloc: Global, bits: Bitstream<'_>) -> Result<bool, OutOfMemo
     ensures { IfOk result (λ b. b ≡ weighted_at (bytes_of bits.entry) (position_of bits.entry)) }
 {
     let mut ahead = bits;
-    match ModularHeader::parse(alloc, &mut ahead) {
+    match ModularHeader::parse_by(alloc, &mut ahead, PaletteTables::OfDeltasToo) {
         Ok(header) => Ok(some_weighted(&header.transform)),
         Err(Error::Buffer(_)) => Err(OutOfMemory),
         Err(_) => Ok(false),
