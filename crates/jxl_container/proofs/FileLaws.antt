@@ -9,7 +9,6 @@ use Rattle.std.proofs.lemmas.List.Sums.{sum_by-append}
 use Rattle.std.proofs.lemmas.Bool.{lt-ltb, eqb-true, eq-eqb, ne_eqb}
 use Rattle.jxl_container.specs.Boxes.{word_at, box_from, outside}
 use Rattle.jxl_container.specs.Files.{is_whole, is_part, is_last, fault, Follow, contents, is_bare, has_signature, HasCodestream, HasLaterError, UnlessMemory, stream_of}
-use Rattle.jxl_container.specs.Metadata.{HasContents, first_contents}
 use Rattle.jxl_container.specs.Inner.Walks.{seen_in, part_of, contents_of, with_box, Boxed, Reach, Finishes}
 use Rattle.jxl_container.proofs.Faults.{any-counted}
 use Rattle.jxl_container.specs.declared.error.FileError.{FileError}
@@ -173,15 +172,3 @@ module _ (bytes : List ℕ) where
 
   pub one_later_error : (e f : Option FileError) → HasLaterError bytes e → HasLaterError bytes f → e ≡ f
   one_later_error e f h k = one_later (is_bare bytes) e f h k
-
-  abbrev Held : ℕ → ℕ → Option (List ℕ) → Type 0
-  Held kind head h = (boxes : List FileBox) × (error : Option FileError) × Follow bytes [] 12 boxes error × (h ≡ first_contents bytes kind head boxes)
-
-  one_held : (boxed : Bool) (kind head : ℕ) (h k : Option (List ℕ)) → MatchBool boxed (Held kind head h) (h ≡ None) → MatchBool boxed (Held kind head k) (k ≡ None) → h ≡ k
-  one_held true kind head h k x y =
-      let same = in_one_way [] 12 x.0 y.0 x.1 y.1 x.2 y.2 in
-      x.3 ∙ ap (first_contents bytes kind head) same.0 ∙ sym y.3
-  one_held false kind head h k x y = x ∙ sym y
-
-  pub one_contents : (kind head : ℕ) (h k : Option (List ℕ)) → HasContents bytes kind head h → HasContents bytes kind head k → h ≡ k
-  one_contents kind head h k x y = one_held (has_signature bytes) kind head h k x y

@@ -18,7 +18,7 @@ const WHOLE: u32 = 0x6a78_6c63;
 /// `jxlp`: a part of a codestream.
 const PART: u32 = 0x6a78_6c70;
 /// `brob`: a compressed box.
-const COMPRESSED: u32 = 0x6272_6f62;
+pub const COMPRESSED: u32 = 0x6272_6f62;
 /// `jbrd`: what rebuilds a JPEG file.
 const JPEG: u32 = 0x6a62_7264;
 /// What is added to the number of the last part.

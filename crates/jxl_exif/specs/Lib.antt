@@ -1,2 +1,3 @@
 pub mod Tiff
 pub mod Orientations
+pub mod Marks

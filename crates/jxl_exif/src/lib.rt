@@ -2,5 +2,6 @@
 #![tactic(auto)]
 
 pub mod laws;
+pub mod mark;
 pub mod orientation;
 mod tiff;

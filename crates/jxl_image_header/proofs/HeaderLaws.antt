@@ -1,15 +1,14 @@
 -- Headers are read exactly: the parser returns exactly what the bits at its position code.
-use Rattle.std.proofs.Common.{◌≡◌, ℕ, zero, suc, ◌+◌, ◌*◌, ◌/◌, ◌%◌, Bool, true, false, List, [], Ok, Err, Option, Some, None, Result, refl, ap, sym}
+use Rattle.std.proofs.Common.{ℕ, zero, suc, ◌+◌, ◌*◌, ◌/◌, ◌%◌, Bool, true, false, List, [], Option, Some, None, refl, ap, sym}
 use Rattle.std.specs.Prelude.{◌-◌, nat_lt, nat_le, codes, ◌==◌, ◌&&◌, ◌||◌, not, count_ones, sum}
-use Rattle.jxlm_bits.specs.Decoding.{Found}
-use Rattle.jxlm_bits.specs.ErrorKind.{ErrorAt, ErrorKind, BadEnum}
-use Rattle.jxlm_bits.specs.Grammar.{Grammar, IsExact, give, fail, ◌>>=◌}
+use Rattle.jxlm_bits.specs.ErrorKind.{ErrorKind, BadEnum}
+use Rattle.jxlm_bits.specs.Grammar.{Grammar, IsExact, give, fail}
 use Rattle.jxlm_bits.specs.declared.bits.U32Spec.TheVariants.{Const, Offset}
-use Rattle.jxlm_bits.proofs.GrammarLaws.{bind, found_same, none_found, exact-give, exact-fail, exact-number, exact-either, exact-repeated, exact-flag, exact-part, exact-u32}
+use Rattle.jxlm_bits.proofs.GrammarLaws.{bind, found_same, exact-give, exact-fail, exact-number, exact-either, exact-repeated, exact-flag, exact-part, exact-u32}
 use Rattle.jxl_image_header.specs.Fields.{groups, long, when, optional, bundle_follows, enum_number, value_or, variant, number_meant, number_where, ignored_bytes, extensions, name, here, zero_pad_to_byte}
 use Rattle.jxl_image_header.specs.Sizes.{side, size, width_at}
 use Rattle.jxl_image_header.specs.Channels.{fits_float, bit_depth, kind_of, is_alpha, is_spot_colour, is_cfa, extra_channel}
-use Rattle.jxl_image_header.specs.Colours.{coordinate, chromaticity, custom_primaries, white_of, white_point, primaries_of, primaries, function_of, transfer_function, space_of, is_grey, is_xyb, intent_of, colour_encoding, tone_mapping}
+use Rattle.jxl_image_header.specs.Colours.{coordinate, chromaticity, custom_primaries, white_of, white_point, primaries_of, primaries, function_of, transfer_function, space_of, is_grey, is_xyb, intent_of, colour_encoding, is_positive, is_up_to, linear_limit, tone_mapping}
 use Rattle.jxl_image_header.specs.declared.channel.ExtraChannelKind.TheVariants.{Alpha}
 use Rattle.jxl_image_header.specs.declared.colour.ColourSpace.TheVariants.{Rgb}
 use Rattle.jxl_image_header.specs.declared.colour.RenderingIntent.TheVariants.{Relative}
@@ -156,8 +155,10 @@ exact-colours there =
 exact-tone : (there : Bool) → IsExact (tone_mapping there)
 unfolding tone_mapping
 exact-tone there =
-    bind (exact-bundle_follows there) λ follows. bind (exact-when follows 0x5BF8 (exact-number 16)) λ a. bind (exact-when follows 0 (exact-number 16)) λ b.
-    bind (exact-when follows false exact-flag) λ c. bind (exact-when follows 0 (exact-number 16)) λ d.
+    bind (exact-bundle_follows there) λ follows. bind (exact-when follows 0x5BF8 (exact-number_where (codes "intensity_target") is_positive (exact-number 16))) λ a.
+    bind (exact-when follows 0 (exact-number_where (codes "min_nits") (is_up_to a) (exact-number 16))) λ b.
+    bind (exact-when follows false exact-flag) λ c.
+    bind (exact-when follows 0 (exact-number_where (codes "linear_below") (is_up_to (linear_limit c)) (exact-number 16))) λ d.
     exact-give (record { intensity_target = a; min_nits = b; relative_to_max_display = c; linear_below = d })
 
 exact-animation : IsExact animation
@@ -180,7 +181,7 @@ exact-image_header =
     bind (exact-when follows false exact-flag) λ more. bind (exact-when more 0 (exact-number 3)) λ o. bind (exact-when more None (exact-optional (exact-size false))) λ i.
     bind (exact-when more None (exact-optional (exact-size true))) λ p. bind (exact-when more None (exact-optional exact-animation)) λ a.
     bind (exact-when follows (record { bits_per_sample = 8; exp_bits = 0 }) exact-depth) λ d. bind (exact-when follows true exact-flag) λ n.
-    bind (exact-when follows [] (bind (exact-u32 (Const 0) (Const 1) (Offset 2 4) (Offset 1 12)) λ n. exact-repeated n extra_channel exact-channel)) λ extra.
+    bind (exact-when follows [] (bind (exact-number_where (codes "num_extra_channels") (λ n. nat_le n 256) (exact-u32 (Const 0) (Const 1) (Offset 2 4) (Offset 1 12))) λ n. exact-repeated n extra_channel exact-channel)) λ extra.
     bind (exact-when follows true exact-flag) λ xyb. bind (exact-colours follows) λ c. bind (exact-tone more) λ t. bind (exact-when follows 0 exact-extensions) λ e.
     bind (exact-matrices xyb) λ u. exact-give (record {
       size = size;

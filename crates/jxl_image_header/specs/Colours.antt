@@ -1,5 +1,5 @@
 -- Colour encodings and what the header says of brightness (ISO/IEC 18181-1, image header: ColourEncoding, ToneMapping).
-use Rattle.std.specs.Prelude.{ℕ, ◌*◌, ◌==◌, ◌&&◌, ◌||◌, nat_le, Bool, true, false, not, if◌then◌else◌, Option, Some, None, codes}
+use Rattle.std.specs.Prelude.{ℕ, ◌*◌, ◌==◌, ◌&&◌, ◌||◌, nat_le, nat_lt, Bool, true, false, not, if◌then◌else◌, Option, Some, None, codes}
 use Rattle.jxlm_bits.specs.Grammar.{Grammar, number, flag, u32, give, ◌>>=◌}
 use Rattle.jxlm_bits.specs.declared.bits.U32Spec.TheVariants.{Offset}
 use Rattle.jxl_image_header.specs.Fields.{number_where, enum_number, bundle_follows, variant, when}
@@ -98,12 +98,25 @@ colour_encoding there = do
   intent ← when explicit (variant (codes "RenderingIntent") intent_of) Relative
   give (record { want_icc = profile; colour_space = space; white_point = white; primaries = mixed; transfer_function = function; rendering_intent = intent })
 
--- brightness, as floats of 16 bits that are kept as their numbers: by default 255, 0, not relative, 0
+-- Floats of 16 bits are kept as their bits. From 0 on, the order of the bits is that of the numbers up to 0x7BFF; 0x7C00 is
+-- infinite, and those above are no numbers. 0x8000 is 0 again, and those above it are below 0, infinite or no numbers.
+-- a float that is above 0; one from 0 to this one
+abbrev pub is_positive : ℕ → Bool
+is_positive v = nat_lt 0 v && nat_lt v 0x7C00
+
+abbrev pub is_up_to : ℕ → ℕ → Bool
+is_up_to most v = nat_le v most || (v == 0x8000)
+
+-- the maximum of `linear_below`: 1 where it is relative to the display's maximum, else the greatest number
+abbrev pub linear_limit : Bool → ℕ
+linear_limit relative = if relative then 0x3C00 else 0x7BFF
+
+-- brightness, as floats of 16 bits: by default 255, 0, not relative, 0. The first is above 0, the second from 0 to the first.
 unfoldable pub tone_mapping : Bool → Grammar ToneMapping
 tone_mapping there = do
   follows ← bundle_follows there
-  target ← when follows (number 16) 0x5BF8
-  least ← when follows (number 16) 0
+  target ← when follows (number_where (codes "intensity_target") is_positive (number 16)) 0x5BF8
+  least ← when follows (number_where (codes "min_nits") (is_up_to target) (number 16)) 0
   relative ← when follows flag false
-  below ← when follows (number 16) 0
+  below ← when follows (number_where (codes "linear_below") (is_up_to (linear_limit relative)) (number 16)) 0
   give (record { intensity_target = target; min_nits = least; relative_to_max_display = relative; linear_below = below })

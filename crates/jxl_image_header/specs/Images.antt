@@ -1,5 +1,5 @@
 -- The image header (ISO/IEC 18181-1, image header: ImageMetadata and what is before and after it).
-use Rattle.std.specs.Prelude.{ℕ, ◌+◌, ◌/◌, ◌%◌, ◌==◌, ◌&&◌, nat_lt, List, [], ◌∷◌, Bool, true, false, if◌then◌else◌, Option, Some, None, is_some, codes}
+use Rattle.std.specs.Prelude.{ℕ, ◌+◌, ◌/◌, ◌%◌, ◌==◌, ◌&&◌, nat_le, nat_lt, List, [], ◌∷◌, Bool, true, false, if◌then◌else◌, Option, Some, None, is_some, codes}
 use Rattle.std.specs.Option.{option_or}
 use Rattle.jxlm_bits.specs.Grammar.{Grammar, number, flag, u32, give, repeated, ◌>>=◌}
 use Rattle.jxlm_bits.specs.declared.bits.U32Spec.TheVariants.{Const, Offset}
@@ -67,6 +67,10 @@ matrices xyb = do
   _ ← when (mask / 2 % 2 == 1) (ignored_bytes 110) tt
   when (mask / 4 == 1) (ignored_bytes 420) tt
 
+-- how many extra channels there are: at most 256, as level 10 allows
+abbrev pub channel_count : Grammar ℕ
+channel_count = number_where (codes "num_extra_channels") (λ n. nat_le n 256) (u32 (Const 0) (Const 1) (Offset 2 4) (Offset 1 12))
+
 -- The image header: the first 16 bits of each codestream; its size; how it is shown; how samples are stored; whether
 -- 16 bits are enough for all of decoding; channels beside the colours; what colours mean; which extensions there are.
 unfoldable pub image_header : Grammar Image
@@ -81,7 +85,7 @@ image_header = do
   animation ← when more (optional animation) None
   depth ← when follows bit_depth (record { bits_per_sample = 8; exp_bits = 0 })
   narrow ← when follows flag true
-  extra ← when follows (u32 (Const 0) (Const 1) (Offset 2 4) (Offset 1 12) >>= λ n. repeated n extra_channel) []
+  extra ← when follows (channel_count >>= λ n. repeated n extra_channel) []
   xyb ← when follows flag true
   colour ← colour_encoding follows
   tone ← tone_mapping more

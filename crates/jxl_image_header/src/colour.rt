@@ -3,11 +3,11 @@
 ghost use Rattle.std.specs.Prelude.{◌≡◌, ◌==◌, ◌||◌, ◌&&◌, not, nat_le, ◌*◌, true, codes};
 ghost use Rattle.jxlm_bits.specs.Grammar.{Reads, number as the_number, HasRead};
 ghost use Rattle.jxl_image_header.specs.Fields.{number_where, enum_number as the_enum_number, variant, when};
-ghost use Rattle.jxl_image_header.specs.Colours.{coordinate as the_coordinate, chromaticity, custom_primaries, white_of as the_white_of, white_point, primaries_of as the_primaries_of, primaries, function_of as the_function_of, transfer_function, space_of as the_space_of, is_grey as the_is_grey, is_xyb as the_is_xyb, intent_of as the_intent_of, colour_encoding, tone_mapping};
+ghost use Rattle.jxl_image_header.specs.Colours.{coordinate as the_coordinate, chromaticity, custom_primaries, white_of as the_white_of, white_point, primaries_of as the_primaries_of, primaries, function_of as the_function_of, transfer_function, space_of as the_space_of, is_grey as the_is_grey, is_xyb as the_is_xyb, intent_of as the_intent_of, colour_encoding, is_positive as the_is_positive, is_up_to as the_is_up_to, linear_limit as the_linear_limit, tone_mapping};
 ghost use Rattle.jxl_image_header.specs.declared.colour.ColourSpace.TheVariants.{Rgb};
 ghost use Rattle.jxl_image_header.specs.declared.colour.RenderingIntent.TheVariants.{Relative};
 
-use crate::fields::{Result, bundle_follows, enum_number, flag_if, number, number_if};
+use crate::fields::{Result, bundle_follows, enum_number, flag_if, number};
 use jxlm_bits::bits::{Bitstream, BitstreamError, U32Spec};
 
 /// A colour without its brightness.
@@ -433,8 +433,83 @@ impl ColourEncoding {
     }
 }
 
+/// Whether a float of 16 bits is above 0, and neither infinite nor no number.
+pub fn is_positive(value: u32) -> bool
+    ensures { result ≡ the_is_positive value }
+{
+    0 < value && value < 0x7C00
+}
+
+/// Whether a float of 16 bits is from 0 to `most`.
+pub fn is_up_to(most: u32, value: u32) -> bool
+    ensures { result ≡ the_is_up_to most value }
+{
+    value <= most || value == 0x8000
+}
+
+/// The maximum of `linear_below`, as a float of 16 bits: 1 if it is relative, else the greatest number.
+pub fn linear_limit(relative: bool) -> u32
+    ensures { result ≡ the_linear_limit relative }
+{
+    if relative { 0x3C00 } else { 0x7BFF }
+}
+
+// The maximum of the brightness in nits, by default 255: a float of 16 bits above 0.
+fn intensity_target(bits: &mut Bitstream<'_>, there: bool) -> Result<u32>
+    ensures { HasRead Reads (λ v. v) result bits.old bits.new
+        (when there (number_where (codes "intensity_target") the_is_positive (the_number 16)) 0x5BF8) }
+{
+    if !there {
+        return Ok(0x5BF8);
+    }
+    let value = number(bits, 16)?;
+    if is_positive(value) {
+        Ok(value)
+    } else {
+        let name = "intensity_target";
+        Err(BitstreamError::InvalidEnum { name, value })
+    }
+}
+
+// The minimum of the brightness in nits, by default 0: a float of 16 bits up to the maximum.
+fn min_nits(bits: &mut Bitstream<'_>, there: bool, most: u32) -> Result<u32>
+    ensures { HasRead Reads (λ v. v) result bits.old bits.new
+        (when there (number_where (codes "min_nits") (the_is_up_to most) (the_number 16)) 0) }
+{
+    if !there {
+        return Ok(0);
+    }
+    let value = number(bits, 16)?;
+    if is_up_to(most, value) {
+        Ok(value)
+    } else {
+        let name = "min_nits";
+        Err(BitstreamError::InvalidEnum { name, value })
+    }
+}
+
+// The brightness up to which nothing changes, by default 0: a float of 16 bits, if it is relative up to 1.
+fn linear_below(bits: &mut Bitstream<'_>, there: bool, relative: bool) -> Result<u32>
+    ensures { HasRead Reads (λ v. v) result bits.old bits.new
+        (when there (number_where (codes "linear_below") (the_is_up_to (the_linear_limit relative)) (the_number 16))
+        0) }
+{
+    if !there {
+        return Ok(0);
+    }
+    let value = number(bits, 16)?;
+    if is_up_to(linear_limit(relative), value) {
+        Ok(value)
+    } else {
+        let name = "linear_below";
+        Err(BitstreamError::InvalidEnum { name, value })
+    }
+}
+
 impl ToneMapping {
-    /// What the header says of brightness at the reader's position. The floats are not looked at.
+    /// What the header says of brightness at the reader's position. `InvalidEnum` for an intensity target that is not
+    /// above 0, for a minimum below 0 or above it, for a linear range below 0, or above 1 if it is relative, and for a
+    /// float that is infinite or no number.
     pub fn parse(bits: &mut Bitstream<'_>) -> Result<ToneMapping>
         ensures { HasRead Reads (λ v. v) result bits.old bits.new (tone_mapping true) }
     {
@@ -447,10 +522,10 @@ impl ToneMapping {
         ensures { HasRead Reads (λ v. v) result bits.old bits.new (tone_mapping there) }
     {
         let follows = bundle_follows(bits, there)?;
-        let intensity_target = number_if(bits, follows, 16, 0x5BF8)?;
-        let min_nits = number_if(bits, follows, 16, 0)?;
+        let intensity_target = intensity_target(bits, follows)?;
+        let min_nits = min_nits(bits, follows, intensity_target)?;
         let relative = flag_if(bits, follows, false)?;
-        let linear_below = number_if(bits, follows, 16, 0)?;
+        let linear_below = linear_below(bits, follows, relative)?;
         Ok(ToneMapping {
             intensity_target,
             min_nits,

@@ -6,7 +6,7 @@ ghost use Rattle.jxl_image_header.specs.Channels.{extra_channel};
 ghost use Rattle.jxl_image_header.specs.Fields.{number_where, optional, when};
 ghost use Rattle.jxl_image_header.specs.Inner.Groups.{extra_channels as the_extra_channels, weights as the_weights};
 ghost use Rattle.jxl_image_header.specs.Sizes.{size as the_size};
-ghost use Rattle.jxl_image_header.specs.Images.{image_of, animation as the_animation, matrices as the_matrices, image_header, channels_refusal as the_channels_refusal, image_refusal};
+ghost use Rattle.jxl_image_header.specs.Images.{image_of, animation as the_animation, channel_count as the_channel_count, matrices as the_matrices, image_header, channels_refusal as the_channels_refusal, image_refusal};
 ghost use Rattle.jxl_image_header.specs.declared.refusal.Refusal.TheVariants.{Xyb};
 
 use crate::channel::{BitDepth, ExtraChannel};
@@ -46,7 +46,7 @@ pub struct ImageHeader {
     pub bit_depth: BitDepth,
     /// Whether 16 bits are enough for each number while it is decoded.
     pub modular_16bit_buffers: bool,
-    /// The channels beside the colours.
+    /// The channels beside the colours, at most 256.
     pub ec_info: Vec<ExtraChannel>,
     /// Whether colours are stored as XYB.
     pub xyb_encoded: bool,
@@ -129,6 +129,24 @@ impl Animation {
     }
 }
 
+// How many extra channels there are.
+fn channel_count(bits: &mut Bitstream<'_>) -> Result<u32>
+    ensures { HasRead Reads (λ v. v) result bits.old bits.new the_channel_count }
+{
+    let value = bits.read_u32(
+        U32Spec::Const(0),
+        U32Spec::Const(1),
+        U32Spec::Offset(2, 4),
+        U32Spec::Offset(1, 12),
+    )?;
+    if value <= 256 {
+        Ok(value)
+    } else {
+        let name = "num_extra_channels";
+        Err(BitstreamError::InvalidEnum { name, value })
+    }
+}
+
 // This number of extra channels.
 fn read_channels(
     alloc: Global,
@@ -148,12 +166,7 @@ fn read_channels(
 fn extra_channels(alloc: Global, bits: &mut Bitstream<'_>) -> error::Result<Vec<ExtraChannel>>
     ensures { HasRead Parses (λ v. v.items) result bits.old bits.new the_extra_channels }
 {
-    let count = bits.read_u32(
-        U32Spec::Const(0),
-        U32Spec::Const(1),
-        U32Spec::Offset(2, 4),
-        U32Spec::Offset(1, 12),
-    )?;
+    let count = channel_count(bits)?;
     read_channels(alloc, bits, count)
 }
 

@@ -1,13 +1,13 @@
 -- Spellings of colours and of brightness.
 use Rattle.std.proofs.Common.{◌≡◌, ℕ, ◌<◌, List, Bool, true, false, Option, Some, None, inl, inr, ◌⊎◌, refl, sym, ap, subst, arith}
-use Rattle.std.specs.Prelude.{not, ◌*◌, ◌==◌, ◌&&◌, ◌||◌, nat_le, if◌then◌else◌, is_some, codes}
-use Rattle.std.proofs.lemmas.Bool.{and_parts, leb-true, false≢true}
+use Rattle.std.specs.Prelude.{not, ◌*◌, ◌==◌, ◌&&◌, ◌||◌, nat_le, nat_lt, if◌then◌else◌, is_some, codes}
+use Rattle.std.proofs.lemmas.Bool.{and_parts, eqb-true, leb-true, ltb-true, false≢true}
 use Rattle.jxlm_bits.specs.Grammar.{number, flag, u32}
 use Rattle.jxlm_bits.specs.declared.bits.U32Spec.TheVariants.{Offset}
 use Rattle.jxlm_bit_writer.specs.Writes.{Spells}
 use Rattle.jxlm_bit_writer.proofs.WriteLaws.{after, becomes, absent}
 use Rattle.jxl_image_header.specs.Fields.{when, bundle_follows, enum_number, variant}
-use Rattle.jxl_image_header.specs.Colours.{coordinate, chromaticity, custom_primaries, white_point, primaries, transfer_function, space_of, intent_of, is_grey, is_xyb, colour_encoding, tone_mapping}
+use Rattle.jxl_image_header.specs.Colours.{coordinate, chromaticity, custom_primaries, white_point, primaries, transfer_function, space_of, intent_of, is_grey, is_xyb, colour_encoding, is_positive, is_up_to, linear_limit, tone_mapping}
 use Rattle.jxl_image_header.specs.declared.colour.Chromaticity.{Chromaticity}
 use Rattle.jxl_image_header.specs.declared.colour.CustomPrimaries.{CustomPrimaries}
 use Rattle.jxl_image_header.specs.declared.colour.ColourSpace.{ColourSpace}
@@ -22,9 +22,9 @@ use Rattle.jxl_image_header.specs.declared.colour.RenderingIntent.{RenderingInte
 use Rattle.jxl_image_header.specs.declared.colour.RenderingIntent.TheVariants as intents
 use Rattle.jxl_image_header.specs.declared.colour.ColourEncoding.{ColourEncoding}
 use Rattle.jxl_image_header.specs.declared.colour.ToneMapping.{ToneMapping}
-use Rattle.jxl_image_header_write.specs.Writable.{is_chromaticity, is_usual_white, is_usual_primaries, is_usual_function, is_usual_intent, is_usual_space, is_unknown_space, is_white, are_primaries, is_function, is_colour, is_usual_colour}
+use Rattle.jxl_image_header_write.specs.Writable.{is_chromaticity, is_usual_white, is_usual_primaries, is_usual_function, is_usual_intent, is_usual_space, is_unknown_space, is_white, are_primaries, is_function, is_colour, is_tone, is_usual_colour}
 use Rattle.jxl_image_header_write.specs.Inner.Numbers.{white_coordinates, primaries_coordinates, exponent_of, IsWhiteNumber, IsPrimariesNumber, IsCurveNumber}
-use Rattle.jxl_image_header_write.proofs.Spellings.{present, meant, meant_if, variant_if}
+use Rattle.jxl_image_header_write.proofs.Spellings.{present, meant, meant_if, meant_when, variant_if}
 
 -- coordinates
 pub coordinate_present : (t : Bool) (v : ℕ) (a b : List ℕ) → t ≡ true → Spells a b (u32 (Offset 0 19) (Offset 524288 19) (Offset 1048576 20) (Offset 2097152 21)) v → Spells a b (coordinate t) v
@@ -175,13 +175,42 @@ colour_spelled t follows c b0 b1 b2 b3 b4 b5 b6 b7 u p s w m f i =
       ),
     ))
 
+-- what brightness is that the reader takes
+pub record ToneParts (x : ToneMapping) : Type 0 where
+  pub target : is_positive x.intensity_target ≡ true
+  pub least : is_up_to x.intensity_target x.min_nits ≡ true
+  pub below : is_up_to (linear_limit x.relative_to_max_display) x.linear_below ≡ true
+
+pub tone_parts : (x : ToneMapping) → is_tone x ≡ true → ToneParts x
+tone_parts x h =
+    let s2 = and_parts (is_positive x.intensity_target && is_up_to x.intensity_target x.min_nits) (is_up_to (linear_limit x.relative_to_max_display) x.linear_below) h in
+    let s1 = and_parts (is_positive x.intensity_target) (is_up_to x.intensity_target x.min_nits) s2.0 in
+    record { target = s1.0; least = s1.1; below = s2.1 }
+
+-- such a float has 16 bits
+pub positive_low : (v : ℕ) → is_positive v ≡ true → v < 0x8000
+positive_low v h = let t = and_parts (nat_lt 0 v) (nat_lt v 0x7C00) h in let low = ltb-true v 0x7C00 t.1 in omega (arith, low)
+
+pub limit_low : (relative : Bool) → linear_limit relative < 0x8000
+limit_low true = omega arith
+limit_low false = omega arith
+
+pub up_to_fits : (most v : ℕ) → most < 0x8000 → is_up_to most v ≡ true → v < 65536
+up_to_fits most v low h = by (nat_le v most) refl h where
+  by : (t : Bool) → nat_le v most ≡ t → (t || (v == 0x8000)) ≡ true → v < 65536
+  by true e k = let le = leb-true v most e in omega (arith, le, low)
+  by false e k = let is = eqb-true v 0x8000 k in omega (arith, is)
+
 -- brightness, field by field
-pub tone_spelled : (t follows : Bool) (x : ToneMapping) (b0 b1 b2 b3 b4 b5 : List ℕ) → Spells b0 b1 (bundle_follows t) follows → Spells b1 b2 (when follows (number 16) 0x5BF8) x.intensity_target →
+pub tone_spelled : (t follows : Bool) (x : ToneMapping) (b0 b1 b2 b3 b4 b5 : List ℕ) → ToneParts x → Spells b0 b1 (bundle_follows t) follows → Spells b1 b2 (when follows (number 16) 0x5BF8) x.intensity_target →
     Spells b2 b3 (when follows (number 16) 0) x.min_nits → Spells b3 b4 (when follows flag false) x.relative_to_max_display → Spells b4 b5 (when follows (number 16) 0) x.linear_below →
     Spells b0 b5 (tone_mapping t) x
 unfolding tone_mapping
-tone_spelled t follows x b0 b1 b2 b3 b4 b5 u v w r l =
-    becomes (after u (after v (after w (after r l)))) (λ bytes p q k.
+tone_spelled t follows x b0 b1 b2 b3 b4 b5 parts u v w r l =
+    let target = meant_when follows (codes "intensity_target") is_positive (number 16) x.intensity_target 0x5BF8 b1 b2 parts.target v in
+    let least = meant_when follows (codes "min_nits") (is_up_to x.intensity_target) (number 16) x.min_nits 0 b2 b3 parts.least w in
+    let below = meant_when follows (codes "linear_below") (is_up_to (linear_limit x.relative_to_max_display)) (number 16) x.linear_below 0 b4 b5 parts.below l in
+    becomes (after u (after target (after least (after r below)))) (λ bytes p q k.
     (follows, k.0, k.1, (x.intensity_target, k.2.0, k.2.1, (x.min_nits, k.2.2.0, k.2.2.1, (x.relative_to_max_display, k.2.2.2.0, k.2.2.2.1, (x.linear_below, q, k.2.2.2.2, (refl, refl)))))))
 
 usual_white : (w : WhitePoint) → is_usual_white w ≡ true → is_white w ≡ true

@@ -29,10 +29,12 @@ matrices_usual xyb a b u = becomes u (λ bytes p q s.
     (false, q, (true, q, s, (refl, refl)), (false, q, (refl, refl), (tt, q, (refl, refl), (0, q, (refl, refl), (tt, q, (refl, refl), (tt, q, (refl, refl), (refl, refl))))))))
 
 -- extra channels after their number
-pub channels_present : (t : Bool) (cs : List ExtraChannel) (a b c : List ℕ) → t ≡ true → Spells a b (u32 (Const 0) (Const 1) (Offset 2 4) (Offset 1 12)) (length cs) → Spells b c (repeated (length cs) extra_channel) cs →
-    Spells a c (when t extra_channels []) cs
-channels_present t cs a b c e u v =
-    present t extra_channels [] cs a c e (becomes (after u v) (λ bytes p q s. (length cs, s.0, s.1, s.2)))
+pub channels_present : (t : Bool) (cs : List ExtraChannel) (a b c : List ℕ) → t ≡ true → length cs ≤ 256 → Spells a b (u32 (Const 0) (Const 1) (Offset 2 4) (Offset 1 12)) (length cs) →
+    Spells b c (repeated (length cs) extra_channel) cs → Spells a c (when t extra_channels []) cs
+channels_present t cs a b c e few u v =
+    let fits : nat_le (length cs) 256 ≡ true = grind (arith, nat_tests) in
+    let count = meant (codes "num_extra_channels") (λ n. nat_le n 256) (u32 (Const 0) (Const 1) (Offset 2 4) (Offset 1 12)) (length cs) a b fits u in
+    present t extra_channels [] cs a c e (becomes (after count v) (λ bytes p q s. (length cs, s.0, s.1, s.2)))
 
 none_is : {X : Type 0} (o : Option X) → is_some o ≡ false → o ≡ None
 none_is None h = refl
@@ -83,7 +85,7 @@ pub record HeaderParts (h : Image) : Type 0 where
   pub preview : option_map_or (is_size true) h.preview true ≡ true
   pub animation : option_map_or is_animation h.animation true ≡ true
   pub depth : is_depth h.bit_depth ≡ true
-  pub few : length h.ec_info ≤ 4096
+  pub few : length h.ec_info ≤ 256
   pub channels : list_all is_channel h.ec_info ≡ true
   pub colour : is_colour h.colour_encoding ≡ true
   pub tone : is_tone h.tone_mapping ≡ true
@@ -91,11 +93,11 @@ pub record HeaderParts (h : Image) : Type 0 where
 
 pub header_parts : (h : Image) → is_writable h ≡ true → HeaderParts h
 header_parts h w =
-    let s11 = and_parts (is_size false h.size && nat_le 1 h.orientation && nat_le h.orientation 8 && option_map_or (is_size false) h.intrinsic_size true && option_map_or (is_size true) h.preview true && option_map_or is_animation h.animation true && is_depth h.bit_depth && nat_le (length h.ec_info) 4096 && list_all is_channel h.ec_info && is_colour h.colour_encoding && is_tone h.tone_mapping) ((h.extensions == 0)) w in
-    let s10 = and_parts (is_size false h.size && nat_le 1 h.orientation && nat_le h.orientation 8 && option_map_or (is_size false) h.intrinsic_size true && option_map_or (is_size true) h.preview true && option_map_or is_animation h.animation true && is_depth h.bit_depth && nat_le (length h.ec_info) 4096 && list_all is_channel h.ec_info && is_colour h.colour_encoding) (is_tone h.tone_mapping) s11.0 in
-    let s9 = and_parts (is_size false h.size && nat_le 1 h.orientation && nat_le h.orientation 8 && option_map_or (is_size false) h.intrinsic_size true && option_map_or (is_size true) h.preview true && option_map_or is_animation h.animation true && is_depth h.bit_depth && nat_le (length h.ec_info) 4096 && list_all is_channel h.ec_info) (is_colour h.colour_encoding) s10.0 in
-    let s8 = and_parts (is_size false h.size && nat_le 1 h.orientation && nat_le h.orientation 8 && option_map_or (is_size false) h.intrinsic_size true && option_map_or (is_size true) h.preview true && option_map_or is_animation h.animation true && is_depth h.bit_depth && nat_le (length h.ec_info) 4096) (list_all is_channel h.ec_info) s9.0 in
-    let s7 = and_parts (is_size false h.size && nat_le 1 h.orientation && nat_le h.orientation 8 && option_map_or (is_size false) h.intrinsic_size true && option_map_or (is_size true) h.preview true && option_map_or is_animation h.animation true && is_depth h.bit_depth) (nat_le (length h.ec_info) 4096) s8.0 in
+    let s11 = and_parts (is_size false h.size && nat_le 1 h.orientation && nat_le h.orientation 8 && option_map_or (is_size false) h.intrinsic_size true && option_map_or (is_size true) h.preview true && option_map_or is_animation h.animation true && is_depth h.bit_depth && nat_le (length h.ec_info) 256 && list_all is_channel h.ec_info && is_colour h.colour_encoding && is_tone h.tone_mapping) ((h.extensions == 0)) w in
+    let s10 = and_parts (is_size false h.size && nat_le 1 h.orientation && nat_le h.orientation 8 && option_map_or (is_size false) h.intrinsic_size true && option_map_or (is_size true) h.preview true && option_map_or is_animation h.animation true && is_depth h.bit_depth && nat_le (length h.ec_info) 256 && list_all is_channel h.ec_info && is_colour h.colour_encoding) (is_tone h.tone_mapping) s11.0 in
+    let s9 = and_parts (is_size false h.size && nat_le 1 h.orientation && nat_le h.orientation 8 && option_map_or (is_size false) h.intrinsic_size true && option_map_or (is_size true) h.preview true && option_map_or is_animation h.animation true && is_depth h.bit_depth && nat_le (length h.ec_info) 256 && list_all is_channel h.ec_info) (is_colour h.colour_encoding) s10.0 in
+    let s8 = and_parts (is_size false h.size && nat_le 1 h.orientation && nat_le h.orientation 8 && option_map_or (is_size false) h.intrinsic_size true && option_map_or (is_size true) h.preview true && option_map_or is_animation h.animation true && is_depth h.bit_depth && nat_le (length h.ec_info) 256) (list_all is_channel h.ec_info) s9.0 in
+    let s7 = and_parts (is_size false h.size && nat_le 1 h.orientation && nat_le h.orientation 8 && option_map_or (is_size false) h.intrinsic_size true && option_map_or (is_size true) h.preview true && option_map_or is_animation h.animation true && is_depth h.bit_depth) (nat_le (length h.ec_info) 256) s8.0 in
     let s6 = and_parts (is_size false h.size && nat_le 1 h.orientation && nat_le h.orientation 8 && option_map_or (is_size false) h.intrinsic_size true && option_map_or (is_size true) h.preview true && option_map_or is_animation h.animation true) (is_depth h.bit_depth) s7.0 in
     let s5 = and_parts (is_size false h.size && nat_le 1 h.orientation && nat_le h.orientation 8 && option_map_or (is_size false) h.intrinsic_size true && option_map_or (is_size true) h.preview true) (option_map_or is_animation h.animation true) s6.0 in
     let s4 = and_parts (is_size false h.size && nat_le 1 h.orientation && nat_le h.orientation 8 && option_map_or (is_size false) h.intrinsic_size true) (option_map_or (is_size true) h.preview true) s5.0 in
@@ -110,7 +112,7 @@ header_parts h w =
       preview = s4.1;
       animation = s5.1;
       depth = s6.1;
-      few = leb-true (length h.ec_info) 4096 s7.1;
+      few = leb-true (length h.ec_info) 256 s7.1;
       channels = s8.1;
       colour = s9.1;
       tone = s10.1;

@@ -63,11 +63,16 @@ pub name_none : (a b c : List ℕ) → Spells a b (u32 (Const 0) (Offset 0 4) (O
 unfolding name
 name_none a b c u v = becomes (after u v) (λ bytes p q s. (0, s.0, s.1, (tt, q, (0, q, s.2, (refl, refl)), (refl, refl))))
 
+-- the same, if it is present
+pub meant_when : (t : Bool) (text : List ℕ) (holds : ℕ → Bool) (field : Grammar ℕ) (v usual : ℕ) (a b : List ℕ) → holds v ≡ true → Spells a b (when t field usual) v →
+    Spells a b (when t (number_where text holds field) usual) v
+meant_when true text holds field v usual a b e u = meant text holds field v a b e u
+meant_when false text holds field v usual a b e u = u
+
 -- a number of an enumeration that has a meaning, if it is present
 pub meant_if : (t : Bool) (text : List ℕ) (holds : ℕ → Bool) (v usual : ℕ) (a b : List ℕ) → holds v ≡ true → Spells a b (when t enum_number usual) v →
     Spells a b (when t (number_where text holds enum_number) usual) v
-meant_if true text holds v usual a b e u = meant text holds enum_number v a b e u
-meant_if false text holds v usual a b e u = u
+meant_if t text holds v usual a b e u = meant_when t text holds enum_number v usual a b e u
 
 -- the variant of a number
 variant_spelled : {X : Type 0} (text : List ℕ) (table : ℕ → Option X) (v : ℕ) (x : X) (a b : List ℕ) → table v ≡ Some x → Spells a b enum_number v → Spells a b (variant text table) x

@@ -23,7 +23,7 @@ use Rattle.jxl_image_header.specs.declared.colour.RenderingIntent.TheVariants as
 use Rattle.jxl_image_header.specs.declared.colour.ToneMapping.{ToneMapping}
 use Rattle.jxl_image_header.specs.declared.image.Animation.{Animation}
 use Rattle.jxl_image_header.specs.Channels.{fits_float, is_alpha, is_spot_colour, is_cfa}
-use Rattle.jxl_image_header.specs.Colours.{is_grey, is_xyb}
+use Rattle.jxl_image_header.specs.Colours.{is_grey, is_xyb, is_positive, is_up_to, linear_limit}
 use Rattle.jxl_image_header.specs.Sizes.{width_at}
 use Rattle.jxl_image_header.specs.Images.{Image}
 
@@ -126,9 +126,9 @@ is_usual_colour c =
     not c.want_icc && is_usual_space c.colour_space && is_usual_white c.white_point && is_usual_primaries c.primaries && is_usual_function c.transfer_function &&
     is_usual_intent c.rendering_intent
 
--- brightness, in floats of 16 bits; and that by default
+-- brightness, which the reader takes; and that by default
 abbrev pub is_tone : ToneMapping → Bool
-is_tone t = nat_lt t.intensity_target 65536 && nat_lt t.min_nits 65536 && nat_lt t.linear_below 65536
+is_tone t = is_positive t.intensity_target && is_up_to t.intensity_target t.min_nits && is_up_to (linear_limit t.relative_to_max_display) t.linear_below
 
 abbrev pub is_usual_tone : ToneMapping → Bool
 is_usual_tone t = (t.intensity_target == 0x5BF8) && (t.min_nits == 0) && not t.relative_to_max_display && (t.linear_below == 0)
@@ -148,5 +148,5 @@ abbrev pub is_writable : Image → Bool
 is_writable h =
     is_size false h.size && nat_le 1 h.orientation && nat_le h.orientation 8 && option_map_or (is_size false) h.intrinsic_size true &&
     option_map_or (is_size true) h.preview true && option_map_or is_animation h.animation true &&
-    is_depth h.bit_depth && nat_le (length h.ec_info) 4096 && list_all is_channel h.ec_info &&
+    is_depth h.bit_depth && nat_le (length h.ec_info) 256 && list_all is_channel h.ec_info &&
     is_colour h.colour_encoding && is_tone h.tone_mapping && (h.extensions == 0)

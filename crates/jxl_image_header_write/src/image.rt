@@ -49,7 +49,7 @@ fn write_channels_if(
     present: bool,
     channels: &[ExtraChannel],
 ) -> Result<(), AllocError>
-    requires few { length channels.now ≤ 4096 }
+    requires few { length channels.now ≤ 256 }
     requires spelled { list_all is_channel channels.now ≡ true }
     requires usual { present ≡ false → channels.now ≡ [] }
     ensures { IfOk result (λ _. Spells bits.old bits.new

@@ -13,7 +13,7 @@ use crate::size::is_size;
 use jxl_image_header::channel::{BitDepth, ExtraChannel, ExtraChannelKind};
 use jxl_image_header::colour::{
     Chromaticity, ColourEncoding, ColourSpace, Primaries, RenderingIntent, ToneMapping,
-    TransferFunction, WhitePoint,
+    TransferFunction, WhitePoint, is_positive, is_up_to, linear_limit,
 };
 use jxl_image_header::image::{Animation, ImageHeader};
 use jxl_image_header::size::Size;
@@ -231,7 +231,12 @@ fn is_animation_if(animation: Option<Animation>) -> bool
 fn is_tone(tone: ToneMapping) -> bool
     ensures { result ≡ the_is_tone tone }
 {
-    tone.intensity_target < 65536 && tone.min_nits < 65536 && tone.linear_below < 65536
+    is_positive(tone.intensity_target)
+        && is_up_to(tone.intensity_target, tone.min_nits)
+        && is_up_to(
+            linear_limit(tone.relative_to_max_display),
+            tone.linear_below,
+        )
 }
 
 /// Whether the writer spells a header.
@@ -245,7 +250,7 @@ pub fn is_writable(header: &ImageHeader) -> bool
         && is_size_if(true, header.preview)
         && is_animation_if(header.animation)
         && is_depth(header.bit_depth)
-        && header.ec_info.len() <= 4096
+        && header.ec_info.len() <= 256
         && are_channels(&header.ec_info)
         && is_colour(header.colour_encoding)
         && is_tone(header.tone_mapping)

@@ -1,8 +1,8 @@
 -- Parts of a U64, of extensions and other bits that are passed, and of an image header, as their functions read them.
 use Rattle.std.specs.Prelude.{ℕ, zero, suc, ◌+◌, ◌*◌, sum, List, Bool}
-use Rattle.jxlm_bits.specs.Grammar.{Grammar, number, u32, give, repeated, ◌>>=◌}
-use Rattle.jxlm_bits.specs.declared.bits.U32Spec.TheVariants.{Const, Offset}
+use Rattle.jxlm_bits.specs.Grammar.{Grammar, number, give, repeated, ◌>>=◌}
 use Rattle.jxl_image_header.specs.Channels.{extra_channel}
+use Rattle.jxl_image_header.specs.Images.{channel_count}
 use Rattle.jxl_image_header.specs.declared.channel.ExtraChannel.{ExtraChannel}
 use Rattle.jxl_image_header.specs.Fields.{groups, long, ignored_bytes, when}
 
@@ -30,4 +30,4 @@ weights first second third =
 
 -- the channels beside the colours, after their number
 abbrev pub extra_channels : Grammar (List ExtraChannel)
-extra_channels = u32 (Const 0) (Const 1) (Offset 2 4) (Offset 1 12) >>= λ n. repeated n extra_channel
+extra_channels = channel_count >>= λ n. repeated n extra_channel
