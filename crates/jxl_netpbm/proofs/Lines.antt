@@ -9,10 +9,10 @@ use Rattle.std.proofs.lemmas.List.Elements.{All-more, All-weaker}
 use Rattle.jxlm_base.specs.Grid.{Grid, grid, meanings}
 use Rattle.jxl_text.specs.Printing.{row_text, channel_text, image_text}
 use Rattle.jxl_text.proofs.TextLemmas.{row_text-cons, image_text-more}
-use Rattle.jxl_netpbm.specs.Output.{AppendsBeginning}
+use Rattle.jxl_netpbm.specs.Output.{AppendsLess}
 use Rattle.jxl_netpbm.specs.Inner.Rows.{line_room}
 use Rattle.jxl_netpbm.proofs.Numbers.{own_numbers}
-use Rattle.jxl_netpbm.proofs.Writing.{begun_first, begun_second}
+use Rattle.jxl_netpbm.proofs.Writing.{less_first, less_second}
 
 -- each sample but the first comes after a space
 abbrev pub others_text : List ℤ → List ℕ
@@ -56,12 +56,12 @@ module _ (held before now : Option (List ℕ)) (gs : List (Grid ℤ)) (i : ℕ) 
   pub wrote_channel : Appends before now (channel_text i g) → Appends held now (image_text (take (i + 1) gs))
   wrote_channel p = subst (λ (t : List ℕ). Appends held now t) (sym next) (Appends-trans held before now (image_text (take i gs)) (channel_text i g) done p)
 
-  pub begun_channel : AppendsBeginning before now (channel_text i g) → AppendsBeginning held now (image_text gs)
-  begun_channel b =
+  pub less_channel : AppendsLess before now (channel_text i g) → AppendsLess held now (image_text gs)
+  less_channel b =
       let (rest, is) = channels_rest gs (i + 1) (length gs - (i + 1)) (length gs) (omega (arith, less)) (omega arith) in
       let whole : image_text gs ≡ (image_text (take i gs) ++ channel_text i g) ++ rest = sym (ap image_text (take_all (length gs) gs (omega arith))) ∙ is ∙ ap (λ (t : List ℕ). t ++ rest) next in
-      subst (λ (t : List ℕ). AppendsBeginning held now t) (sym whole)
-      (begun_first held now (image_text (take i gs) ++ channel_text i g) rest (begun_second held before now (image_text (take i gs)) (channel_text i g) done b))
+      subst (λ (t : List ℕ). AppendsLess held now t) (sym whole)
+      (less_first held now (image_text (take i gs) ++ channel_text i g) rest (less_second held before now (image_text (take i gs)) (channel_text i g) done b))
 
 -- room for a line of each channel, and of one more
 pub lines_more : (gs : List (Grid ℤ)) (i room now : ℕ) (g : Grid ℤ) → i < length gs → g ≡ get_or gs i g → room ≤ now → line_room g.width ≤ now → All (λ (c : Grid ℤ). line_room c.width ≤ room) (take i gs) →

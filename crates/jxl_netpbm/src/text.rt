@@ -1,18 +1,18 @@
 //! Pictures in decimal numbers, some rows at a time.
 
-ghost use Rattle.std.specs.Prelude.{◌≤◌, length, IfOk, IfSome, OnOk, OnErr};
+ghost use Rattle.std.specs.Prelude.{◌≤◌, length, IfOk, IfSome, OnOk, OnErr, IfErr};
 ghost use Rattle.std.specs.List.{All};
 ghost use Rattle.std.specs.Io.KnownBytes.{Appends};
 ghost use Rattle.jxl_text.specs.Printing.{channel_text, image_text};
 ghost use Rattle.jxl_netpbm.specs.Inner.Rows.{HasRoom, line_room};
-ghost use Rattle.jxl_netpbm.specs.Output.{AppendsBeginning};
+ghost use Rattle.jxl_netpbm.specs.Output.{AppendsLess};
 
 use crate::decimals::put_heading;
-use crate::output::write_whole;
+use crate::output::{Output, write_whole};
 use crate::raster::{PIECE, Raster, Samples, write_rows};
 use jxlm_base::grid::{AlignedGrid, OutOfMemory};
 use std::alloc::Global;
-use std::io::{self, Write};
+use std::io;
 
 // The room for a row of any channel, or none if that is more bytes than a `usize` counts.
 fn longest_line(channels: &[AlignedGrid<i32>]) -> Option<usize>
@@ -36,7 +36,7 @@ pub fn text_piece(alloc: Global, channels: &[AlignedGrid<i32>]) -> Result<Vec<u8
 }
 
 // Writes the channel of this number. Its lines are made in `piece`.
-fn write_channel<W: Write>(
+fn write_channel<W: Output>(
     output: &mut W,
     piece: &mut [u8],
     number: usize,
@@ -46,8 +46,9 @@ fn write_channel<W: Write>(
     requires row { line_room channel.now.width ≤ length piece.old }
     ensures ok { OnOk result (Appends (W.contents output.old) (W.contents output.new)
         (channel_text number channel.now)) }
-    ensures err { OnErr result (AppendsBeginning (W.contents output.old) (W.contents output.new)
+    ensures short { OnErr result (AppendsLess (W.contents output.old) (W.contents output.new)
         (channel_text number channel.now)) }
+    ensures failed { IfErr result (W.fails_by output.new) }
 {
     let raster = Raster {
         samples: Samples::Decimals { channel },
@@ -61,16 +62,17 @@ fn write_channel<W: Write>(
 }
 
 /// Writes the channels of a picture. Their lines are made in `piece`. After an error the writer holds a beginning of the
-/// text.
-pub fn write_channels<W: Write>(
+/// text, and not all.
+pub fn write_channels<W: Output>(
     output: &mut W,
     piece: &mut [u8],
     channels: &[AlignedGrid<i32>],
 ) -> io::Result<()>
     requires { HasRoom channels.now (length piece.old) }
     ensures ok { OnOk result (Appends (W.contents output.old) (W.contents output.new) (image_text channels.now)) }
-    ensures err { OnErr result (AppendsBeginning (W.contents output.old) (W.contents output.new)
+    ensures short { OnErr result (AppendsLess (W.contents output.old) (W.contents output.new)
         (image_text channels.now)) }
+    ensures failed { IfErr result (W.fails_by output.new) }
 {
     for (number, channel) in channels.iter().enumerate() {
         write_channel(output, piece, number, channel)?;

@@ -1,14 +1,15 @@
 use Rattle.std.proofs.Common.{◌≡◌, ◌++◌, ◌∙◌, ℕ, ℤ, ap, subst, List, sym, rules}
-use Rattle.std.specs.Prelude.{OnErr, OnOk}
+use Rattle.std.specs.Prelude.{◌≢◌, IfErr, OnErr, OnOk}
 use Rattle.std.specs.Io.KnownBytes.{Appends}
 use Rattle.jxlm_base.specs.Grid.{Grid}
-use Rattle.jxl_netpbm.specs.Output.{AppendsBeginning}
+use Rattle.jxl_netpbm.specs.Output.{AppendsBeginning, AppendsLess}
 use Rattle.jxl_image_header.specs.Images.{Image, image_of}
 use Rattle.jxl_netpbm.specs.Formats.{colour_layers, most_of, pnm_head, pnm_text}
 use Rattle.jxl_netpbm.specs.Rasters.{Layer, raster_text}
 use Rattle.jxl_netpbm.specs.Layers.{layers_of}
 use Rattle.std.specs.List.{All}
 use Rattle.jxl_netpbm.proofs.LayerLaws.{Cover, colours_cover, covers_held}
+use Rattle.jxl_netpbm.specs.declared.output.WriteError.TheVariants.{OutOfMemory}
 use Rattle.jxl_netpbm.proofs.Writing.{begun_none, on_err}
 use Rattle.jxl_netpbm.proofs.format.write_pnm.Goals as goal
 
@@ -44,6 +45,16 @@ returns-clause-err g c =
     let same : layers_of c.deref-2.result.now ≡ colour_layers image channels = search rules in
     subst (λ (t : List ℕ). OnErr c.write_numbers.result (AppendsBeginning (g.W.Write.contents c.args.output.now) (g.W.Write.contents c.write_numbers.new.output) t))
     (pnm_is c.args.magic.now c.as_str.result.now image channels c.maximum-most.result (layers_of c.deref-2.result.now) head most same) c.write_numbers.ensures.err
+
+pub returns-clause-short : goal.returns-clause-short
+returns-clause-short g c =
+    let image = image_of c.args.picture.now.header in
+    let channels = c.args.picture.now.channels.items in
+    let head : c.as_str.result.now ≡ pnm_head c.args.magic.now image = search rules in
+    let most : c.maximum-most.result ≡ most_of image = search rules in
+    let same : layers_of c.deref-2.result.now ≡ colour_layers image channels = search rules in
+    subst (λ (t : List ℕ). IfErr c.write_numbers.result (λ e. e ≢ OutOfMemory → AppendsLess (g.W.Write.contents c.args.output.now) (g.W.Write.contents c.write_numbers.new.output) t))
+    (pnm_is c.args.magic.now c.as_str.result.now image channels c.maximum-most.result (layers_of c.deref-2.result.now) head most same) c.write_numbers.ensures.short
 
 pub write_numbers-requires-clause-within : goal.write_numbers-requires-clause-within
 write_numbers-requires-clause-within g c =

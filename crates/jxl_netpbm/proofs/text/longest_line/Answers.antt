@@ -1,5 +1,4 @@
-use Rattle.std.proofs.Common.{◌≤◌, ◌≡◌, subst, take_all, arith, rules}
-use Rattle.std.specs.List.{All}
+use Rattle.std.proofs.Common.{◌≤◌, ◌≡◌, rules}
 use Rattle.jxl_netpbm.specs.Inner.Rows.{line_room}
 use Rattle.jxl_netpbm.proofs.Lines.{lines_more}
 use Rattle.jxl_netpbm.proofs.text.longest_line.Goals as goal
