@@ -55,7 +55,7 @@ enum {
     JXL_LOSSLESS_INVALID = 2,      /* the file breaks the standard */
     JXL_LOSSLESS_TRUNCATED = 3,    /* the file ends too early: more bytes may help */
     JXL_LOSSLESS_UNSUPPORTED = 4,  /* lossy, an animation, or another feature that the library does not support */
-    JXL_LOSSLESS_TOO_LARGE = 5,    /* above the limits */
+    JXL_LOSSLESS_TOO_LARGE = 5,    /* above the limits, or a picture too large for one frame */
     JXL_LOSSLESS_NO_MEMORY = 6,    /* malloc failed */
     JXL_LOSSLESS_WRONG_COUNT = 7,  /* the array has another size than the call needs */
     JXL_LOSSLESS_WRONG_STRUCT = 8, /* the size of a struct is smaller than that of its first version */

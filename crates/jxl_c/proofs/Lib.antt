@@ -3,3 +3,4 @@ mod CellSteps
 mod Openings
 mod Decodings
 mod Encodings
+pub mod EncodingErrors

@@ -5,7 +5,10 @@ use Rattle.jxl_image_header.specs.Images.{Image, image_of}
 use Rattle.jxl_picture.specs.Pictures.{IsWhole}
 use Rattle.jxl_picture.specs.declared.picture.Picture.{Picture}
 use Rattle.jxl_encode.specs.Codable.{IsCodable}
+use Rattle.jxl_encode.specs.Errors.{EncodeFails as FileFails}
 use Rattle.jxl_encode.specs.Files.{IsFileOf}
+use Rattle.jxl_encode.specs.declared.error.EncodeError.{EncodeError as FileError}
+use Rattle.jxl_encode.specs.declared.error.EncodeError.TheVariants as causes
 use Rattle.jxl_encode_ways.specs.declared.effort.Effort.{Effort}
 use Rattle.jxl_encode_ways.specs.declared.effort.Effort.TheVariants.{Fast, Usual, Best}
 use Rattle.jxl_c_picture.specs.Cells.{cells_of_all}
@@ -80,14 +83,27 @@ module _ (info : CInfo) (extra : List CChannel) where
   abbrev pub IsRefused : List ℕ → Type 0
   IsRefused profile = (has_meaning info extra ≡ false) ⊎ IsUncodable profile
 
+  -- The picture that a caller describes is too large.
+  pub record IsTooLarge (samples : List ℤ) (profile : List ℕ) : Type 0 where
+    pub picture : Picture
+    pub described : IsPictureOf samples profile picture
+    pub large : FileFails picture causes.TooLarge
+
   -- why a call encodes nothing
   abbrev pub EncodeFails : List ℤ → List ℕ → ℕ → EncodeError → Type 0
   EncodeFails samples profile effort errors.WrongCount = HasOtherCount samples profile
   EncodeFails samples profile effort errors.NotCodable = (2 < effort) ⊎ IsRefused profile
+  EncodeFails samples profile effort errors.TooLarge = IsTooLarge samples profile
   EncodeFails samples profile effort errors.OutOfMemory = Unit {0}
+
+-- the error of a call whose picture is not encoded, by this one
+abbrev pub error_of : FileError → EncodeError
+error_of causes.TooLarge = errors.TooLarge
+error_of causes.OutOfMemory = errors.OutOfMemory
 
 -- the status of such an error
 abbrev pub status_of_encoding : EncodeError → ℕ
+status_of_encoding errors.TooLarge = 5
 status_of_encoding errors.OutOfMemory = 6
 status_of_encoding errors.WrongCount = 7
 status_of_encoding errors.NotCodable = 10

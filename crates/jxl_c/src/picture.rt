@@ -7,12 +7,13 @@ ghost use Rattle.jxl_image_header.specs.Images.{image_of};
 ghost use Rattle.jxl_c_picture.specs.Described.{IsDescribed};
 ghost use Rattle.jxl_c.specs.Encoded.{HasOtherSamples, IsPictureOf, IsRefused, profile_if, status_of_encoding};
 
-use crate::status::{NO_MEMORY, NOT_CODABLE, WRONG_COUNT};
+use crate::status::{NO_MEMORY, NOT_CODABLE, TOO_LARGE, WRONG_COUNT};
 use jxl_c_picture::channels::{CChannel, has_samples};
 use jxl_c_picture::described::{DescriptionError, header_of, is_narrow};
 use jxl_c_picture::grids::grids_of;
 use jxl_c_picture::info::CInfo;
 use jxl_encode::codable::is_codable;
+use jxl_encode::error::EncodeError as FileError;
 use jxl_picture::picture::Picture;
 use jxlm_base::grid::OutOfMemory;
 use std::alloc::Global;
@@ -24,6 +25,8 @@ pub enum EncodeError {
     WrongCount,
     /// A number names nothing, or no file can hold the picture.
     NotCodable,
+    /// The picture is too large for one frame.
+    TooLarge,
     /// Out of memory.
     OutOfMemory,
 }
@@ -38,6 +41,7 @@ impl EncodeError {
         match self {
             EncodeError::WrongCount => WRONG_COUNT,
             EncodeError::NotCodable => NOT_CODABLE,
+            EncodeError::TooLarge => TOO_LARGE,
             EncodeError::OutOfMemory => NO_MEMORY,
         }
     }
@@ -47,6 +51,7 @@ impl EncodeError {
         match self {
             EncodeError::WrongCount => b"an array has another size than the info says",
             EncodeError::NotCodable => b"a picture that cannot be encoded",
+            EncodeError::TooLarge => b"a picture too large for one frame",
             EncodeError::OutOfMemory => b"out of memory",
         }
     }
@@ -59,6 +64,19 @@ impl From<OutOfMemory> for EncodeError {
 
     fn from(_error: OutOfMemory) -> EncodeError {
         EncodeError::OutOfMemory
+    }
+}
+
+impl From<FileError> for EncodeError {
+    ghost use Rattle.jxl_c.specs.Encoded.{error_of};
+
+    ghost from_gives = { λ cause e. e ≡ error_of cause };
+
+    fn from(cause: FileError) -> EncodeError {
+        match cause {
+            FileError::TooLarge => EncodeError::TooLarge,
+            FileError::OutOfMemory => EncodeError::OutOfMemory,
+        }
     }
 }
 
@@ -87,6 +105,7 @@ fn empty_picture(
     ensures codable { IfOk result IsCodable }
     ensures err { IfErr result (λ e. e ≡ EncodeError.NotCodable → IsRefused info.now extra.now profile.now) }
     ensures counted { IfErr result (λ e. e ≢ EncodeError.WrongCount) }
+    ensures small { IfErr result (λ e. e ≢ EncodeError.TooLarge) }
 {
     let header = match header_of(alloc, info, extra, narrow) {
         Ok(header) => header,
@@ -122,6 +141,7 @@ pub fn picture_of(
     ensures count { IfErr result
         (λ e. e ≡ EncodeError.WrongCount → HasOtherSamples info.now extra.now (length samples.now)) }
     ensures refused { IfErr result (λ e. e ≡ EncodeError.NotCodable → IsRefused info.now extra.now profile.now) }
+    ensures small { IfErr result (λ e. e ≢ EncodeError.TooLarge) }
 {
     let narrow = is_narrow(info, extra, samples);
     let empty = empty_picture(alloc, info, extra, profile, narrow)?;

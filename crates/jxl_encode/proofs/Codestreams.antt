@@ -22,7 +22,7 @@ use Rattle.jxl_encode_frame.specs.Laws.{IsPlainFrame}
 use Rattle.jxl_encode_frame.proofs.Pictures.{coding_picture}
 use Rattle.jxl_encode.specs.Codable.{IsCodable}
 use Rattle.jxl_encode.specs.Files.{AllowFile, IsCodestreamOf, IsShownAs}
-use Rattle.jxl_encode.specs.Inner.Frames.{AreSectionsOf}
+use Rattle.jxl_encode.specs.Frames.{AreSectionsOf}
 use Rattle.jxl_encode.proofs.Codings.{coding_of}
 
 -- ---- a picture that is upright as it is

@@ -26,7 +26,7 @@ use Rattle.jxl_picture.specs.declared.picture.Picture.{Picture}
 use Rattle.jxl_encode_frame.specs.Codings.{FrameCoding}
 use Rattle.jxl_encode_sections.specs.Sections.{AreFrameSections}
 use Rattle.jxl_encode_sections.proofs.Codings.{written_are_coding}
-use Rattle.jxl_encode.specs.Inner.Frames.{AreSectionsOf, cut_of}
+use Rattle.jxl_encode.specs.Frames.{AreSectionsOf, cut_of}
 
 -- as many decisions for a sample as the limit says are never too many
 most_of : (n : ℕ) → max 1 (min (2 ^ 22) n) ≤ 2 ^ 22

@@ -71,4 +71,4 @@ grids_of image given grids are is full =
 
 -- a header that is spelled has few extra channels
 pub few_extra : (image : Image) → is_writable image ≡ true → length image.ec_info ≤ 4096
-few_extra image spelled = (header_parts image spelled).few
+few_extra image spelled = let few = (header_parts image spelled).few in omega (arith, few)

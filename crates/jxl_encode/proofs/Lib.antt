@@ -5,3 +5,5 @@ pub mod Codestreams
 pub mod PlainTrees
 pub mod ProfiledPictures
 pub mod OrientedPictures
+pub mod Told
+pub mod LongSections

@@ -10,7 +10,8 @@ ghost use Rattle.jxl_picture.specs.Limits.{channel_count};
 ghost use Rattle.jxl_picture.specs.Pictures.{IsWhole};
 ghost use Rattle.jxl_encode_tree.specs.Trees.{IsNoTree};
 ghost use Rattle.jxl_encode.specs.Codable.{IsCodable};
-ghost use Rattle.jxl_encode.specs.Inner.Frames.{AreGiven, AreSectionsOf, cut_of};
+ghost use Rattle.jxl_encode.specs.Frames.{AreSectionsOf, cut_of};
+ghost use Rattle.jxl_encode.specs.Inner.Frames.{AreGiven};
 
 use jxl_codestream::layout::Layout;
 use jxl_codestream::start::tree_limit;

@@ -1,6 +1,5 @@
--- The sections of a picture's frame, as they are written.
+-- The channels of a picture, as an encoder of its frame is given them.
 use Rattle.std.specs.Prelude.{◌≡◌, ◌≤◌, ℕ, List, length}
-use Rattle.std.specs.Int.{w32}
 use Rattle.std.specs.List.{All}
 use Rattle.jxlm_transform.specs.Channels.{image_list}
 use Rattle.jxlm_transform.specs.Params.{IsValidChannel, channel_params, with_sums, with_tables}
@@ -9,14 +8,9 @@ use Rattle.jxlm_transform.specs.declared.param.GradientSums.TheVariants.{Clamped
 use Rattle.jxlm_transform.specs.declared.param.ModularChannelParams.{ModularChannelParams}
 use Rattle.jxlm_transform.specs.declared.param.PaletteTables.TheVariants.{OfDeltasToo}
 use Rattle.jxl_image_header.specs.declared.size.Size.{Size}
-use Rattle.jxl_image_header.specs.Images.{Image, image_of}
-use Rattle.jxl_codestream.specs.Layouts.{Layout, layout_of}
-use Rattle.jxl_codestream.specs.Starts.{tree_limit}
-use Rattle.jxl_picture.specs.Limits.{channel_count}
-use Rattle.jxl_picture.specs.declared.picture.Picture.{Picture}
+use Rattle.jxl_image_header.specs.Images.{Image}
 use Rattle.jxl_lossless.specs.Frames.{channels_given}
 use Rattle.jxl_encode_frame.specs.Laws.{IsOfSize}
-use Rattle.jxl_encode_sections.specs.Sections.{AreFrameSections}
 
 -- a channel of this shift in a picture of this size: its palettes have tables of deltas too, and its sums are clamped
 abbrev pub in_file : Size → ℕ → ModularChannelParams
@@ -28,13 +22,3 @@ pub record AreGiven (image : Image) (given : List ModularChannelParams) : Type 0
   pub valid : All IsValidChannel given
   pub few : length given ≤ 65536
   pub sizes : All (IsOfSize image.size) given
-
--- how the frame of a picture is cut: into groups with sides of 256
-abbrev pub cut_of : Image → Layout
-cut_of image = layout_of image.size 256 1
-
--- These are the sections of the frame of a picture.
-abbrev pub AreSectionsOf : Picture → List (List ℕ) → Type 0
-AreSectionsOf picture sections =
-    AreFrameSections w32 (channels_given (image_of picture.header) picture.header.size) (cut_of (image_of picture.header)) 256
-    (tree_limit picture.header.size (channel_count (image_of picture.header))) 128 sections picture.channels.items

@@ -8,7 +8,7 @@ use Rattle.jxl_encode.proofs.file.encode_with_progress.Goals as goal
 
 pub returns-clause-picture : goal.returns-clause-picture
 returns-clause-picture g c =
-    c.in_ok-codestream.ensures.file c.in_ok-file.file.items
+    c.in_ok-codestream.ensures.coded.file c.in_ok-file.file.items
     (subst (λ (bytes : List ℕ). HasCodestream c.in_ok-file.file.items (Ok bytes)) c.deref.ensures.value c.in_ok-file.ensures.codestream)
 
 first_case : (b : Bool) (P Q : Type 0) → b ≡ true → P → MatchBool b P Q
@@ -20,4 +20,11 @@ returns-clause-written g c =
     c.in_ok-file.ensures.boxes in
     let leveled = subst (λ (level : Level). HasBoxes c.in_ok-file.file.items (boxes_of c.in_ok-codestream.codestream.items level (option_map (λ s. s.now) c.args.exif) (option_map (λ s. s.now) c.args.xmp)))
     c.level_of-level.ensures boxes in
-    (c.in_ok-codestream.codestream.items, c.in_ok-codestream.ensures, first_case _ _ _ (sym c.is_boxed.ensures ∙ c.if-not-is_boxed.false) leveled)
+    (c.in_ok-codestream.codestream.items, c.in_ok-codestream.ensures.coded, first_case _ _ _ (sym c.is_boxed.ensures ∙ c.if-not-is_boxed.false) leveled)
+
+pub returns-clause-shortest : goal.returns-clause-shortest
+returns-clause-shortest g c = (
+  c.in_ok-codestream.codestream.items,
+  subst (λ (bytes : List ℕ). HasCodestream c.in_ok-file.file.items (Ok bytes)) c.deref.ensures.value c.in_ok-file.ensures.codestream,
+  c.in_ok-codestream.ensures.shortest,
+)

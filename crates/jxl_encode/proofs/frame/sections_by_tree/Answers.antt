@@ -7,7 +7,7 @@ use Rattle.jxl_codestream.specs.LayoutParts.{parts_of}
 use Rattle.jxl_encode_tree.specs.Trees.{IsNoTree}
 use Rattle.jxl_image_header.specs.Images.{image_of}
 use Rattle.jxl_picture.specs.Pictures.{IsWhole}
-use Rattle.jxl_encode.specs.Inner.Frames.{AreSectionsOf}
+use Rattle.jxl_encode.specs.Frames.{AreSectionsOf}
 use Rattle.jxl_encode.proofs.Given.{few_extra, grids_of}
 use Rattle.jxl_encode.proofs.Cells.{each_has_cells}
 use Rattle.jxl_encode.proofs.Codings.{if_ok, sections_of}
