@@ -50,3 +50,11 @@ pub record IsReportedLine (reported : Bool) (held holds : Option (List ℕ)) (Fa
   pub end : List ℕ
   pub caused : IsCause cause end
   pub is : IsReported reported held holds Failed (words ++ (end ++ codes "\n"))
+
+-- why nothing is written to a terminal that was not asked for
+unfoldable pub terminal_text : List ℕ
+terminal_text = codes "a terminal; -o OUT writes to a file, -o - to standard output"
+
+-- the line of a program that has no memory for its command line
+unfoldable pub memory_line : List ℕ → List ℕ
+memory_line program = program ++ codes ": out of memory"

@@ -1,6 +1,6 @@
 //! What a program reads: a file that is opened when it is first read.
 
-ghost use Rattle.std.specs.Prelude.{◌≡◌, IfErr, IfOk, None, OnErr, OnOk, is_some, true};
+ghost use Rattle.std.specs.Prelude.{◌≡◌, ◌<◌, ◌≤◌, ℕ, List, IfErr, IfOk, None, OnErr, OnOk, Option, is_some, length, take, true};
 ghost use Rattle.std.specs.Io.KnownBytes.{Consumes, IsAtEnd, Keeps};
 ghost use Rattle.std.specs.Option.{option_and_then};
 ghost use Rattle.std.specs.declared.io.Error.{Error};
@@ -8,7 +8,7 @@ ghost use Rattle.jxl_command.specs.Streams.{IsReadPart};
 
 use std::alloc::Global;
 use std::fs;
-use std::io::{self, Read, Stdin};
+use std::io::{self, ErrorKind, Read, Stdin};
 use std::rt::Files;
 
 /// A reader that says by which error a read of all that is left fails.
@@ -19,6 +19,23 @@ pub trait InputStream: Read {
     /// Reads all bytes that are left.
     fn read_rest(&mut self, alloc: Global) -> io::Result<Vec<u8>>
         ensures read { IfOk result (λ v. Consumes (Self.remaining self.old) (Self.remaining self.new) v.items) }
+        ensures ended { OnOk result (IsAtEnd (Self.remaining self.new)) }
+        ensures part { OnErr result (IsReadPart (Self.remaining self.old) (Self.remaining self.new)) }
+        ensures err { IfErr result (fails_by self.new) };
+
+    /// Reads bytes up to this number: fewer only if no more are left.
+    fn read_start(&mut self, alloc: Global, count: usize) -> io::Result<Vec<u8>>
+        ensures read { IfOk result (λ v. Consumes (Self.remaining self.old) (Self.remaining self.new) v.items) }
+        ensures most { IfOk result (λ v. length v.items ≤ count) }
+        ensures short { IfOk result (λ v. length v.items < count → IsAtEnd (Self.remaining self.new)) }
+        ensures part { OnErr result (IsReadPart (Self.remaining self.old) (Self.remaining self.new)) }
+        ensures err { IfErr result (fails_by self.new) };
+
+    /// Reads all bytes that are left after `start`, which was read before. It returns both.
+    fn read_on(&mut self, start: Vec<u8>) -> io::Result<Vec<u8>>
+        ensures read { (left : Option (List ℕ)) → Consumes left (Self.remaining self.old) start.items
+            → IfOk result (λ v. Consumes left (Self.remaining self.new) v.items) }
+        ensures starts { IfOk result (λ v. take (length start.items) v.items ≡ start.items) }
         ensures ended { OnOk result (IsAtEnd (Self.remaining self.new)) }
         ensures part { OnErr result (IsReadPart (Self.remaining self.old) (Self.remaining self.new)) }
         ensures err { IfErr result (fails_by self.new) };
@@ -79,6 +96,14 @@ impl<R: Files> InputStream for InputFile<'_, R> {
     fn read_rest(&mut self, alloc: Global) -> io::Result<Vec<u8>> {
         read_whole(alloc, self)
     }
+
+    fn read_start(&mut self, alloc: Global, count: usize) -> io::Result<Vec<u8>> {
+        read_first(alloc, self, count)
+    }
+
+    fn read_on(&mut self, start: Vec<u8>) -> io::Result<Vec<u8>> {
+        read_after(self, start)
+    }
 }
 
 impl InputStream for Stdin {
@@ -89,6 +114,14 @@ impl InputStream for Stdin {
     fn read_rest(&mut self, alloc: Global) -> io::Result<Vec<u8>> {
         read_whole(alloc, self)
     }
+
+    fn read_start(&mut self, alloc: Global, count: usize) -> io::Result<Vec<u8>> {
+        read_first(alloc, self, count)
+    }
+
+    fn read_on(&mut self, start: Vec<u8>) -> io::Result<Vec<u8>> {
+        read_after(self, start)
+    }
 }
 
 /// Reads all bytes that are left.
@@ -98,6 +131,60 @@ pub fn read_whole<R: Read>(alloc: Global, input: &mut R) -> io::Result<Vec<u8>>
     ensures part { OnErr result (IsReadPart (R.remaining input.old) (R.remaining input.new)) }
 {
     let mut bytes = Vec::new(alloc);
+    input.read_to_end(&mut bytes)?;
+    Ok(bytes)
+}
+
+// Fills a buffer with the next bytes, unless fewer are left. It returns how many were read. A read that is interrupted is
+// repeated.
+fn fill<R: Read>(input: &mut R, buf: &mut [u8]) -> io::Result<usize>
+    ensures read { IfOk result (λ n. Consumes (R.remaining input.old) (R.remaining input.new) (take n buf.new)) }
+    ensures most { IfOk result (λ n. n ≤ length buf.new) }
+    ensures short { IfOk result (λ n. n < length buf.new → IsAtEnd (R.remaining input.new)) }
+    ensures len { length buf.new ≡ length buf.old }
+    ensures part { OnErr result (IsReadPart (R.remaining input.old) (R.remaining input.new)) }
+{
+    let mut at = 0;
+    for _ in 0..u64::MAX {
+        if at >= buf.len() {
+            return Ok(at);
+        }
+        match input.read(&mut buf[at..]) {
+            Ok(0) => return Ok(at),
+            Ok(count) => at += count,
+            Err(error) => {
+                if error.kind() != ErrorKind::Interrupted {
+                    return Err(error);
+                }
+            }
+        }
+    }
+    Err(io::Error::from(ErrorKind::TimedOut))
+}
+
+/// Reads bytes up to this number: fewer only if no more are left.
+pub fn read_first<R: Read>(alloc: Global, input: &mut R, count: usize) -> io::Result<Vec<u8>>
+    ensures read { IfOk result (λ v. Consumes (R.remaining input.old) (R.remaining input.new) v.items) }
+    ensures most { IfOk result (λ v. length v.items ≤ count) }
+    ensures short { IfOk result (λ v. length v.items < count → IsAtEnd (R.remaining input.new)) }
+    ensures part { OnErr result (IsReadPart (R.remaining input.old) (R.remaining input.new)) }
+{
+    let mut bytes = Vec::new(alloc);
+    bytes.resize(count, 0)?;
+    let filled = fill(input, &mut bytes)?;
+    bytes.truncate(filled);
+    Ok(bytes)
+}
+
+/// Reads all bytes that are left after `start`, which was read before. It returns both.
+pub fn read_after<R: Read>(input: &mut R, start: Vec<u8>) -> io::Result<Vec<u8>>
+    ensures read { (left : Option (List ℕ)) → Consumes left (R.remaining input.old) start.items
+        → IfOk result (λ v. Consumes left (R.remaining input.new) v.items) }
+    ensures starts { IfOk result (λ v. take (length start.items) v.items ≡ start.items) }
+    ensures ended { OnOk result (IsAtEnd (R.remaining input.new)) }
+    ensures part { OnErr result (IsReadPart (R.remaining input.old) (R.remaining input.new)) }
+{
+    let mut bytes = start;
     input.read_to_end(&mut bytes)?;
     Ok(bytes)
 }

@@ -5,6 +5,9 @@
 pub mod end;
 pub mod errors;
 pub mod extra;
+pub mod files;
 pub mod input;
 pub mod meter;
 pub mod output;
+pub mod shown;
+pub mod words;

@@ -1,5 +1,6 @@
 //! How far a program has come, on a terminal.
 
+use crate::shown::Shown;
 use std::io::{IsTerminal, Stderr, Write};
 use std::time::{Duration, Instant};
 
@@ -58,7 +59,7 @@ impl<'a> Meter<'a> {
     pub fn advance(&mut self, count: usize, parts: &str) {
         self.done = if self.done < count { self.done + 1 } else { 1 };
         if self.is_due() {
-            let (program, name, done) = (self.program, self.name, self.done);
+            let (program, name, done) = (self.program, Shown(self.name), self.done);
             let _ = write!(
                 self.errors,
                 "\r\x1b[K{program}: {name}: {done} of {count} {parts}"

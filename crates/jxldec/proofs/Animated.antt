@@ -48,6 +48,7 @@ module _ (limits : Limits) (file : List ℕ) where
   layers_fail (failures.Missing extra) h = absurd h
   layers_fail (failures.Unreadable e) h = absurd h
   layers_fail failures.Ending h = absurd h
+  layers_fail failures.Foreign h = absurd h
   layers_fail (failures.Unwritable e) h = absurd h
   layers_fail failures.Closed h = absurd h
   layers_fail (failures.Unsaved extra e) h = absurd h

@@ -9,7 +9,6 @@ use Rattle.jxl_coding.specs.Parse.{decoder_at}
 use Rattle.jxl_coding.specs.Tokens.{entropy}
 use Rattle.jxl_container.specs.Files.{stream_of}
 use Rattle.jxl_container.proofs.FileLaws.{one_codestream}
-use Rattle.jxl_container.specs.Metadata.{HasExif, HasXmp}
 use Rattle.jxl_container.specs.declared.error.FileError.{FileError as BoxError}
 use Rattle.jxl_image_header.specs.Images.{Image, image_header, image_of}
 use Rattle.jxl_image_header.specs.declared.image.ImageHeader.{ImageHeader}
@@ -36,10 +35,9 @@ use Rattle.jxl_png_write.specs.Headers.{alpha_of, alpha_suits, is_side, is_whole
 use Rattle.jxldec.specs.Contents.{content_text}
 use Rattle.jxldec_lines.specs.Formats.{chosen, suits_output}
 use Rattle.jxldec.specs.Layers.{has_frames, is_layers_error, is_of_layers, lists_frames}
-use Rattle.jxldec.specs.Texts.{FramesHaveNoFormat, HasNoFormat, IsAboveLimits, IsFound, IsTextOf, IsTextOfFile, IsTextOfFrame, MetadataFails}
+use Rattle.jxldec.specs.Texts.{FramesHaveNoFormat, HasNoFormat, IsAboveLimits, IsTextOf, IsTextOfFile, IsTextOfFrame}
 use Rattle.jxldec_lines.specs.declared.failures.Failure.{Failure}
 use Rattle.jxldec_lines.specs.declared.failures.Failure.TheVariants as failures
-use Rattle.jxl_command.specs.declared.extra.Extra.TheVariants as extras
 use Rattle.jxldec_lines.specs.declared.format.OutputFormat.{OutputFormat}
 use Rattle.jxldec_lines.specs.declared.format.OutputFormat.TheVariants.{Netpbm, Png}
 use Rattle.jxldec.specs.declared.content.Output.{Output}
@@ -231,16 +229,3 @@ module _ (limits : Limits) (file : List ℕ) (number : ℕ) (r : Option Picture)
 
   pub whole_if : (p : Picture) → r ≡ Some p → IfSome r (λ p. IsWhole (image_of p.header) p.channels.items) → IsWhole (image_of p.header) p.channels.items
   whole_if p is whole = subst (λ (o : Option Picture). IfSome o (λ p. IsWhole (image_of p.header) p.channels.items)) is whole
-
--- data that were found are those of the file
-pub found_so : (wanted : Bool) (Has : Option (List ℕ) → Type 0) (found here : Option (List ℕ)) → Has found → IsFound wanted (λ bytes. found ≡ Some bytes) here → IsFound wanted (λ bytes. Has (Some bytes)) here
-found_so true Has found here has is = (is.0, subst Has is.1 has, is.2)
-found_so false Has found here has is = is
-
--- data that are missing are a failure
-module _ (limits : Limits) (file : List ℕ) (found : Option (List ℕ)) (failure : Failure) (none : found ≡ None) where
-  pub exif_missing : HasExif file found → failure ≡ failures.Missing extras.Exif → MetadataFails limits file failure
-  exif_missing has e = subst (λ (f : Failure). MetadataFails limits file f) (sym e) (subst (λ (o : Option (List ℕ)). HasExif file o) none has)
-
-  pub xmp_missing : HasXmp file found → failure ≡ failures.Missing extras.Xmp → MetadataFails limits file failure
-  xmp_missing has e = subst (λ (f : Failure). MetadataFails limits file f) (sym e) (subst (λ (o : Option (List ℕ)). HasXmp file o) none has)

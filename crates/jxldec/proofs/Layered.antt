@@ -29,6 +29,7 @@ has_layers limits file asked (failures.Unreadable e) h l = absurd h
 has_layers limits file asked (failures.Frames e) h l = absurd h
 has_layers limits file asked (failures.NoFrame n) h l = absurd h
 has_layers limits file asked failures.Ending h l = absurd h
+has_layers limits file asked failures.Foreign h l = absurd h
 has_layers limits file asked (failures.Unwritable e) h l = absurd h
 has_layers limits file asked failures.Closed h l = absurd h
 has_layers limits file asked (failures.Unsaved extra e) h l = absurd h

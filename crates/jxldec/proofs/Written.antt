@@ -127,6 +127,7 @@ page_so pattern number name (failures.NoFrame n) of e = absurd of
 page_so pattern number name failures.NoFormat of e = absurd of
 page_so pattern number name (failures.Missing x) of e = absurd of
 page_so pattern number name failures.Ending of e = absurd of
+page_so pattern number name failures.Foreign of e = absurd of
 page_so pattern number name (failures.Unsaved x y) of e = absurd of
 
 -- a picture that comes next, or none

@@ -1,15 +1,15 @@
 -- All pictures of a file, each in an output of its own (`--frames`).
-use Rattle.std.specs.Prelude.{◌≡◌, ℕ, List, [], ◌∷◌, ◌++◌, length, true, false, Option, Some, None, codes, string_bytes}
+use Rattle.std.specs.Prelude.{◌≡◌, ℕ, List, [], ◌∷◌, ◌++◌, length, MatchBool, true, false, Option, Some, None, codes, string_bytes}
 use Rattle.std.specs.Fmt.{decimal}
 use Rattle.std.specs.declared.io.Error.{Error}
 use Rattle.jxl_animation.specs.Files.{HasFewerFrames}
-use Rattle.jxl_command.specs.Streams.{IsReadPart}
+use Rattle.jxl_command.specs.Shown.{shown_text}
 use Rattle.jxl_container.specs.Files.{HasLaterError}
 use Rattle.jxl_container.specs.declared.error.FileError.{FileError as BoxError}
 use Rattle.jxl_frame_names.specs.Names.{name_of}
 use Rattle.jxl_frame_names.specs.declared.pattern.NamePattern.{NamePattern}
 use Rattle.jxl_picture.specs.declared.limits.Limits.{Limits}
-use Rattle.jxldec_lines.specs.Failures.{IsOfWriting, Reports}
+use Rattle.jxldec_lines.specs.Failures.{IsOfWriting, Reports, cause_of, failure_text, is_silent}
 use Rattle.jxldec_lines.specs.Losses.{has_loss}
 use Rattle.jxldec_lines.specs.Warnings.{one_frame, warnings}
 use Rattle.jxldec_lines.specs.declared.failures.Failure.{Failure}
@@ -17,7 +17,7 @@ use Rattle.jxldec_lines.specs.declared.failures.Failure.TheVariants as failures
 use Rattle.jxldec_lines.specs.declared.format.OutputFormat.{OutputFormat}
 use Rattle.jxldec_lines.specs.declared.loss.Loss.{Loss}
 use Rattle.jxldec.specs.Pages.{AppendsPages, Page}
-use Rattle.jxldec.specs.Texts.{FrameTextFails, IsTextOfFrame}
+use Rattle.jxldec.specs.Texts.{FrameTextFails, IsTextOfFrame, ReadingFails}
 use Rattle.jxldec.specs.declared.frames.At.{At}
 use Rattle.jxldec.specs.declared.frames.At.TheVariants as places
 use Rattle.jxldec.specs.declared.frames.FramesFailure.{FramesFailure}
@@ -63,11 +63,20 @@ IsOfPage pattern number (places.Output name) failure = (string_bytes name ≡ na
 abbrev pub PageFails : NamePattern → ℕ → FramesFailure → Type 0
 PageFails pattern number f = IsOfPage pattern number f.at f.failure
 
--- what a failure is about, of a file of this name: the file, one of its pictures, or an output
+-- What a line names as what a failure is about, of a file of this name: the file, one of its pictures, or an output. Control characters
+-- of names are written by their codes.
 unfoldable pub subject_at : List ℕ → At → List ℕ
-subject_at name places.File = name
-subject_at name (places.Frame number) = name ++ codes ": frame " ++ decimal number
-subject_at name (places.Output output) = string_bytes output
+subject_at name places.File = shown_text name
+subject_at name (places.Frame number) = shown_text name ++ codes ": frame " ++ decimal number
+subject_at name (places.Output output) = shown_text (string_bytes output)
+
+-- the words of the line on a failure there, before its cause
+abbrev pub frames_line : List ℕ → At → Failure → List ℕ
+frames_line name place failure = codes "jxldec: " ++ (subject_at name place ++ (codes ": " ++ failure_text failure))
+
+-- standard error gets that line; of a closed pipe nothing is said
+abbrev pub ReportsAt : List ℕ → At → Failure → Type 0 → (Option Error → List ℕ → Type 0) → Type 0
+ReportsAt name place failure Silent Gets = MatchBool (is_silent failure) Silent (Gets (cause_of failure) (frames_line name place failure))
 
 -- The outputs get all pictures of a file, and standard error the lines that warn of what is left out, and of the error after the
 -- codestream, unless nothing but errors is to be printed; it gets nothing then, nor where there is nothing to warn of.
@@ -85,16 +94,15 @@ pub record WritesAllFrames (options : Options) (pattern : NamePattern) (file : L
 pub record WritesSomeFrames (options : Options) (pattern : NamePattern) (old new : Option (List Page)) (Silent : Type 0) (Gets : Option Error → List ℕ → Type 0) (file : List ℕ) : Type 0 where
   pub failed : FramesFailure
   pub written : AddsPagesBefore options.limits file options.format pattern old new failed
-  pub reports : Reports (subject_at options.input.now failed.at) failed.failure Silent Gets
+  pub reports : ReportsAt options.input.now failed.at failed.failure Silent Gets
 
--- The input cannot be read, by this error; no output gets anything, and standard error gets the line of this failure.
-pub record WritesNoFrame (options : Options) (left rest : Option (List ℕ)) (Unread : Error → Type 0) (Stays : Type 0) (Gets : Option Error → List ℕ → Type 0) : Type 0 where
-  pub error : Error
-  pub part : IsReadPart left rest
-  pub unread : Unread error
+-- The input is not read to its end, by this failure; no output gets anything, and standard error gets the line of this failure.
+pub record WritesNoFrame (options : Options) (left rest : Option (List ℕ)) (Unread : Error → Type 0) (Stays Silent : Type 0) (Gets : Option Error → List ℕ → Type 0) : Type 0 where
+  pub failure : Failure
+  pub why : ReadingFails left rest Unread failure
   pub stays : Stays
-  pub reports : Reports options.input.now (failures.Unreadable error) ⊥ Gets
+  pub reports : Reports options.input.now failure Silent Gets
 
 -- the words of the line on a name that is no pattern
 unfoldable pub pattern_line : List ℕ → List ℕ
-pattern_line name = codes "error: invalid value '" ++ name ++ codes "' for '--frames <PATTERN>': it needs one %d, or one %0Nd with N from 1 to 9"
+pattern_line name = codes "error: invalid value '" ++ shown_text name ++ codes "' for '--frames <PATTERN>': it needs one %d, or one %0Nd with N from 1 to 9"

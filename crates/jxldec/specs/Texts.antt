@@ -1,20 +1,19 @@
 -- What the program writes of a file: its picture, or what its headers tell.
-use Rattle.std.specs.Prelude.{◌≡◌, ◌<◌, ◌⊎◌, ◌++◌, ℕ, List, [], length, not, Bool, true, false, MatchBool, MatchOption, Option, Some, None, Ok, is_some}
+use Rattle.std.specs.Prelude.{◌≡◌, ◌<◌, ◌⊎◌, ◌++◌, ℕ, List, [], length, not, Bool, true, false, MatchBool, MatchOption, Option, Some, None, Ok, is_none, is_some}
 use Rattle.std.specs.Option.{option_copied}
 use Rattle.std.specs.Io.KnownBytes.{Appends, Consumes, IsAtEnd}
 use Rattle.std.specs.declared.io.Error.{Error}
 use Rattle.jxl_codestream.specs.FrontParts.{bytes_if}
 use Rattle.jxl_coding.specs.Parse.{decoder_at}
 use Rattle.jxl_coding.specs.Tokens.{entropy}
-use Rattle.jxl_container.specs.Files.{HasCodestream, HasLaterError}
+use Rattle.jxl_container.specs.Files.{HasCodestream, HasLaterError, has_signature, is_bare}
 use Rattle.jxl_container.specs.Metadata.{HasExif, HasXmp}
 use Rattle.jxl_container.specs.declared.error.FileError.{FileError as BoxError}
 use Rattle.jxl_animation.specs.declared.error.AnimationError.{AnimationError}
 use Rattle.jxl_animation.specs.declared.error.AnimationError.TheVariants as animations
 use Rattle.jxl_animation.specs.Files.{BeginFrames, FileNotOpened, FrameOfFileFails, HasFewerFrames, IsFrameOfFile}
-use Rattle.jxl_command.specs.Streams.{IsReadPart, IsReadWhole, is_closed}
-use Rattle.jxl_command.specs.declared.extra.Extra.{Extra}
-use Rattle.jxl_command.specs.declared.extra.Extra.TheVariants as extras
+use Rattle.jxl_command.specs.Streams.{IsKept, IsReadPart, IsReadWhole, is_closed}
+use Rattle.jxl_command.specs.declared.extra.Extras.{Extras}
 use Rattle.jxl_image_header.specs.Images.{Image, image_of}
 use Rattle.jxl_netpbm.specs.Output.{AppendsBeginning}
 use Rattle.jxl_picture.specs.declared.limits.Limits.{Limits}
@@ -31,12 +30,13 @@ use Rattle.jxl_lossless.specs.Pictures.{FileFails, IsPictureOfFile, ProfileOfFil
 use Rattle.jxl_codestream.specs.declared.error.FrontError.{FrontError}
 use Rattle.jxl_codestream.specs.declared.error.FrontError.TheVariants as fronts
 use Rattle.jxl_image_header.specs.declared.size.Size.{Size}
-use Rattle.jxldec_lines.specs.Failures.{Reports, is_of_output}
+use Rattle.jxldec_lines.specs.Failures.{Reports, has_lack, is_of_output}
 use Rattle.jxldec_lines.specs.Formats.{IsWrittenAs, chosen}
 use Rattle.jxldec_options.specs.Options.{subject}
 use Rattle.jxldec.specs.Layers.{has_frames, is_layered, is_layers_error, is_of_layers, lists_frames}
 use Rattle.jxldec_lines.specs.Losses.{has_loss, loss_in, unless_saved}
-use Rattle.jxldec_lines.specs.Warnings.{has_more, kinds_left_out, one_frame, warnings}
+use Rattle.jxldec_lines.specs.Warnings.{has_more, kinds_left_out, lacking_lines, one_frame, warnings}
+use Rattle.jxldec_lines.specs.declared.failures.Lacks.{Lacks}
 use Rattle.jxldec_lines.specs.declared.failures.Failure.{Failure}
 use Rattle.jxldec_lines.specs.declared.failures.Failure.TheVariants as failures
 use Rattle.jxldec_lines.specs.declared.format.OutputFormat.{OutputFormat}
@@ -45,6 +45,7 @@ use Rattle.jxldec_lines.specs.declared.loss.Loss.{Loss}
 use Rattle.jxldec_lines.specs.declared.loss.Loss.TheVariants.{Nothing}
 use Rattle.jxldec.specs.Animations.{IsApngText}
 use Rattle.jxldec.specs.declared.content.Beside.{Beside}
+use Rattle.jxldec.specs.declared.metadata.Metadata.{Metadata}
 use Rattle.jxldec_options.specs.declared.options.Options.{Options}
 use Rattle.jxldec_options.specs.declared.options.Task.{Task}
 use Rattle.jxldec_options.specs.declared.options.Task.TheVariants as tasks
@@ -109,12 +110,6 @@ pub record IsAboveLimits (limits : Limits) (file : List ℕ) (size : Size) (extr
 abbrev pub HasProfile : Limits → List ℕ → Option (List ℕ) → Type 0
 HasProfile limits file icc = ProfileOfFile limits file icc ⊎ ((bytes : List ℕ) × (image : Image) × (start : ℕ) × BeginFrames limits file bytes image icc start)
 
--- the file does not have these data
-abbrev pub IsMissing : Limits → List ℕ → Extra → Type 0
-IsMissing limits file extras.Profile = HasProfile limits file None
-IsMissing limits file extras.Exif = HasExif file None
-IsMissing limits file extras.Xmp = HasXmp file None
-
 -- what each failure says of the file whose picture is asked for
 abbrev pub TextFails : Limits → List ℕ → Option OutputFormat → Failure → Type 0
 TextFails limits file asked (failures.File error) = FileFails limits file error
@@ -130,11 +125,10 @@ InfoFails limits file (failures.TooLarge size extra most) = IsAboveLimits limits
 InfoFails limits file failures.OutOfMemory = Unit {0}
 InfoFails limits file failure = ⊥
 
--- what each failure says of the file whose profile, Exif or XMP data are asked for
-abbrev pub MetadataFails : Limits → List ℕ → Failure → Type 0
-MetadataFails limits file (failures.Missing extra) = IsMissing limits file extra
-MetadataFails limits file (failures.Frames error) = FileNotOpened limits file error
-MetadataFails limits file failure = InfoFails limits file failure
+-- what each failure says of the file whose profile is asked for
+abbrev pub ProfileFails : Limits → List ℕ → Failure → Type 0
+ProfileFails limits file (failures.Frames error) = FileNotOpened limits file error
+ProfileFails limits file failure = InfoFails limits file failure
 
 -- what each failure says of the file of which the picture with this number is asked for
 abbrev pub FrameTextFails : Limits → List ℕ → ℕ → Option OutputFormat → Failure → Type 0
@@ -257,15 +251,30 @@ pub record IsBegun (task : Task) (limits : Limits) (asked : Option OutputFormat)
   pub is : IsAsked task limits asked file text others loss frames
   pub begun : AppendsBeginning old new text
 
+-- A part of the input was read, from left to rest, as no JPEG XL file begins. It has 12 bytes at least, or is the whole input.
+pub record IsForeign (left rest : Option (List ℕ)) : Type 0 where
+  pub part : List ℕ
+  pub read : Consumes left rest part
+  pub bare : is_bare part ≡ false
+  pub boxed : has_signature part ≡ false
+  pub long : length part < 12 → IsAtEnd rest
+
+-- what each failure says of an input that is not read to its end: it cannot be read by this error, or it begins as no JPEG XL file
+abbrev pub ReadingFails : Option (List ℕ) → Option (List ℕ) → (Error → Type 0) → Failure → Type 0
+ReadingFails left rest Unread (failures.Unreadable error) = IsReadPart left rest × Unread error
+ReadingFails left rest Unread failures.Foreign = IsForeign left rest
+ReadingFails left rest Unread failure = ⊥
+
 -- what each failure says of the input, from left to rest, and of the output: the input was read to its end, unless it cannot be
--- read by this error; what is asked of it was made before the output was written, and the output got a
--- beginning of that
-abbrev pub InputFails : Task → Limits → Option OutputFormat → Option (List ℕ) → Option (List ℕ) → (Error → Type 0) → Option (List ℕ) → Option (List ℕ) → Failure → Type 0
-InputFails task limits asked left rest Unread old new (failures.Unreadable error) = IsReadPart left rest × Unread error
-InputFails task limits asked left rest Unread old new (failures.Unwritable error) = IsReadWhole left rest (IsBegun task limits asked old new) × (is_closed error ≡ false)
-InputFails task limits asked left rest Unread old new failures.Closed = IsReadWhole left rest (IsBegun task limits asked old new)
-InputFails task limits asked left rest Unread old new (failures.Unsaved extra error) = IsReadWhole left rest (IsBegun task limits asked old new)
-InputFails task limits asked left rest Unread old new failure = IsReadWhole left rest (λ file. AskedFails task limits asked file failure ⊎ MetadataFails limits file failure)
+-- read by this error or begins as no JPEG XL file; what is asked of it was made before the output was written, and the output got a
+-- beginning of that; that it has no profile that can be read is said only if the profile is wanted
+abbrev pub InputFails : Task → Limits → Option OutputFormat → Bool → Option (List ℕ) → Option (List ℕ) → (Error → Type 0) → Option (List ℕ) → Option (List ℕ) → Failure → Type 0
+InputFails task limits asked wanted left rest Unread old new (failures.Unreadable error) = ReadingFails left rest Unread (failures.Unreadable error)
+InputFails task limits asked wanted left rest Unread old new failures.Foreign = ReadingFails left rest Unread failures.Foreign
+InputFails task limits asked wanted left rest Unread old new (failures.Unwritable error) = IsReadWhole left rest (IsBegun task limits asked old new) × (is_closed error ≡ false)
+InputFails task limits asked wanted left rest Unread old new failures.Closed = IsReadWhole left rest (IsBegun task limits asked old new)
+InputFails task limits asked wanted left rest Unread old new (failures.Unsaved extra error) = IsReadWhole left rest (IsBegun task limits asked old new)
+InputFails task limits asked wanted left rest Unread old new failure = IsReadWhole left rest (λ file. AskedFails task limits asked file failure ⊎ ((wanted ≡ true) × ProfileFails limits file failure))
 
 -- The input was read to its end, from left to rest, and the output got what was asked of what was read, which has this error after its codestream, or none.
 pub record IsWritten (task : Task) (limits : Limits) (asked : Option OutputFormat) (left rest old new : Option (List ℕ)) (others : List ℕ) (loss : Loss) (frames : FrameCount) (error : Option BoxError) : Type 0 where
@@ -277,14 +286,33 @@ pub record IsWritten (task : Task) (limits : Limits) (asked : Option OutputForma
   pub later : HasLaterError file error
   pub written : Appends old new text
 
--- these data of a file were found, if they are wanted
-abbrev pub IsFound : Bool → (List ℕ → Type 0) → Option (List ℕ) → Type 0
-IsFound wanted Has found = MatchBool wanted ((bytes : List ℕ) × Has bytes × (found ≡ Some bytes)) (found ≡ None)
+-- these data of a file were looked for, if they are wanted: they were found, or it lacks them
+abbrev pub IsLookedFor : Bool → (Option (List ℕ) → Type 0) → Bool → Option (List ℕ) → Type 0
+IsLookedFor wanted Has lack found = MatchBool wanted (Has found × (lack ≡ is_none found)) ((found ≡ None) × (lack ≡ false))
 
--- If these data of a file are asked for, it has them, and their output got them, and has passed them on; else their output stays as it
--- was.
-abbrev pub IsSaved : Bool → (List ℕ → Type 0) → Option (List ℕ) → Option (List ℕ) → Type 0 → Type 0 → Type 0
-IsSaved wanted Has old new Flushed Stays = MatchBool wanted ((bytes : List ℕ) × Has bytes × Appends old new bytes × Flushed) Stays
+-- the profile, the Exif data and the XMP data of a file were looked for, those that are asked for
+abbrev pub AreLookedFor : Options → List ℕ → Metadata → Type 0
+AreLookedFor options file metadata = IsLookedFor (is_some options.paths.icc) (HasProfile options.limits file) metadata.lacks.profile (bytes_if metadata.profile)
+    × IsLookedFor (is_some options.paths.exif) (HasExif file) metadata.lacks.exif (option_copied metadata.exif)
+    × IsLookedFor (is_some options.paths.xmp) (HasXmp file) metadata.lacks.xmp (option_copied metadata.xmp)
+
+-- These data of a file were looked for, if they are wanted, and what was found is in their output, which has passed it on; if nothing
+-- was found, their output stays as it was.
+pub record IsSaved (wanted : Bool) (Has : Option (List ℕ) → Type 0) (lack : Bool) (old new : Option (List ℕ)) (Flushed Stays : Type 0) : Type 0 where
+  pub found : Option (List ℕ)
+  pub looked : IsLookedFor wanted Has lack found
+  pub kept : IsKept found old new Flushed Stays
+
+-- so it is of the profile, the Exif data and the XMP data of a file, which lacks these
+abbrev pub AreSaved : {F : Type 0} → (F → Option (List ℕ)) → (F → Type 0) → Options → List ℕ → Lacks → Extras F → Extras F → Type 0
+AreSaved contents Flushed options file lacks old new =
+    IsSaved (is_some options.paths.icc) (HasProfile options.limits file) lacks.profile (contents old.profile) (contents new.profile) (Flushed new.profile) (new.profile ≡ old.profile)
+    × IsSaved (is_some options.paths.exif) (HasExif file) lacks.exif (contents old.exif) (contents new.exif) (Flushed new.exif) (new.exif ≡ old.exif)
+    × IsSaved (is_some options.paths.xmp) (HasXmp file) lacks.xmp (contents old.xmp) (contents new.xmp) (Flushed new.xmp) (new.xmp ≡ old.xmp)
+
+-- a file lacks nothing that is asked for
+abbrev pub no_lacks : Lacks
+no_lacks = record { profile = false; exif = false; xmp = false }
 
 -- So it is, and standard error gets the lines that warn of what is left out, and of the error after the codestream, unless
 -- nothing but errors is to be printed; it gets nothing then, nor where there is nothing to warn of. A profile that is saved is
@@ -303,6 +331,20 @@ pub record IsDone (task : Task) (quiet saved : Bool) (limits : Limits) (asked : 
 -- the line of the failure, about what fails, or nothing if a pipe was closed.
 pub record IsFailed (options : Options) (left rest : Option (List ℕ)) (Unread : Error → Type 0) (old new : Option (List ℕ)) (Stays Silent : Type 0) (Gets : Option Error → List ℕ → Type 0) : Type 0 where
   pub failure : Failure
-  pub why : InputFails options.task options.limits options.format left rest Unread old new failure
+  pub why : InputFails options.task options.limits options.format (is_some options.paths.icc) left rest Unread old new failure
   pub kept : is_of_output failure ≡ false → Stays
   pub reports : Reports (subject options failure) failure Silent Gets
+
+-- The file lacks some of the data that are asked for. All else is done: the output got what is asked for, and has passed it on; the
+-- data that were found are saved. Standard error gets the lines that warn, and the line that says what the file lacks.
+pub record IsLacking (options : Options) (left rest old new : Option (List ℕ)) (Flushed : Type 0) (Saves : List ℕ → Lacks → Type 0) (Gets : List ℕ → Type 0) : Type 0 where
+  pub lacks : Lacks
+  pub some : has_lack lacks ≡ true
+  pub others : List ℕ
+  pub loss : Loss
+  pub frames : FrameCount
+  pub error : Option BoxError
+  pub written : IsWritten options.task options.limits options.format left rest old new others loss frames error
+  pub flushed : Flushed
+  pub saved : IsReadWhole left rest (λ file. Saves file lacks)
+  pub gets : Gets (lacking_lines options.quiet options.input.now others (unless_saved (is_some options.paths.icc) loss) frames error lacks)

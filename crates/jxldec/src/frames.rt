@@ -5,21 +5,22 @@ ghost use Rattle.jxl_command.specs.Streams.{IsReadWhole, IsReported, IsReportedL
 ghost use Rattle.jxl_container.specs.Files.{HasLaterError};
 ghost use Rattle.jxl_frame_names.specs.Names.{name_of};
 ghost use Rattle.jxldec.specs.Contents.{IsWritable, content_text};
-ghost use Rattle.jxldec.specs.Frames.{AddsAllPages, PageFails, AddsPagesBefore, WritesAllFrames, WritesNoFrame, WritesSomeFrames, pattern_line, subject_at};
+ghost use Rattle.jxldec.specs.Frames.{AddsAllPages, PageFails, AddsPagesBefore, WritesAllFrames, WritesNoFrame, WritesSomeFrames, frames_line, pattern_line, subject_at, ReportsAt};
 ghost use Rattle.jxldec.specs.Inner.Failures.{page_failure};
 ghost use Rattle.jxldec.specs.Pages.{AppendsPages, page_of};
 ghost use Rattle.jxldec.specs.Sources.{IsSourceOf};
 ghost use Rattle.jxldec.specs.Texts.{FrameTextFails};
-ghost use Rattle.jxldec_lines.specs.Failures.{Reports, cause_of, failure_line};
+ghost use Rattle.jxldec_lines.specs.Failures.{cause_of};
 ghost use Rattle.jxldec_lines.specs.Warnings.{one_frame};
 
 use crate::content::{Beside, Content, content_of};
 use crate::outputs::Outputs;
-use crate::run::{read_file, support_frames};
+use crate::run::{read_file, read_input, support_frames};
 use jxl_animation::FrameDecoder;
 use jxl_command::end::End;
 use jxl_command::errors::{ErrorStream, put_line};
 use jxl_command::input::InputStream;
+use jxl_command::shown::Shown;
 use jxl_frame_names::pattern::NamePattern;
 use jxl_image_header::image::Animation;
 use jxl_lossless::{Limits, Steps};
@@ -213,11 +214,14 @@ impl fmt::Display for Subject<'_> {
 
     #[tactic(auto, unfolding(crate::specs::Frames::subject_at))]
     fn fmt<W: fmt::Write>(&self, f: &mut fmt::Formatter<W>) -> fmt::Result {
-        let name = self.name;
+        let name = Shown(self.name);
         match self.at {
-            At::File => f.write_str(name),
+            At::File => write!(f, "{name}"),
             At::Frame(number) => write!(f, "{name}: frame {number}"),
-            At::Output(output) => f.write_str(output),
+            At::Output(output) => {
+                let output = Shown(output);
+                write!(f, "{output}")
+            }
         }
     }
 }
@@ -225,7 +229,7 @@ impl fmt::Display for Subject<'_> {
 // Writes the line of a failure. It returns whether all of it was written.
 fn put_failure<E: ErrorStream>(errors: &mut E, subject: Subject<'_>, failure: Failure) -> bool
     ensures { IsReportedLine result (E.contents errors.old) (E.contents errors.new) (E.has_failed errors.new)
-        (cause_of failure) (failure_line (subject_at subject.entry.name.now subject.entry.at.now) failure) }
+        (cause_of failure) (frames_line subject.entry.name.now subject.entry.at.now failure) }
 {
     let cause = failure.cause();
     put_line(errors, format_args!("jxldec: {subject}: {failure}"), cause)
@@ -234,7 +238,7 @@ fn put_failure<E: ErrorStream>(errors: &mut E, subject: Subject<'_>, failure: Fa
 // Writes the line of a failure, and ends with status 1. Of a closed pipe nothing is written.
 fn report_frames<E: ErrorStream>(errors: &mut E, name: &str, failed: &FramesFailure) -> End
     ensures status { result.status ≡ 1 }
-    ensures line { Reports (subject_at name.now failed.now.at) failed.now.failure (errors.new ≡ errors.old)
+    ensures line { ReportsAt name.now failed.now.at failed.now.failure (errors.new ≡ errors.old)
         (IsReportedLine result.reported (E.contents errors.old) (E.contents errors.new) (E.has_failed errors.new)) }
 {
     if failed.failure.is_silent() {
@@ -272,15 +276,15 @@ pub fn run_frames<R: InputStream, S: Outputs, E: ErrorStream>(
         (IsReported result.reported (E.contents errors.old) (E.contents errors.new) (E.has_failed errors.new))
         (errors.new ≡ errors.old)) }
     ensures failed { result.status ≡ 1 → WritesNoFrame options.now (R.remaining input.old) (R.remaining input.new)
-        (R.fails_by input.new) (outputs.new ≡ outputs.old)
+        (R.fails_by input.new) (outputs.new ≡ outputs.old) (errors.new ≡ errors.old)
         (IsReportedLine result.reported (E.contents errors.old) (E.contents errors.new) (E.has_failed errors.new))
         ⊎ IsReadWhole (R.remaining input.old) (R.remaining input.new) (WritesSomeFrames options.now pattern.now
         (S.pages outputs.old) (S.pages outputs.new) (errors.new ≡ errors.old)
         (IsReportedLine result.reported (E.contents errors.old) (E.contents errors.new) (E.has_failed errors.new))) }
 {
-    let file = match input.read_rest(alloc) {
+    let file = match read_input(alloc, input) {
         Ok(file) => file,
-        Err(error) => return report(errors, options.input, Failure::Unreadable(error)),
+        Err(failure) => return report(errors, options.input, failure),
     };
     match write_frames(
         alloc,
@@ -302,6 +306,7 @@ pub fn refuse_pattern<E: ErrorStream>(errors: &mut E, name: &str) -> End
     ensures line { IsReportedLine result.reported (E.contents errors.old) (E.contents errors.new)
         (E.has_failed errors.new) None (pattern_line name.now) }
 {
+    let name = Shown(name);
     let reported = put_line(
         errors,
         format_args!(

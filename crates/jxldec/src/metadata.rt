@@ -1,11 +1,10 @@
 //! What is asked for of a file beside its picture: the profile, the Exif data and the XMP data.
 
-ghost use Rattle.std.specs.Prelude.{◌≡◌, Option, IfErr, IfOk, None, OnOk, Some, is_some};
+ghost use Rattle.std.specs.Prelude.{◌≡◌, ◌&&◌, IfErr, IfOk, None, OnOk, if◌then◌else◌, is_none, is_some, true};
 ghost use Rattle.std.specs.Option.{option_copied};
 ghost use Rattle.jxl_codestream.specs.FrontParts.{bytes_if};
 ghost use Rattle.jxl_command.specs.Streams.{IsKept};
-ghost use Rattle.jxl_container.specs.Metadata.{HasExif, HasXmp};
-ghost use Rattle.jxldec.specs.Texts.{HasProfile, IsFound, MetadataFails};
+ghost use Rattle.jxldec.specs.Texts.{AreLookedFor, HasProfile, IsLookedFor, ProfileFails};
 ghost use Rattle.jxldec_lines.specs.Failures.{IsOfSaving};
 
 use crate::layers::lists_frames;
@@ -16,16 +15,17 @@ use jxl_container::codestream::find_codestream;
 use jxl_container::metadata::{find_exif, find_xmp};
 use jxl_layers::opening::Opening;
 use jxl_lossless::{FileError, Limits};
-use jxldec_lines::failures::Failure;
+use jxldec_lines::failures::{Failure, Lacks};
 use jxldec_options::options::Options;
 use std::alloc::Global;
 
-/// What is asked for of a file beside its picture.
+/// What is asked for of a file beside its picture: what it has of that, and what it lacks.
 #[derive(Drop)]
 pub struct Metadata<'a> {
     pub profile: Option<Vec<u8>>,
     pub exif: Option<&'a [u8]>,
     pub xmp: Option<&'a [u8]>,
+    pub lacks: Lacks,
 }
 
 // The profile of a file that has several pictures, or layers, if it has one.
@@ -35,7 +35,7 @@ fn profile_of_frames(
     limits: &Limits,
 ) -> Result<Option<Vec<u8>>, Failure>
     ensures ok { IfOk result (λ v. HasProfile limits.now file.now (bytes_if v)) }
-    ensures err { IfErr result (MetadataFails limits.now file.now) }
+    ensures err { IfErr result (ProfileFails limits.now file.now) }
 {
     let stream = match find_codestream(alloc, file) {
         Ok(found) => found.codestream,
@@ -50,7 +50,7 @@ fn profile_of_frames(
 // The profile of a file, if it has one.
 fn profile_found(alloc: Global, file: &[u8], limits: &Limits) -> Result<Option<Vec<u8>>, Failure>
     ensures ok { IfOk result (λ v. HasProfile limits.now file.now (bytes_if v)) }
-    ensures err { IfErr result (MetadataFails limits.now file.now) }
+    ensures err { IfErr result (ProfileFails limits.now file.now) }
 {
     let read = read_file(alloc, file, limits)?;
     if lists_frames(read.reason()) {
@@ -60,68 +60,64 @@ fn profile_found(alloc: Global, file: &[u8], limits: &Limits) -> Result<Option<V
     Ok(read.into_profile())
 }
 
-// The profile of a file, which has one.
-fn profile_of_file(alloc: Global, file: &[u8], limits: &Limits) -> Result<Vec<u8>, Failure>
-    ensures ok { IfOk result (λ v. HasProfile limits.now file.now (Some v.items)) }
-    ensures err { IfErr result (MetadataFails limits.now file.now) }
-{
-    let found = profile_found(alloc, file, limits)?;
-    match found {
-        Some(profile) => Ok(profile),
-        None => Err(Failure::Missing(Extra::Profile)),
-    }
-}
-
-// The same, if it is wanted.
+// The profile of a file, if it is wanted, and whether the file lacks it.
 fn profile_if(
     alloc: Global,
     file: &[u8],
     limits: &Limits,
     wanted: bool,
-) -> Result<Option<Vec<u8>>, Failure>
-    ensures ok { IfOk result (λ v. IsFound wanted (λ bytes. HasProfile limits.now file.now (Some bytes))
-        (bytes_if v)) }
-    ensures err { IfErr result (MetadataFails limits.now file.now) }
+) -> Result<(Option<Vec<u8>>, bool), Failure>
+    ensures ok { IfOk result (λ p. IsLookedFor wanted (HasProfile limits.now file.now) p.1 (bytes_if p.0)) }
+    ensures err { IfErr result (λ failure. (wanted ≡ true) × ProfileFails limits.now file.now failure) }
 {
     if !wanted {
-        return Ok(None);
+        return Ok((None, false));
     }
-    let profile = profile_of_file(alloc, file, limits)?;
-    Ok(Some(profile))
+    match profile_found(alloc, file, limits) {
+        Ok(Some(profile)) => Ok((Some(profile), false)),
+        Ok(None) => Ok((None, true)),
+        Err(failure) => Err(failure),
+    }
 }
 
-// What was found of these data, if they are wanted.
-fn if_wanted(found: Option<&[u8]>, extra: Extra, wanted: bool) -> Result<Option<&[u8]>, Failure>
-    ensures ok { IfOk result (λ v. IsFound wanted (λ bytes. option_copied found.entry ≡ Some bytes) (option_copied v)) }
-    ensures err { IfErr result (λ failure. (failure ≡ Failure.Missing extra) × (option_copied found.entry ≡ None)) }
+// What was found of these data, if they are wanted, and whether the file lacks them.
+fn if_wanted(found: Option<&[u8]>, wanted: bool) -> (Option<&[u8]>, bool)
+    ensures found { option_copied result.0 ≡ (if wanted then option_copied found.entry else None) }
+    ensures lack { result.1 ≡ (wanted && is_none (option_copied found.entry)) }
 {
     if !wanted {
-        return Ok(None);
+        return (None, false);
     }
     match found {
-        Some(bytes) => Ok(Some(bytes)),
-        None => Err(Failure::Missing(extra)),
+        Some(bytes) => (Some(bytes), false),
+        None => (None, true),
     }
 }
 
-/// What is asked for of a file beside its picture.
+/// What is asked for of a file beside its picture: what it has of that, and what it lacks.
 pub fn metadata_asked<'a>(
     alloc: Global,
     file: &'a [u8],
     options: &Options<'_>,
 ) -> Result<Metadata<'a>, Failure>
-    ensures profile { IfOk result (λ m. IsFound (is_some options.now.paths.icc)
-        (λ bytes. HasProfile options.now.limits file.now (Some bytes)) (bytes_if m.profile)) }
-    ensures exif { IfOk result (λ m. IsFound (is_some options.now.paths.exif) (λ bytes. HasExif file.now (Some bytes))
-        (option_copied m.exif)) }
-    ensures xmp { IfOk result (λ m. IsFound (is_some options.now.paths.xmp) (λ bytes. HasXmp file.now (Some bytes))
-        (option_copied m.xmp)) }
-    ensures err { IfErr result (MetadataFails options.now.limits file.now) }
+    ensures ok { IfOk result (AreLookedFor options.now file.now) }
+    ensures err { IfErr result (λ failure. (is_some options.now.paths.icc ≡ true)
+        × ProfileFails options.now.limits file.now failure) }
 {
-    let profile = profile_if(alloc, file, &options.limits, options.paths.icc.is_some())?;
-    let exif = if_wanted(find_exif(file), Extra::Exif, options.paths.exif.is_some())?;
-    let xmp = if_wanted(find_xmp(file), Extra::Xmp, options.paths.xmp.is_some())?;
-    Ok(Metadata { profile, exif, xmp })
+    let paths = options.paths;
+    let (profile, no_profile) = profile_if(alloc, file, &options.limits, paths.icc.is_some())?;
+    let (exif, no_exif) = if_wanted(find_exif(file), paths.exif.is_some());
+    let (xmp, no_xmp) = if_wanted(find_xmp(file), paths.xmp.is_some());
+    Ok(Metadata {
+        profile,
+        exif,
+        xmp,
+        lacks: Lacks {
+            profile: no_profile,
+            exif: no_exif,
+            xmp: no_xmp,
+        },
+    })
 }
 
 // Writes these data, if there are some, and passes them on.

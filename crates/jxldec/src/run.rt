@@ -1,12 +1,11 @@
 //! The program over a reader and two writers.
 
-ghost use Rattle.std.specs.Prelude.{◌≡◌, ◌≤◌, ◌⊎◌, ℕ, List, [], Option, length, true, false, is_some, IfErr, IfOk, IfSome, IsTrue, None, OnErr, OnOk, Some, string_bytes};
+ghost use Rattle.std.specs.Prelude.{◌≡◌, ◌≤◌, ◌⊎◌, ◌||◌, ℕ, List, [], Option, length, true, false, is_some, IfErr, IfOk, IfSome, IsTrue, None, OnErr, OnOk, Some, string_bytes};
 ghost use Rattle.std.specs.Option.{option_copied};
-ghost use Rattle.std.specs.Io.KnownBytes.{Appends};
+ghost use Rattle.std.specs.Io.KnownBytes.{Appends, Consumes, IsAtEnd};
 ghost use Rattle.jxl_codestream.specs.FrontParts.{bytes_if};
 ghost use Rattle.jxl_command.specs.Streams.{IsReadWhole, IsReported, IsReportedLine};
-ghost use Rattle.jxl_container.specs.Files.{HasLaterError};
-ghost use Rattle.jxl_container.specs.Metadata.{HasExif, HasXmp};
+ghost use Rattle.jxl_container.specs.Files.{HasLaterError, has_signature, is_bare};
 ghost use Rattle.jxl_image_header.specs.Images.{image_of};
 ghost use Rattle.jxl_lossless.specs.Files.{IsReadOf, IsReadyFile, header_of, reason_of};
 ghost use Rattle.jxl_netpbm.specs.Output.{AppendsBeginning};
@@ -17,7 +16,7 @@ ghost use Rattle.jxldec_lines.specs.Failures.{is_of_output};
 ghost use Rattle.jxldec_lines.specs.Formats.{IsWrittenAs, chosen, suits_output};
 ghost use Rattle.jxldec.specs.Layers.{has_frames, lists_frames as the_lists_frames};
 ghost use Rattle.jxldec_lines.specs.Losses.{has_loss, loss_in};
-ghost use Rattle.jxldec.specs.Texts.{AskedFails, CountsFrames, FrameTextFails, HasProfile, InfoFails, InputFails, IsAsked, IsDone, IsFailed, IsFound, IsInfo, IsPictureText, IsSaved, IsTextOfFile, IsTextOfFrame, IsWritten, ListFails, MetadataFails, PictureFails, TextFails};
+ghost use Rattle.jxldec.specs.Texts.{AskedFails, CountsFrames, FrameTextFails, HasProfile, InfoFails, InputFails, IsAsked, AreLookedFor, AreSaved, IsDone, IsFailed, IsInfo, IsLacking, IsPictureText, IsTextOfFile, IsTextOfFrame, IsWritten, ListFails, ProfileFails, PictureFails, ReadingFails, TextFails, no_lacks};
 ghost use Rattle.jxldec_lines.specs.Warnings.{has_more, kinds_left_out, one_frame, warnings};
 ghost use Rattle.jxldec_lines.specs.declared.format.OutputFormat.{OutputFormat as TheFormat};
 ghost use Rattle.jxldec_lines.specs.declared.loss.Loss.TheVariants.{Nothing as NoLoss};
@@ -39,8 +38,8 @@ use jxl_command::output::Flush;
 use jxl_image_header::image::ImageHeader;
 use jxl_info::headers::{Headers, HeadersError};
 use jxl_lossless::{FileError, JxlFile, Limits, Progress, Steps};
-use jxldec_lines::ending::{report, succeed};
-use jxldec_lines::failures::Failure;
+use jxldec_lines::ending::{end_lacking, report, succeed};
+use jxldec_lines::failures::{Failure, Lacks};
 use jxldec_lines::format::{OutputFormat, format_for};
 use jxldec_lines::warning::{FrameCount, LeftOut};
 use jxldec_options::options::{Options, Task};
@@ -318,14 +317,9 @@ fn asked_of_file<'a, P: Progress + Line>(
         a.output.left_out.frames) }
     ensures writable { IfOk result (λ a. IsWritable a.output.content) }
     ensures later { IfOk result (λ a. HasLaterError file.now a.output.left_out.later_error) }
-    ensures profile { IfOk result (λ a. IsFound (is_some options.now.paths.icc)
-        (λ bytes. HasProfile options.now.limits file.now (Some bytes)) (bytes_if a.metadata.profile)) }
-    ensures exif { IfOk result (λ a. IsFound (is_some options.now.paths.exif) (λ bytes. HasExif file.now (Some bytes))
-        (option_copied a.metadata.exif)) }
-    ensures xmp { IfOk result (λ a. IsFound (is_some options.now.paths.xmp) (λ bytes. HasXmp file.now (Some bytes))
-        (option_copied a.metadata.xmp)) }
+    ensures metadata { IfOk result (λ a. AreLookedFor options.now file.now a.metadata) }
     ensures err { IfErr result (λ failure. AskedFails options.now.task options.now.limits options.now.format file.now
-        failure ⊎ MetadataFails options.now.limits file.now failure) }
+        failure ⊎ ((is_some options.now.paths.icc ≡ true) × ProfileFails options.now.limits file.now failure)) }
 {
     let metadata = metadata_asked(alloc, file, options)?;
     let made = output_asked(alloc, file, options, progress);
@@ -334,7 +328,44 @@ fn asked_of_file<'a, P: Progress + Line>(
     Ok(Asked { output, metadata })
 }
 
-// Reads the file, and writes what is asked of it. It returns what the output leaves out.
+// How many bytes the longest beginning of a file has by which it is known.
+const SIGNATURE: usize = 12;
+
+// Whether a JPEG XL file may begin so: as a codestream, or as boxes.
+fn begins_file(start: &[u8]) -> bool
+    ensures { result ≡ (is_bare start.now || has_signature start.now) }
+{
+    start.starts_with(&[255, 10])
+        || start.starts_with(&[0, 0, 0, 12, 74, 88, 76, 32, 13, 10, 135, 10])
+}
+
+/// Reads all bytes of the input. If it begins as no JPEG XL file, no more than its first bytes are read.
+pub fn read_input<R: InputStream>(alloc: Global, input: &mut R) -> Result<Vec<u8>, Failure>
+    ensures read { IfOk result (λ v. Consumes (R.remaining input.old) (R.remaining input.new) v.items) }
+    ensures ended { OnOk result (IsAtEnd (R.remaining input.new)) }
+    ensures err { IfErr result (ReadingFails (R.remaining input.old) (R.remaining input.new) (R.fails_by input.new)) }
+{
+    let start = match input.read_start(alloc, SIGNATURE) {
+        Ok(start) => start,
+        Err(error) => return Err(Failure::Unreadable(error)),
+    };
+    if !begins_file(&start) {
+        return Err(Failure::Foreign);
+    }
+    match input.read_on(start) {
+        Ok(file) => Ok(file),
+        Err(error) => Err(Failure::Unreadable(error)),
+    }
+}
+
+// What was written of a file leaves out, and what of the data that are asked for the file lacks.
+#[derive(Drop)]
+struct Written {
+    left_out: LeftOut,
+    lacks: Lacks,
+}
+
+// Reads the file, and writes what is asked of it. It returns what the output leaves out, and what the file lacks.
 fn carry_out<R: InputStream, W: Flush, F: Flush, P: Progress + Line>(
     alloc: Global,
     options: &Options<'_>,
@@ -342,33 +373,31 @@ fn carry_out<R: InputStream, W: Flush, F: Flush, P: Progress + Line>(
     output: &mut W,
     extras: &mut Extras<F>,
     progress: &mut P,
-) -> Result<LeftOut, Failure>
-    ensures done { IfOk result (λ l. IsWritten options.now.task options.now.limits options.now.format
+) -> Result<Written, Failure>
+    ensures done { IfOk result (λ w. IsWritten options.now.task options.now.limits options.now.format
         (R.remaining input.old) (R.remaining input.new) (W.contents output.old) (W.contents output.new)
-        (string_bytes l.channels) l.loss l.frames l.later_error) }
-    ensures saved { OnOk result (IsReadWhole (R.remaining input.old) (R.remaining input.new) (λ file.
-        IsSaved (is_some options.now.paths.icc) (λ bytes. HasProfile options.now.limits file (Some bytes))
-        (F.contents extras.old.profile) (F.contents extras.new.profile) (F.is_flushed extras.new.profile)
-        (extras.new.profile ≡ extras.old.profile)
-        × IsSaved (is_some options.now.paths.exif) (λ bytes. HasExif file (Some bytes)) (F.contents extras.old.exif)
-        (F.contents extras.new.exif) (F.is_flushed extras.new.exif) (extras.new.exif ≡ extras.old.exif)
-        × IsSaved (is_some options.now.paths.xmp) (λ bytes. HasXmp file (Some bytes)) (F.contents extras.old.xmp)
-        (F.contents extras.new.xmp) (F.is_flushed extras.new.xmp) (extras.new.xmp ≡ extras.old.xmp))) }
+        (string_bytes w.left_out.channels) w.left_out.loss w.left_out.frames w.left_out.later_error) }
+    ensures saved { IfOk result (λ w. IsReadWhole (R.remaining input.old) (R.remaining input.new) (λ file.
+        AreSaved F.contents F.is_flushed options.now file w.lacks extras.old extras.new)) }
     ensures failed { IfErr result (InputFails options.now.task options.now.limits options.now.format
-        (R.remaining input.old) (R.remaining input.new) (R.fails_by input.new) (W.contents output.old)
-        (W.contents output.new)) }
+        (is_some options.now.paths.icc) (R.remaining input.old) (R.remaining input.new) (R.fails_by input.new)
+        (W.contents output.old) (W.contents output.new)) }
     ensures flushed { OnOk result (W.is_flushed output.new) }
     ensures kept { IfErr result (λ failure. is_of_output failure ≡ false → output.new ≡ output.old) }
     ensures extras { IfErr result (λ failure. is_of_output failure ≡ false → extras.new ≡ extras.old) }
 {
-    let file = match input.read_rest(alloc) {
-        Ok(file) => file,
-        Err(error) => return Err(Failure::Unreadable(error)),
-    };
-    let asked = asked_of_file(alloc, &file, options, progress)?;
-    pass_on(alloc, output, &asked.output.content)?;
-    save_all(extras, &asked.metadata)?;
-    Ok(asked.output.left_out)
+    let file = read_input(alloc, input)?;
+    let Asked {
+        output: made,
+        metadata,
+    } = asked_of_file(alloc, &file, options, progress)?;
+    pass_on(alloc, output, &made.content)?;
+    save_all(extras, &metadata)?;
+    let lacks = metadata.lacks;
+    Ok(Written {
+        left_out: made.left_out,
+        lacks,
+    })
 }
 
 /// Reads a file from `input`, and writes to `output` what its headers tell, or its picture in PNG, a netpbm format or
@@ -376,9 +405,10 @@ fn carry_out<R: InputStream, W: Flush, F: Flush, P: Progress + Line>(
 /// It returns the status to end with: 0 where each got that, alone and whole; else 1, and `errors` got the line of a
 /// failure that holds of the input or of the file, unless the output is a pipe that was closed. It also
 /// returns whether `errors` got its lines, or a write to it failed. Nothing is written unless the whole
-/// picture was decoded, and the file has all that is asked for; after a failed write the output holds a beginning of its
-/// text. With status 0 `errors` got nothing but the lines that warn of what is left out, and of the error of the boxes
-/// after the codestream; a profile that is saved is not left out. `progress` is called after each section.
+/// picture was decoded; after a failed write the output holds a beginning of its text. If the file lacks some of the data
+/// that are asked for, all else is done, and the status is 1. With status 0 `errors` got nothing but the lines that warn of
+/// what is left out, and of the error of the boxes after the codestream; a profile that is saved is not left out.
+/// `progress` is called after each section.
 pub fn run<R: InputStream, W: Flush, F: Flush, E: ErrorStream, P: Progress + Line>(
     alloc: Global,
     options: Options<'_>,
@@ -395,24 +425,27 @@ pub fn run<R: InputStream, W: Flush, F: Flush, E: ErrorStream, P: Progress + Lin
         (IsReported result.reported (E.contents errors.old) (E.contents errors.new) (E.has_failed errors.new))
         (errors.new ≡ errors.old) }
     ensures saved { result.status ≡ 0 → IsReadWhole (R.remaining input.old) (R.remaining input.new) (λ file.
-        IsSaved (is_some options.entry.paths.icc) (λ bytes. HasProfile options.entry.limits file (Some bytes))
-        (F.contents extras.old.profile) (F.contents extras.new.profile) (F.is_flushed extras.new.profile)
-        (extras.new.profile ≡ extras.old.profile)
-        × IsSaved (is_some options.entry.paths.exif) (λ bytes. HasExif file (Some bytes)) (F.contents extras.old.exif)
-        (F.contents extras.new.exif) (F.is_flushed extras.new.exif) (extras.new.exif ≡ extras.old.exif)
-        × IsSaved (is_some options.entry.paths.xmp) (λ bytes. HasXmp file (Some bytes)) (F.contents extras.old.xmp)
-        (F.contents extras.new.xmp) (F.is_flushed extras.new.xmp) (extras.new.xmp ≡ extras.old.xmp)) }
+        AreSaved F.contents F.is_flushed options.entry file no_lacks extras.old extras.new) }
     ensures flushed { result.status ≡ 0 → W.is_flushed output.new }
     ensures failed { result.status ≡ 1 → IsFailed options.entry (R.remaining input.old) (R.remaining input.new)
         (R.fails_by input.new) (W.contents output.old) (W.contents output.new)
         ((output.new ≡ output.old) × (extras.new ≡ extras.old)) (errors.new ≡ errors.old)
-        (IsReportedLine result.reported (E.contents errors.old) (E.contents errors.new) (E.has_failed errors.new)) }
+        (IsReportedLine result.reported (E.contents errors.old) (E.contents errors.new) (E.has_failed errors.new))
+        ⊎ IsLacking options.entry (R.remaining input.old) (R.remaining input.new) (W.contents output.old)
+        (W.contents output.new) (W.is_flushed output.new)
+        (λ file lacks. AreSaved F.contents F.is_flushed options.entry file lacks extras.old extras.new)
+        (IsReportedLine result.reported (E.contents errors.old) (E.contents errors.new) (E.has_failed errors.new)
+        None) }
 {
-    match carry_out(alloc, &options, input, output, extras, progress) {
-        Ok(left_out) => {
-            let warned = left_out.but_saved(options.paths.icc.is_some());
-            succeed(errors, options.quiet, options.input, &warned)
-        }
-        Err(failure) => report(errors, options.name_of(failure), failure),
+    let Written { left_out, lacks } = match carry_out(
+        alloc, &options, input, output, extras, progress,
+    ) {
+        Ok(written) => written,
+        Err(failure) => return report(errors, options.name_of(failure), failure),
+    };
+    let warned = left_out.but_saved(options.paths.icc.is_some());
+    if lacks.has_some() {
+        return end_lacking(errors, options.quiet, options.input, &warned, lacks);
     }
+    succeed(errors, options.quiet, options.input, &warned)
 }

@@ -2,7 +2,8 @@
 use Rattle.std.proofs.Common.{◌≡◌, ℕ, List, [], ◌++◌, ◌||◌, Bool, true, false, not, length, Option, Some, None, refl, ap, sym, ◌∙◌}
 use Rattle.std.specs.Prelude.{◌==◌, if◌then◌else◌, is_some}
 use Rattle.jxl_container.specs.declared.error.FileError.{FileError as BoxError}
-use Rattle.jxldec_lines.specs.Losses.{has_loss, line_if, loss_lines, unsaid_lines}
+use Rattle.jxl_png_write.specs.declared.losses.Losses.{Losses}
+use Rattle.jxldec_lines.specs.Losses.{has_loss, has_rounding, line_if, loss_lines, rounded_lines, unsaid_lines}
 use Rattle.jxldec_lines.specs.Warnings.{channel_line, frames_line, has_more, later_line, left_out_lines, warning_lines}
 use Rattle.jxldec_lines.specs.declared.loss.Loss.{Loss}
 use Rattle.jxldec_lines.specs.declared.loss.Loss.TheVariants.{Nothing, Profile, Unsaid}
@@ -16,19 +17,28 @@ no_channels : (name others : List ℕ) → (length others == 0) ≡ true → cha
 unfolding channel_line
 no_channels name others e = if_empty (length others == 0) _ e
 
-four : (name a b c d : List ℕ) (f g i m : Bool) → (f || (g || (i || m))) ≡ false → line_if name f a ++ (line_if name g b ++ (line_if name i c ++ line_if name m d)) ≡ []
+none_before : (name a rest : List ℕ) (f more : Bool) → (f || more) ≡ false → (more ≡ false → rest ≡ []) → line_if name f a ++ rest ≡ []
 unfolding line_if
-four name a b c d false false false false e = refl
-four name a b c d true g i m e = let bad : ⊥ = cc in absurd bad
-four name a b c d false true i m e = let bad : ⊥ = cc in absurd bad
-four name a b c d false false true m e = let bad : ⊥ = cc in absurd bad
-four name a b c d false false false true e = let bad : ⊥ = cc in absurd bad
+none_before name a rest false more e none = none e
+none_before name a rest true more e none = let bad : ⊥ = cc in absurd bad
+
+one_line : (name a : List ℕ) (f : Bool) → f ≡ false → line_if name f a ≡ []
+unfolding line_if
+one_line name a false e = refl
+one_line name a true e = let bad : ⊥ = cc in absurd bad
+
+no_rounding : (name : List ℕ) (losses : Losses) → has_rounding losses ≡ false → rounded_lines name losses ≡ []
+unfolding rounded_lines
+no_rounding name losses e =
+    none_before name _ _ losses.exponent _ e (λ e1. none_before name _ _ losses.digits _ e1 (λ e2. none_before name _ _ losses.tone _ e2 (λ e3. one_line name _ losses.alpha e3)))
 
 no_loss : (name : List ℕ) (loss : Loss) → has_loss loss ≡ false → loss_lines name loss ≡ []
 unfolding loss_lines unsaid_lines
 no_loss name Nothing e = refl
 no_loss name Profile e = let bad : ⊥ = cc in absurd bad
-no_loss name (Unsaid losses) e = four name _ _ _ _ losses.function losses.coordinates losses.intent losses.multiplied e
+no_loss name (Unsaid losses) e =
+    none_before name _ _ losses.function _ e (λ e1. none_before name _ _ losses.coordinates _ e1 (λ e2. none_before name _ _ losses.intent _ e2
+    (λ e3. none_before name _ _ losses.multiplied _ e3 (λ e4. no_rounding name losses e4))))
 
 if_none : (b : Bool) (xs : List ℕ) → b ≡ false → (if b then xs else []) ≡ []
 if_none false xs e = refl

@@ -7,9 +7,11 @@ use Rattle.jxl_image_header.specs.declared.channel.ExtraChannel.{ExtraChannel}
 use Rattle.jxl_info.specs.Names.{kind_name}
 use Rattle.jxl_picture.specs.Pictures.{is_full_alpha}
 use Rattle.jxl_netpbm.specs.declared.format.Format.TheVariants as formats
-use Rattle.jxldec_lines.specs.Failures.{line_about}
+use Rattle.jxldec_lines.specs.Failures.{failure_line, line_about}
 use Rattle.jxldec_lines.specs.Losses.{loss_lines}
 use Rattle.jxldec_lines.specs.Reasons.{box_text}
+use Rattle.jxldec_lines.specs.declared.failures.Failure.TheVariants.{Missing}
+use Rattle.jxldec_lines.specs.declared.failures.Lacks.{Lacks}
 use Rattle.jxldec_lines.specs.declared.format.OutputFormat.{OutputFormat}
 use Rattle.jxldec_lines.specs.declared.format.OutputFormat.TheVariants.{Netpbm, Png}
 use Rattle.jxldec_lines.specs.declared.loss.Loss.{Loss}
@@ -68,3 +70,7 @@ warning_lines name others loss frames later = left_out_lines name others loss ++
 -- so it is, unless nothing but errors is to be printed
 abbrev pub warnings : Bool → List ℕ → List ℕ → Loss → FrameCount → Option BoxError → List ℕ
 warnings quiet name others loss frames later = if quiet then [] else warning_lines name others loss frames later
+
+-- so it is of a file that does not have these data: after the warnings comes the line that says which
+abbrev pub lacking_lines : Bool → List ℕ → List ℕ → Loss → FrameCount → Option BoxError → Lacks → List ℕ
+lacking_lines quiet name others loss frames later lacks = warnings quiet name others loss frames later ++ failure_line name (Missing lacks)

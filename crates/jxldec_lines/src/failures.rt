@@ -1,7 +1,7 @@
 //! Why the output does not get what is asked for.
 
 ghost use Rattle.std.specs.Prelude.{◌≡◌};
-ghost use Rattle.jxldec_lines.specs.Failures.{IsOfWriting, cause_of, failure_of_write, failure_text, is_silent as the_silent, limits_text, missing_text as the_missing_text};
+ghost use Rattle.jxldec_lines.specs.Failures.{IsOfWriting, cause_of, failure_of_write, failure_text, has_lack, is_silent as the_silent, limits_text, missing_text as the_missing_text};
 
 use crate::reason::{AnimationReason, Reason};
 use jxl_animation::AnimationError;
@@ -12,11 +12,30 @@ use jxl_image_header::size::Size;
 use jxl_lossless::{FileError, Limits};
 use std::{fmt, io};
 
+/// Which of the data that are asked for a file does not have.
+#[derive(Clone, Copy)]
+pub struct Lacks {
+    pub profile: bool,
+    pub exif: bool,
+    pub xmp: bool,
+}
+
+impl Lacks {
+    /// Whether it lacks any.
+    pub fn has_some(self) -> bool
+        ensures { result ≡ has_lack self }
+    {
+        self.profile || (self.exif || self.xmp)
+    }
+}
+
 /// Why the output does not get what is asked for.
 #[derive(Clone, Copy)]
 pub enum Failure {
     /// The file cannot be read, for this reason, or it is out of memory for it.
     Unreadable(io::Error),
+    /// It begins as no JPEG XL file, and is not read further.
+    Foreign,
     /// It is not decoded, or its headers do not stand, by this error.
     File(FileError),
     /// The picture is above the limits: its size, how many channels it has beside the colours, and the limits.
@@ -32,7 +51,7 @@ pub enum Failure {
     /// The picture cannot be written in the format that is asked for, or in any.
     NoFormat,
     /// The file does not have these data, which are asked for.
-    Missing(Extra),
+    Missing(Lacks),
     /// Out of memory for the text.
     OutOfMemory,
     /// The ending of the output's name is that of no format.
@@ -87,14 +106,20 @@ impl Failure {
     }
 }
 
-// That a file does not have these data.
-fn missing_text(extra: Extra) -> &'static str
-    ensures { result.now ≡ the_missing_text extra }
+// Which data a file does not have.
+#[tactic(auto, unfolding(crate::specs::Failures::missing_text))]
+fn missing_text(lacks: Lacks) -> &'static str
+    ensures { result.now ≡ the_missing_text lacks }
 {
-    match extra {
-        Extra::Profile => "no colour profile",
-        Extra::Exif => "no Exif data",
-        Extra::Xmp => "no XMP data",
+    match (lacks.profile, lacks.exif, lacks.xmp) {
+        (true, true, true) => "no colour profile, no Exif data, no XMP data",
+        (true, true, false) => "no colour profile, no Exif data",
+        (true, false, true) => "no colour profile, no XMP data",
+        (true, false, false) => "no colour profile",
+        (false, true, true) => "no Exif data, no XMP data",
+        (false, true, false) => "no Exif data",
+        (false, false, true) => "no XMP data",
+        (false, false, false) => "",
     }
 }
 
@@ -127,6 +152,7 @@ impl fmt::Display for Failure {
     fn fmt<W: fmt::Write>(&self, f: &mut fmt::Formatter<W>) -> fmt::Result {
         match *self {
             Failure::Unreadable(_) => f.write_str("cannot read"),
+            Failure::Foreign => f.write_str("not a JPEG XL file"),
             Failure::File(error) => {
                 let reason = Reason(error);
                 write!(f, "{reason}")
@@ -152,7 +178,7 @@ impl fmt::Display for Failure {
             Failure::NoFormat => {
                 f.write_str("this format cannot hold the picture; --format text can")
             }
-            Failure::Missing(extra) => f.write_str(missing_text(extra)),
+            Failure::Missing(lacks) => f.write_str(missing_text(lacks)),
             Failure::OutOfMemory => f.write_str("out of memory"),
             Failure::Ending => f.write_str(
                 "no format has this ending; there are .png, .apng, .pgm, .ppm, .pnm, .pam, .pfm and .text",

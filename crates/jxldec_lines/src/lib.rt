@@ -9,4 +9,5 @@ pub mod failures;
 pub mod format;
 pub mod loss;
 mod reason;
+pub mod refusals;
 pub mod warning;

@@ -2,9 +2,10 @@
 
 ghost use Rattle.std.specs.Prelude.{◌≡◌};
 ghost use Rattle.jxl_image_header.specs.Images.{image_of};
-ghost use Rattle.jxldec_lines.specs.Losses.{has_loss, line_if, loss_in, loss_lines, unless_saved as the_unless_saved, unsaid_lines};
+ghost use Rattle.jxldec_lines.specs.Losses.{has_loss, has_rounding, line_if, loss_in, loss_lines, rounded_lines, unless_saved as the_unless_saved, unsaid_lines};
 
 use crate::format::OutputFormat;
+use jxl_command::shown::Shown;
 use jxl_image_header::image::ImageHeader;
 use jxl_png_write::losses::{Losses, losses_of_png};
 use std::fmt;
@@ -55,10 +56,19 @@ impl Loss {
             Loss::Nothing => false,
             Loss::Profile => true,
             Loss::Unsaid(losses) => {
-                losses.function || (losses.coordinates || (losses.intent || losses.multiplied))
+                losses.function
+                    || (losses.coordinates
+                        || (losses.intent || (losses.multiplied || rounds(losses))))
             }
         }
     }
+}
+
+// Whether digits or bits are lost, or how bright samples are.
+fn rounds(losses: Losses) -> bool
+    ensures { result ≡ has_rounding losses }
+{
+    losses.exponent || (losses.digits || (losses.tone || losses.alpha))
 }
 
 // A line about a file of this name, if it applies.
@@ -76,7 +86,7 @@ impl fmt::Display for Remark<'_> {
 
     #[tactic(auto, unfolding(crate::specs::Losses::line_if))]
     fn fmt<W: fmt::Write>(&self, f: &mut fmt::Formatter<W>) -> fmt::Result {
-        let (name, text) = (self.name, self.text);
+        let (name, text) = (Shown(self.name), self.text);
         if self.applies {
             writeln!(f, "jxldec: {name}: {text}")?;
         }
@@ -119,7 +129,50 @@ impl fmt::Display for UnsaidLines<'_> {
             applies: self.losses.multiplied,
             text: "colours stay multiplied by alpha",
         };
-        write!(f, "{function}{coordinates}{intent}{multiplied}")
+        let rounded = RoundedLines {
+            name,
+            losses: self.losses,
+        };
+        write!(f, "{function}{coordinates}{intent}{multiplied}{rounded}")
+    }
+}
+
+// The lines on what a PNG file rounds, and on how bright samples are.
+#[derive(Drop)]
+struct RoundedLines<'a> {
+    name: &'a str,
+    losses: Losses,
+}
+
+impl fmt::Display for RoundedLines<'_> {
+    ghost use Rattle.std.specs.Prelude.{Some};
+
+    ghost output = { λ l. Some (rounded_lines l.name.now l.losses) };
+
+    #[tactic(auto, unfolding(crate::specs::Losses::rounded_lines))]
+    fn fmt<W: fmt::Write>(&self, f: &mut fmt::Formatter<W>) -> fmt::Result {
+        let name = self.name;
+        let exponent = Remark {
+            name,
+            applies: self.losses.exponent,
+            text: "exponent of the transfer function rounded",
+        };
+        let digits = Remark {
+            name,
+            applies: self.losses.digits,
+            text: "coordinates of colours rounded",
+        };
+        let tone = Remark {
+            name,
+            applies: self.losses.tone,
+            text: "tone mapping left out",
+        };
+        let alpha = Remark {
+            name,
+            applies: self.losses.alpha,
+            text: "alpha rounded to the depth of the file",
+        };
+        write!(f, "{exponent}{digits}{tone}{alpha}")
     }
 }
 
@@ -140,7 +193,10 @@ impl fmt::Display for LossLines<'_> {
         let name = self.name;
         match self.loss {
             Loss::Nothing => Ok(()),
-            Loss::Profile => writeln!(f, "jxldec: {name}: colour profile left out"),
+            Loss::Profile => {
+                let name = Shown(name);
+                writeln!(f, "jxldec: {name}: colour profile left out")
+            }
             Loss::Unsaid(losses) => {
                 let lines = UnsaidLines { name, losses };
                 write!(f, "{lines}")

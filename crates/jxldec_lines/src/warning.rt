@@ -12,6 +12,7 @@ use crate::format::OutputFormat;
 use crate::loss::{Loss, LossLines};
 use crate::reason::box_text;
 use jxl_command::errors::ErrorStream;
+use jxl_command::shown::Shown;
 use jxl_container::error::FileError as BoxError;
 use jxl_image_header::channel::ExtraChannel;
 use jxl_image_header::image::ImageHeader;
@@ -177,6 +178,7 @@ impl fmt::Display for Warnings<'_> {
     fn fmt<W: fmt::Write>(&self, f: &mut fmt::Formatter<W>) -> fmt::Result {
         let (name, channels) = (self.name, self.channels);
         if !channels.is_empty() {
+            let name = Shown(name);
             writeln!(f, "jxldec: {name}: channels left out:{channels}")?;
         }
         let lines = LossLines {
@@ -208,7 +210,11 @@ impl fmt::Display for FramesLine<'_> {
 
     #[tactic(auto, unfolding(crate::specs::Warnings::frames_line))]
     fn fmt<W: fmt::Write>(&self, f: &mut fmt::Formatter<W>) -> fmt::Result {
-        let (name, count, more) = (self.name, self.frames.count, or_more(self.frames.is_all));
+        let (name, count, more) = (
+            Shown(self.name),
+            self.frames.count,
+            or_more(self.frames.is_all),
+        );
         if self.frames.has_more() {
             writeln!(
                 f,
@@ -233,12 +239,44 @@ impl fmt::Display for LaterError<'_> {
 
     #[tactic(auto, unfolding(crate::specs::Warnings::later_line))]
     fn fmt<W: fmt::Write>(&self, f: &mut fmt::Formatter<W>) -> fmt::Result {
-        let name = self.name;
+        let name = Shown(self.name);
         if let Some(error) = self.error {
             let reason = box_text(error);
             writeln!(f, "jxldec: {name}: ignored after the codestream: {reason}")?;
         }
         Ok(())
+    }
+}
+
+/// The lines that warn of what is left out of a file of this name.
+#[derive(Clone, Copy)]
+pub struct AllWarnings<'a> {
+    pub name: &'a str,
+    pub left_out: &'a LeftOut,
+}
+
+impl fmt::Display for AllWarnings<'_> {
+    ghost use Rattle.std.specs.Prelude.{Some};
+
+    ghost output = { λ w. Some (warning_lines w.name.now (string_bytes w.left_out.now.channels) w.left_out.now.loss
+        w.left_out.now.frames w.left_out.now.later_error) };
+
+    fn fmt<W: fmt::Write>(&self, f: &mut fmt::Formatter<W>) -> fmt::Result {
+        let (name, left_out) = (self.name, self.left_out);
+        let warnings = Warnings {
+            name,
+            channels: left_out.channels.as_str(),
+            loss: left_out.loss,
+        };
+        let others = FramesLine {
+            name,
+            frames: left_out.frames,
+        };
+        let later = LaterError {
+            name,
+            error: left_out.later_error,
+        };
+        write!(f, "{warnings}{others}{later}")
     }
 }
 
@@ -257,15 +295,6 @@ pub fn warn<E: ErrorStream>(errors: &mut E, name: &str, left_out: &LeftOut) -> b
     if channels.is_empty() && !loss.has_line() && !frames.has_more() && later_error.is_none() {
         return true;
     }
-    let warnings = Warnings {
-        name,
-        channels,
-        loss,
-    };
-    let others = FramesLine { name, frames };
-    let later = LaterError {
-        name,
-        error: later_error,
-    };
-    errors.put(format_args!("{warnings}{others}{later}"))
+    let lines = AllWarnings { name, left_out };
+    errors.put(lines)
 }

@@ -1,22 +1,14 @@
-use Rattle.std.proofs.Common.{◌≡◌, ◌≢◌, ◌∙◌, ap, sym, refl, subst, inl, inr, ℕ, List, map, Bool, true, false, is_some, ◌||◌, Option, Some, None, Result, Bor, unwrap_or, option_map}
+use Rattle.std.proofs.Common.{◌≡◌, ◌∙◌, ap, sym, refl, subst, ℕ, List, map, Bool, true, false, is_some, ◌||◌, Option, Some, None, Result, Bor, option_map}
 use Rattle.std.specs.Prelude.{◌↔◌, IsTrue, MatchOption, codes, option_and_then}
 use Rattle.std.specs.Char.{to_ascii_lowercase}
 use Rattle.std.specs.Option.{option_copied, option_or}
 use Rattle.std.specs.Path.{path_extension}
-use Rattle.std.specs.Str.{bytes_eq}
-use Rattle.std.proofs.lemmas.Slice.Eq.{bytes_eq-Decides}
 use Rattle.std.specs.Str.Parse.{ExplainsUnsignedError, HasUnsignedDigitsIfOk, ParsesUnsigned}
 use Rattle.std.specs.declared.num.ParseIntError.{ParseIntError}
 use Rattle.clap.specs.Matches.{ReadsOne}
 use Rattle.jxldec_lines.specs.declared.format.OutputFormat.{OutputFormat}
-use Rattle.jxldec_options.specs.Asked.{IsApng, IsFormat, IsNumber, IsOutput}
+use Rattle.jxldec_options.specs.Asked.{IsApng, IsFormat, IsNumber}
 use Rattle.jxldec_options.specs.Options.{IsNoFormat, IsWordOf}
-
--- the value that unwrap_or gives of a borrowed text is that of the text
-pub unwrap_text : (o : Option (Bor (List ℕ))) (d r : Bor (List ℕ)) (t : Option (List ℕ)) → option_map (λ s. s.now) o ≡ t → r ≡ unwrap_or o d
-    → r.now ≡ unwrap_or t d.now
-unwrap_text None d r t h e = ap (λ b. b.now) e ∙ ap (λ x. unwrap_or x d.now) h
-unwrap_text (Some s) d r t h e = ap (λ b. b.now) e ∙ ap (λ x. unwrap_or x d.now) h
 
 -- the text of one of two
 pub or_text : (o p r : Option (Bor (List ℕ))) (t u : Option (List ℕ)) → option_map (λ s. s.now) o ≡ t → option_map (λ s. s.now) p ≡ u
@@ -50,31 +42,6 @@ pub format_read : (o : Option (Bor (List ℕ))) (t : Option (List ℕ)) (f : Opt
     → MatchOption o (f ≡ None) (λ x. MatchOption f (IsNoFormat x.now) (IsWordOf x.now)) → IsFormat t f
 format_read None t f h m = subst (λ x. IsFormat x f) h m
 format_read (Some s) t f h m = subst (λ x. IsFormat x f) h m
-
--- a text is there
-pub some_text : (o : Option (Bor (List ℕ))) (t : Option (List ℕ)) → option_copied o ≡ t → is_some o ≡ is_some t
-some_text None t h = ap is_some h
-some_text (Some s) t h = ap is_some h
-
--- standard output, if the path is `-`, or there is none
-pub no_output : (o : Option (Bor (List ℕ))) (t : Option (List ℕ)) (dash path : Bor (List ℕ)) (out : Option (Bor (List ℕ))) → option_copied o ≡ t
-    → path ≡ unwrap_or o dash → true ≡ bytes_eq path.now (codes "-") → out ≡ None → IsOutput t (option_copied out)
-no_output None t dash path out h e is none = subst (λ x. IsOutput t (option_copied x)) (sym none) (inl (sym h))
-no_output (Some s) t dash path out h e is none =
-    let same : path.now ≡ codes "-" = (bytes_eq-Decides path.now (codes "-")).0 (sym is) in
-    subst (λ x. IsOutput t (option_copied x)) (sym none) (inr (sym h ∙ ap (λ b. Some b.now) (sym e) ∙ ap Some same))
-
--- the path, if it is another
-pub an_output : (o : Option (Bor (List ℕ))) (t : Option (List ℕ)) (dash path : Bor (List ℕ)) (out : Option (Bor (List ℕ))) → option_copied o ≡ t
-    → dash.now ≡ codes "-" → path ≡ unwrap_or o dash → false ≡ bytes_eq path.now (codes "-") → out ≡ Some path → IsOutput t (option_copied out)
-an_output o t dash path out h d e is some =
-    let other : path.now ≢ codes "-" = λ same. let bad : false ≡ true = is ∙ (bytes_eq-Decides path.now (codes "-")).1 same in let wrong : ⊥ = cc in absurd wrong in
-    subst (λ x. IsOutput t (option_copied x)) (sym some) (given o t h e other)
-  where
-    given : (o : Option (Bor (List ℕ))) (t : Option (List ℕ)) → option_copied o ≡ t → path ≡ unwrap_or o dash → path.now ≢ codes "-"
-        → IsOutput t (Some path.now)
-    given None t h e other = absurd (other (ap (λ b. b.now) e ∙ d))
-    given (Some s) t h e other = (sym h ∙ ap (λ b. Some b.now) (sym e), other)
 
 -- one of three
 pub same_or : {a b c x y z : Bool} → a ≡ x → b ≡ y → c ≡ z → (a || b || c) ≡ (x || y || z)

@@ -1,5 +1,5 @@
 -- What the options are, by what was found on the command line.
-use Rattle.std.specs.Prelude.{◌≡◌, ◌≢◌, ◌⊎◌, ◌↔◌, ◌<◌, ◌^◌, ℕ, List, [], map, Bool, true, false, is_some, IsTrue, ◌||◌, not, codes}
+use Rattle.std.specs.Prelude.{◌≡◌, ◌↔◌, ◌<◌, ◌^◌, ℕ, List, [], map, Bool, false, is_some, IsTrue, ◌||◌, not, codes}
 use Rattle.std.specs.Prelude.{Option, Some, None, MatchOption, unwrap_or, option_and_then}
 use Rattle.std.specs.Char.{to_ascii_lowercase}
 use Rattle.std.specs.Option.{option_copied, option_or}
@@ -7,17 +7,12 @@ use Rattle.std.specs.Path.{path_extension}
 use Rattle.std.specs.Str.Parse.{IsNumeral, digits_value, without_leading_plus}
 use Rattle.clap.specs.Matches.{first_value, one_text}
 use Rattle.clap.specs.declared.parser.matches.Found.{Found}
+use Rattle.jxl_command.specs.Asked.{IsFlag, IsOutput}
 use Rattle.jxl_picture.specs.declared.limits.Limits.{Limits}
 use Rattle.jxldec_lines.specs.declared.format.OutputFormat.{OutputFormat}
 use Rattle.jxldec_options.specs.Options.{IsNoFormat, IsWordOf, limits_of, task_of}
 use Rattle.jxldec_options.specs.declared.options.Options.{Options}
 use Rattle.jxldec_options.specs.declared.options.Task.{Task}
-
--- the flag is set on the command line
-abbrev pub IsFlag : Found → List ℕ → Bool → Type 0
-IsFlag found id flag = (one_text found id ≡ None → flag ≡ false)
-    × (one_text found id ≡ Some (codes "true") → flag ≡ true)
-    × (one_text found id ≡ Some (codes "false") → flag ≡ false)
 
 -- the text is a decimal number below 2^bits
 abbrev pub IsNumeralBelow : ℕ → List ℕ → Type 0
@@ -29,11 +24,6 @@ abbrev pub IsNumber : ℕ → Option (List ℕ) → Option ℕ → Type 0
 IsNumber bits None number = number ≡ None
 IsNumber bits (Some text) number = MatchOption number (¬ (IsNumeralBelow bits text))
     (λ n. IsNumeralBelow bits text × (digits_value 10 (without_leading_plus text) ≡ n))
-
--- the path of the output: that of `--output`, but for `-`, which is standard output
-abbrev pub IsOutput : Option (List ℕ) → Option (List ℕ) → Type 0
-IsOutput given None = (given ≡ None) ⊎ (given ≡ Some (codes "-"))
-IsOutput given (Some path) = (given ≡ Some path) × (path ≢ codes "-")
 
 -- the word that says the format: that of `--format`, else the ending of the pattern of names or of the output's path
 abbrev pub format_word : Found → Options → Option (List ℕ)
@@ -92,3 +82,4 @@ pub record AreOptions (found : Found) (options : Options) : Type 0 where
   pub format : IsFormat (format_word found options) options.format
   pub limits : AreLimits found options.limits
   pub quiet : IsFlag found (codes "quiet") options.quiet
+  pub has_output : options.has_output ≡ is_some (first_value found (codes "output"))

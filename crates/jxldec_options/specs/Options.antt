@@ -1,5 +1,5 @@
 -- What the command line asks for.
-use Rattle.std.specs.Prelude.{◌≡◌, ◌⊎◌, ℕ, ◌^◌, List, map, Bool, true, false, Option, Some, None, if◌then◌else◌, codes, not, is_some, ◌&&◌}
+use Rattle.std.specs.Prelude.{◌≡◌, ◌⊎◌, ℕ, ◌^◌, List, map, Bool, true, false, Option, Some, None, if◌then◌else◌, codes, not, is_none, is_some, ◌&&◌}
 use Rattle.std.specs.Option.{unwrap_or, option_or, option_map_or}
 use Rattle.std.specs.Path.{path_extension}
 use Rattle.std.specs.Char.{to_ascii_lowercase}
@@ -68,3 +68,18 @@ subject options failure = if is_of_output failure then options.output_name.now e
 abbrev pub has_other_ending : Options → Bool
 has_other_ending options = not (is_some options.format)
     && option_map_or (λ path. is_some (path_extension path.now)) (option_or options.frames options.output) false
+
+-- the task writes a picture
+abbrev pub is_picture : Task → Bool
+is_picture tasks.Headers = false
+is_picture tasks.Nothing = false
+is_picture task = true
+
+-- the format is decimal numbers
+abbrev pub is_text : Option OutputFormat → Bool
+is_text (Some (Netpbm formats.Text)) = true
+is_text format = false
+
+-- the output gets bytes of a picture that are no text: not with `--frames`, where each picture has an output of its own
+abbrev pub writes_binary : Options → Bool
+writes_binary options = (is_picture options.task && is_none options.frames) && not (is_text options.format)

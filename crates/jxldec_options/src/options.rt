@@ -6,7 +6,7 @@ ghost use Rattle.std.specs.Char.{to_ascii_lowercase};
 ghost use Rattle.std.specs.Path.{path_extension};
 ghost use Rattle.clap.specs.Matches.{found_of};
 ghost use Rattle.jxldec_options.specs.Asked.{AreOptions};
-ghost use Rattle.jxldec_options.specs.Options.{IsNoFormat, IsNoNetpbm, IsWordOf, has_other_ending as the_other, limits_of as the_limits};
+ghost use Rattle.jxldec_options.specs.Options.{IsNoFormat, IsNoNetpbm, IsWordOf, has_other_ending as the_other, limits_of as the_limits, writes_binary as the_binary};
 ghost use Rattle.jxldec_options.specs.Options.{subject, task_of as the_task};
 ghost use Rattle.jxldec_lines.specs.declared.format.OutputFormat.TheVariants.{Netpbm};
 
@@ -62,6 +62,8 @@ pub struct Options<'a> {
     pub limits: Limits,
     /// Whether nothing is printed but errors.
     pub quiet: bool,
+    /// Whether the output is named, by its path or by `-`.
+    pub has_output: bool,
 }
 
 fn input(alloc: Global) -> Arg<'static> {
@@ -306,6 +308,7 @@ impl<'a> Options<'a> {
                 matches.get_one("codewords"),
             ),
             quiet: matches.get_flag("quiet"),
+            has_output: matches.get_str("output").is_some(),
         }
     }
 
@@ -318,6 +321,21 @@ impl<'a> Options<'a> {
             Failure::Ending | Failure::Unwritable(_) | Failure::Closed => self.output_name,
             _ => self.input,
         }
+    }
+
+    /// Whether the output gets bytes of a picture that are no text, in one file.
+    pub fn writes_binary(&self) -> bool
+        ensures { result ≡ the_binary self.now }
+    {
+        let is_picture = match self.task {
+            Task::Headers | Task::Nothing => false,
+            _ => self.frames.is_none(),
+        };
+        let is_text = match self.format {
+            Some(OutputFormat::Netpbm(Format::Text)) => true,
+            _ => false,
+        };
+        is_picture && !is_text
     }
 
     /// Whether the ending of the picture's path is that of no format, and none is asked for by its name.

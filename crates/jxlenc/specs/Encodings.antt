@@ -1,5 +1,5 @@
 -- What the program writes: the file of the picture that its input is.
-use Rattle.std.specs.Prelude.{◌≡◌, ◌⊎◌, ◌^◌, ℕ, ℤ, List, Bool, false, is_some, true, IfSome, MatchBool, Option, Some, None}
+use Rattle.std.specs.Prelude.{◌≡◌, ◌≢◌, ◌⊎◌, ◌≤◌, ◌^◌, ℕ, ℤ, List, [], ◌∷◌, ◌++◌, length, Bool, false, is_some, true, codes, IfSome, MatchBool, Option, Some, None}
 use Rattle.std.specs.Option.{option_or}
 use Rattle.std.specs.Io.KnownBytes.{Appends, Consumes, IsAtEnd}
 use Rattle.std.specs.declared.io.Error.{Error}
@@ -9,14 +9,17 @@ use Rattle.jxl_command.specs.Streams.{IsReadPart, IsReadWhole, is_closed}
 use Rattle.jxl_command.specs.declared.extra.Extra.{Extra}
 use Rattle.jxl_command.specs.declared.extra.Extras.{Extras}
 use Rattle.jxl_container.specs.Metadata.{HasExif, HasXmp}
-use Rattle.jxl_encode.specs.Codable.{IsCodableProfile}
+use Rattle.jxl_encode.specs.Errors.{EncodeFails}
 use Rattle.jxl_encode.specs.Files.{IsCodingOf, IsWrittenFile}
 use Rattle.jxl_encode.specs.Orientations.{image_with_orientation}
 use Rattle.jxl_encode.specs.Profiles.{image_with_profile}
+use Rattle.jxl_encode.specs.declared.error.EncodeError.TheVariants as errors
 use Rattle.jxl_exif.specs.Orientations.{IsOrientationOf, IsUprightOf}
 use Rattle.jxl_image_header.specs.Images.{Image, image_of}
 use Rattle.jxl_netpbm.specs.Output.{AppendsBeginning}
 use Rattle.jxl_netpbm_read.specs.Files.{IsErrorOf, IsNetpbmOf}
+use Rattle.jxl_netpbm_read.specs.declared.error.NetpbmError.TheVariants as pictures
+use Rattle.jxl_picture.specs.Pictures.{is_grey}
 use Rattle.jxl_picture.specs.declared.limits.Limits.{Limits}
 use Rattle.jxl_picture.specs.declared.picture.Picture.{Picture}
 use Rattle.jxl_png_read.specs.Files.{IsErrorOf as IsPngErrorOf, IsPngOf}
@@ -24,9 +27,11 @@ use Rattle.jxl_png.specs.declared.error.PngError.TheVariants.{Signature}
 use Rattle.jxl_png_read.specs.declared.error.ReadError.TheVariants.{Png}
 use Rattle.jxlm_base.specs.Grid.{Grid}
 use Rattle.jxlenc.specs.Failures.{failure_line, cause_of, is_of_output, is_silent, subject}
+use Rattle.jxlenc.specs.Profiles.{Describes, ProfileErrs}
 use Rattle.jxlenc.specs.declared.failures.Failure.{Failure}
 use Rattle.jxlenc.specs.declared.failures.Failure.TheVariants as failures
 use Rattle.jxlenc.specs.declared.options.Options.{Options}
+use Rattle.jxlenc.specs.declared.profile.ProfileError.{ProfileError}
 use Rattle.jxlenc.specs.declared.run.Metadata.{Metadata}
 
 -- the header of a picture that gets this profile, if there is one
@@ -40,17 +45,35 @@ IsSource input image channels icc exif xmp =
     IsPngOf input image channels icc exif xmp ⊎ (IsNetpbmOf input image channels × (icc ≡ None) × (exif ≡ None) × (xmp ≡ None))
 
 -- The input is a file of this picture and of these Exif and XMP data; the picture has this orientation, and this profile, if there is one, in
--- place of its own.
+-- place of its own: one that describes its colours.
 pub record IsPictureOf (input : List ℕ) (icc : Option (List ℕ)) (orientation : ℕ) (picture : Picture) (exif xmp : Option (List ℕ)) : Type 0 where
   pub image : Image
   pub own : Option (List ℕ)
   pub source : IsSource input image picture.channels.items own exif xmp
   pub header : image_of picture.header ≡ image_with icc (image_with_orientation orientation image)
   pub profile : bytes_if picture.profile ≡ option_or icc own
+  pub describes : IfSome icc (Describes (is_grey image))
+
+-- what precedes the TIFF header in a JPEG file: `Exif` and two zeros
+abbrev pub exif_head : List ℕ
+exif_head = codes "Exif" ++ (0 ∷ 0 ∷ [])
+
+-- these are the Exif data from the TIFF header on
+abbrev pub IsTiffOf : List ℕ → List ℕ → Type 0
+IsTiffOf exif tiff = (exif ≡ exif_head ++ tiff) ⊎ (((rest : List ℕ) → exif ≢ exif_head ++ rest) × (tiff ≡ exif))
+
+-- the Exif data, from the TIFF header on, say this orientation; what is kept of them says 1
+pub record KeepsUpright (exif : List ℕ) (n : ℕ) (kept : Option (List ℕ)) : Type 0 where
+  pub tiff : List ℕ
+  pub begins : IsTiffOf exif tiff
+  pub says : IsOrientationOf tiff n
+  pub bytes : List ℕ
+  pub upright : IsUprightOf tiff bytes
+  pub are : kept ≡ Some bytes
 
 -- These Exif data say this orientation, 1 if there are none; what is kept of them says 1.
 abbrev pub IsOrientedBy : Option (List ℕ) → ℕ → Option (List ℕ) → Type 0
-IsOrientedBy (Some exif) n kept = IsOrientationOf exif n × ((bytes : List ℕ) × IsUprightOf exif bytes × (kept ≡ Some bytes))
+IsOrientedBy (Some exif) n kept = KeepsUpright exif n kept
 IsOrientedBy None n kept = (n ≡ 1) × (kept ≡ None)
 
 -- The bytes are a file that is decoded to what this picture shows: in boxes, if they are asked for or needed, with these Exif and XMP data.
@@ -71,23 +94,32 @@ pub record AreGiven {F : Type 0} (left : F → Option (List ℕ)) (options : Opt
   pub exif : IsGiven (is_some options.paths.exif) (left old.exif) (left new.exif) (new.exif ≡ old.exif) (bytes_if metadata.exif)
   pub xmp : IsGiven (is_some options.paths.xmp) (left old.xmp) (left new.xmp) (new.xmp ≡ old.xmp) (bytes_if metadata.xmp)
 
--- The input was read to its end, from left to rest, and so were the data for the file beside its picture; the bytes are the file
--- of that picture with these data, and with those of the input in place of what is not given. The picture has the orientation that
--- the Exif data say, and these are kept for an upright one.
-pub record IsMade (boxed : Bool) (left rest : Option (List ℕ)) (Given : Metadata → Type 0) (file : List ℕ) : Type 0 where
-  pub input : List ℕ
-  pub picture : Picture
+-- The picture is that of this input with the data for the file beside it that were read, in place of its own; it has the orientation
+-- that the Exif data say, and these are kept for an upright one.
+pub record IsAsked (Given : Metadata → Type 0) (input : List ℕ) (picture : Picture) (kept kept_xmp : Option (List ℕ)) : Type 0 where
   pub metadata : Metadata
-  pub read : Consumes left rest input
-  pub ended : IsAtEnd rest
   pub given : Given metadata
   pub exif : Option (List ℕ)
   pub xmp : Option (List ℕ)
   pub orientation : ℕ
-  pub kept : Option (List ℕ)
   pub oriented : IsOrientedBy (option_or (bytes_if metadata.exif) exif) orientation kept
   pub pictured : IsPictureOf input (bytes_if metadata.profile) orientation picture exif xmp
-  pub encoded : IsEncodingOf picture boxed kept (option_or (bytes_if metadata.xmp) xmp) file
+  pub xmp_is : kept_xmp ≡ option_or (bytes_if metadata.xmp) xmp
+
+-- The input was read, from left to rest, to its end or 65,536 bytes of it and more; and what was read has this property.
+pub record IsReadEnough (left rest : Option (List ℕ)) (holds : List ℕ → Type 0) : Type 0 where
+  pub file : List ℕ
+  pub read : Consumes left rest file
+  pub ended : IsAtEnd rest ⊎ (2 ^ 16 ≤ length file)
+  pub is : holds file
+
+-- The bytes are the file of the picture that is asked for, by the input that was read, from left to rest.
+pub record IsMade (boxed : Bool) (left rest : Option (List ℕ)) (Given : Metadata → Type 0) (file : List ℕ) : Type 0 where
+  pub picture : Picture
+  pub kept : Option (List ℕ)
+  pub xmp : Option (List ℕ)
+  pub asked : IsReadEnough left rest (λ input. IsAsked Given input picture kept xmp)
+  pub encoded : IsEncodingOf picture boxed kept xmp file
 
 -- Such a file was written: the output, which held `held`, holds it after that.
 pub record IsDone (boxed : Bool) (left rest : Option (List ℕ)) (Given : Metadata → Type 0) (held holds : Option (List ℕ)) : Type 0 where
@@ -111,24 +143,55 @@ PictureFails input (failures.Picture error) = IsPngErrorOf usual_limits input (P
 PictureFails input (failures.Png error) = IsPngErrorOf usual_limits input error
 PictureFails input failure = ⊥
 
--- what each failure says of a profile, if there is one: no file can hold it
-abbrev pub ProfileFails : Option (List ℕ) → Failure → Type 0
-ProfileFails icc failures.ProfileSize = (bytes : List ℕ) × (icc ≡ Some bytes) × ¬ (IsCodableProfile bytes)
-ProfileFails icc failure = ⊥
+-- what each failure says of a profile, if there is one: a file of this picture does not get it
+abbrev pub ProfileFails : Image → Option (List ℕ) → Failure → Type 0
+ProfileFails image icc (failures.Profile error) = (bytes : List ℕ) × (icc ≡ Some bytes) × ProfileErrs (is_grey image) bytes error
+ProfileFails image icc failure = ⊥
+
+-- a profile was read that a file of the input's picture does not get
+pub record IsProfileRefused (Given : Metadata → Type 0) (error : ProfileError) (input : List ℕ) : Type 0 where
+  pub metadata : Metadata
+  pub given : Given metadata
+  pub image : Image
+  pub channels : List (Grid ℤ)
+  pub own : Option (List ℕ)
+  pub exif : Option (List ℕ)
+  pub xmp : Option (List ℕ)
+  pub source : IsSource input image channels own exif xmp
+  pub refused : ProfileFails image (bytes_if metadata.profile) (failures.Profile error)
+
+-- what each failure says of a picture that is not encoded
+abbrev pub EncodingFails : Picture → Failure → Type 0
+EncodingFails picture failures.TooLarge = EncodeFails picture errors.TooLarge
+EncodingFails picture failures.OutOfMemory = Unit {0}
+EncodingFails picture failure = ⊥
+
+-- the picture that is asked for is too large
+pub record IsLargeAsked (Given : Metadata → Type 0) (input : List ℕ) : Type 0 where
+  pub picture : Picture
+  pub kept : Option (List ℕ)
+  pub xmp : Option (List ℕ)
+  pub asked : IsAsked Given input picture kept xmp
+  pub large : EncodingFails picture failures.TooLarge
 
 -- these data are asked for, and reading their stream fails by this error
 abbrev pub ExtraFails : {F : Type 0} → (F → Error → Type 0) → Options → Extras F → Extra → Error → Type 0
 ExtraFails fails options streams extra error = (has_path options.paths extra ≡ true) × fails (stream_of streams extra) error
 
--- what each failure says of the input, from left to rest, and of the data beside it, before the output is written: reading the input
--- fails; or it was read to its end
+-- what each failure says of the input, from left to rest, of which no picture is read: reading it fails; or it begins as no file that is
+-- read; or it was read to its end
+abbrev pub ReadingFails : (Error → Type 0) → Option (List ℕ) → Option (List ℕ) → Failure → Type 0
+ReadingFails Unread left rest (failures.Unreadable error) = Unread error × IsReadPart left rest
+ReadingFails Unread left rest (failures.Picture pictures.Magic) = IsReadEnough left rest (λ input. PictureFails input (failures.Picture pictures.Magic))
+ReadingFails Unread left rest failure = IsReadWhole left rest (λ input. PictureFails input failure)
+
+-- what each failure says of the input, from left to rest, and of the data beside it, before the output is written
 abbrev pub MakingFails : (Error → Type 0) → (Extra → Error → Type 0) → Option (List ℕ) → Option (List ℕ) → (Metadata → Type 0) → Failure → Type 0
-MakingFails Unread UnreadExtra left rest Given (failures.Unreadable error) = Unread error × IsReadPart left rest
-MakingFails Unread UnreadExtra left rest Given (failures.ExtraUnreadable extra error) = IsReadWhole left rest (λ input. UnreadExtra extra error)
-MakingFails Unread UnreadExtra left rest Given failures.ProfileSize =
-    IsReadWhole left rest (λ input. (metadata : Metadata) × Given metadata × ProfileFails (bytes_if metadata.profile) failures.ProfileSize)
+MakingFails Unread UnreadExtra left rest Given (failures.ExtraUnreadable extra error) = IsReadEnough left rest (λ input. UnreadExtra extra error)
+MakingFails Unread UnreadExtra left rest Given (failures.Profile error) = IsReadEnough left rest (IsProfileRefused Given error)
+MakingFails Unread UnreadExtra left rest Given failures.TooLarge = IsReadEnough left rest (IsLargeAsked Given)
 MakingFails Unread UnreadExtra left rest Given failures.OutOfMemory = Unit {0}
-MakingFails Unread UnreadExtra left rest Given failure = IsReadWhole left rest (λ input. PictureFails input failure)
+MakingFails Unread UnreadExtra left rest Given failure = ReadingFails Unread left rest failure
 
 -- what each failure says of the input and of the output, which held `held`: a file was made before the output was written, and the
 -- output holds a beginning of that

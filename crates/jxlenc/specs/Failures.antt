@@ -2,7 +2,8 @@
 use Rattle.std.specs.Prelude.{◌≡◌, ℕ, List, ◌++◌, Bool, true, false, Option, Some, None, if◌then◌else◌, codes}
 use Rattle.std.specs.declared.io.Error.{Error}
 use Rattle.jxl_command.specs.Extras.{path_of}
-use Rattle.jxl_command.specs.Streams.{is_closed}
+use Rattle.jxl_command.specs.Shown.{shown_text}
+use Rattle.jxl_command.specs.Streams.{is_closed, terminal_text}
 use Rattle.jxl_command.specs.declared.extra.Extra.{Extra}
 use Rattle.jxl_command.specs.declared.extra.Extra.TheVariants as extras
 use Rattle.jxl_netpbm_read.specs.declared.error.NetpbmError.{NetpbmError}
@@ -11,6 +12,8 @@ use Rattle.jxlenc.specs.Reasons.{png_text}
 use Rattle.jxlenc.specs.declared.failures.Failure.{Failure}
 use Rattle.jxlenc.specs.declared.failures.Failure.TheVariants as failures
 use Rattle.jxlenc.specs.declared.options.Options.{Options}
+use Rattle.jxlenc.specs.declared.profile.ProfileError.{ProfileError}
+use Rattle.jxlenc.specs.declared.profile.ProfileError.TheVariants as profiles
 
 -- why a file is read as no netpbm picture
 unfoldable pub picture_text : NetpbmError → List ℕ
@@ -24,15 +27,24 @@ picture_text pictures.Channels = codes "not supported: channels of this type or 
 picture_text pictures.Sample = codes "a sample above the maximum"
 picture_text pictures.OutOfMemory = codes "out of memory"
 
+-- why a profile is not stored
+unfoldable pub profile_text : ProfileError → List ℕ
+profile_text profiles.Length = codes "a profile of 0 bytes or above 268435456"
+profile_text profiles.Header = codes "not an ICC profile"
+profile_text profiles.Size = codes "a profile whose header says another size"
+profile_text profiles.Space = codes "a profile of another colour space than the picture's"
+
 -- why the output does not get the encoded picture, in words; what the system says of its cause is not known, and not among them
 unfoldable pub failure_text : Failure → List ℕ
 failure_text (failures.Unreadable error) = codes "cannot read"
 failure_text (failures.Picture error) = picture_text error
 failure_text (failures.Png error) = png_text error
 failure_text (failures.ExtraUnreadable extra error) = codes "cannot read"
-failure_text failures.ProfileSize = codes "a profile of 0 bytes or above 268435456"
+failure_text (failures.Profile error) = profile_text error
+failure_text failures.TooLarge = codes "a picture too large for one frame"
 failure_text failures.OutOfMemory = codes "out of memory"
-failure_text failures.Terminal = codes "a terminal; -o OUT writes to a file, -o - to standard output"
+failure_text failures.Terminal = terminal_text
+failure_text failures.Overwritten = codes "an input and this output are one file"
 failure_text (failures.Unwritable error) = codes "cannot write"
 failure_text failures.Closed = codes "a pipe that was closed"
 
@@ -55,6 +67,7 @@ failure_of_write error = if is_closed error then failures.Closed else failures.U
 -- the failure is one of the output, and not of what is read
 abbrev pub is_of_output : Failure → Bool
 is_of_output failures.Terminal = true
+is_of_output failures.Overwritten = true
 is_of_output (failures.Unwritable error) = true
 is_of_output failures.Closed = true
 is_of_output failure = false
@@ -75,9 +88,9 @@ pub record IsExtraUnread (wanted : Bool) (extra : Extra) (Unread : Error → Typ
 -- the name of what fails: of where other data are read, of the output, or of the picture
 abbrev pub subject : Options → Failure → List ℕ
 subject options (failures.ExtraUnreadable extra error) = path_of options.paths extra
-subject options failures.ProfileSize = path_of options.paths extras.Profile
+subject options (failures.Profile error) = path_of options.paths extras.Profile
 subject options failure = if is_of_output failure then options.output_name.now else options.input.now
 
--- the words of the line on a failure of what has this name, before its cause
+-- the words of the line on a failure of what has this name, in which control characters are written by their codes, before its cause
 abbrev pub failure_line : List ℕ → Failure → List ℕ
-failure_line name failure = codes "jxlenc: " ++ (name ++ (codes ": " ++ failure_text failure))
+failure_line name failure = codes "jxlenc: " ++ (shown_text name ++ (codes ": " ++ failure_text failure))

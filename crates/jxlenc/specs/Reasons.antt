@@ -43,6 +43,7 @@ stream_text streams.RepeatWithoutLength = codes "repeat without a previous code 
 stream_text streams.LengthsOverrun = codes "code lengths past the last code"
 stream_text streams.NoEndOfBlock = codes "no codeword for the end of the block"
 stream_text (streams.InvalidSymbol alphabet) = codes "invalid symbol"
+stream_text streams.BeyondWindow = codes "match distance beyond the window"
 stream_text streams.DistanceTooFar = codes "match distance before the start of the text"
 stream_text streams.TooLarge = codes "text longer than the limit"
 stream_text streams.OutOfMemory = codes "out of memory"

@@ -1,11 +1,13 @@
 //! Why the output does not get the encoded picture.
 
 ghost use Rattle.std.specs.Prelude.{◌≡◌};
-ghost use Rattle.jxlenc.specs.Failures.{IsOfWriting, cause_of, failure_of_write, failure_text, is_silent as the_silent, picture_text as the_picture_text};
+ghost use Rattle.jxlenc.specs.Failures.{IsOfWriting, cause_of, failure_of_write, failure_text, is_silent as the_silent, picture_text as the_picture_text, profile_text as the_profile_text};
 
+use crate::profile::ProfileError;
 use crate::reason::png_text;
 use jxl_command::errors::is_closed;
 use jxl_command::extra::Extra;
+use jxl_command::output::terminal_text;
 use jxl_netpbm_read::error::NetpbmError;
 use jxl_png_read::error::ReadError;
 use std::{fmt, io};
@@ -21,12 +23,16 @@ pub enum Failure {
     Png(ReadError),
     /// These data cannot be read, for this reason, or it is out of memory for them.
     ExtraUnreadable(Extra, io::Error),
-    /// No file can hold the profile: it is empty, or has more than 2^28 bytes.
-    ProfileSize,
+    /// The profile is not stored, by this error.
+    Profile(ProfileError),
+    /// The picture is too large for one frame.
+    TooLarge,
     /// Out of memory for the file.
     OutOfMemory,
     /// The output is a terminal that was not asked for.
     Terminal,
+    /// The output is a file that is read.
+    Overwritten,
     /// The output cannot be written, for this reason.
     Unwritable(io::Error),
     /// The output is a pipe that was closed.
@@ -87,6 +93,19 @@ fn picture_text(error: NetpbmError) -> &'static str
     }
 }
 
+// Why a profile is not stored.
+#[tactic(auto, unfolding(crate::specs::Failures::profile_text))]
+fn profile_text(error: ProfileError) -> &'static str
+    ensures { result.now ≡ the_profile_text error }
+{
+    match error {
+        ProfileError::Length => "a profile of 0 bytes or above 268435456",
+        ProfileError::Header => "not an ICC profile",
+        ProfileError::Size => "a profile whose header says another size",
+        ProfileError::Space => "a profile of another colour space than the picture's",
+    }
+}
+
 /// Why the output does not get the encoded picture, without what the system says of its cause.
 impl fmt::Display for Failure {
     ghost use Rattle.std.specs.Prelude.{Some};
@@ -99,11 +118,11 @@ impl fmt::Display for Failure {
             Failure::Unreadable(_) | Failure::ExtraUnreadable(..) => f.write_str("cannot read"),
             Failure::Picture(error) => f.write_str(picture_text(error)),
             Failure::Png(error) => f.write_str(png_text(error)),
-            Failure::ProfileSize => f.write_str("a profile of 0 bytes or above 268435456"),
+            Failure::Profile(error) => f.write_str(profile_text(error)),
+            Failure::TooLarge => f.write_str("a picture too large for one frame"),
             Failure::OutOfMemory => f.write_str("out of memory"),
-            Failure::Terminal => {
-                f.write_str("a terminal; -o OUT writes to a file, -o - to standard output")
-            }
+            Failure::Terminal => f.write_str(terminal_text()),
+            Failure::Overwritten => f.write_str("an input and this output are one file"),
             Failure::Unwritable(_) => f.write_str("cannot write"),
             Failure::Closed => f.write_str("a pipe that was closed"),
         }

@@ -4,6 +4,7 @@
 mod failures;
 mod meter;
 mod options;
+mod profile;
 mod reason;
 mod run;
 mod source;
@@ -14,11 +15,11 @@ use crate::options::Options;
 use crate::run::{report, run};
 use jxl_command::end::End;
 use jxl_command::extra::{Extra, Extras};
+use jxl_command::files::is_same_file;
 use jxl_command::input::{InputFile, InputStream};
 use jxl_command::meter::Meter;
-use jxl_command::output::OutputFile;
-use std::env;
-use std::io::IsTerminal;
+use jxl_command::output::{OutputFile, is_unasked_terminal};
+use jxl_command::words::{end_of_parsing, end_without_memory, words_or_end};
 use std::process::ExitCode;
 
 // Encodes the picture that the reader gives.
@@ -54,10 +55,38 @@ fn carry_out<R: InputStream>(rt: &HostRuntime, options: Options<'_>, input: &mut
     }
 }
 
+// Whether this path, if there is one, is that of the output.
+fn is_output(rt: &HostRuntime, path: Option<&str>, output: &str) -> bool {
+    match path {
+        Some(path) => is_same_file(rt, path, output),
+        None => false,
+    }
+}
+
+// Whether the output is one of the files that are read.
+fn is_overwritten(rt: &HostRuntime, options: &Options<'_>) -> bool {
+    let Some(output) = options.output else {
+        return false;
+    };
+    let paths = options.paths;
+    let picture = if options.input == "-" {
+        None
+    } else {
+        Some(options.input)
+    };
+    is_output(rt, picture, output)
+        || is_output(rt, paths.icc, output)
+        || is_output(rt, paths.exif, output)
+        || is_output(rt, paths.xmp, output)
+}
+
 // Does what the options ask.
 fn encode(rt: &HostRuntime, options: Options<'_>) -> End {
-    if !options.has_output && rt.stdout().is_terminal() {
+    if is_unasked_terminal(rt, options.has_output) {
         return report(&mut rt.stderr(), options.output_name, Failure::Terminal);
+    }
+    if is_overwritten(rt, &options) {
+        return report(&mut rt.stderr(), options.output_name, Failure::Overwritten);
     }
     if options.input == "-" {
         return carry_out(rt, options, &mut rt.stdin());
@@ -65,15 +94,22 @@ fn encode(rt: &HostRuntime, options: Options<'_>) -> End {
     carry_out(rt, options, &mut InputFile::new(rt, options.input))
 }
 
-fn main(rt: HostRuntime) -> anyhow::Result<ExitCode> {
-    let alloc = rt.alloc();
-    let words: Vec<String> = env::args(&rt)?.collect(alloc)?;
-    let command = options::command(alloc)?;
+// Does what the command line asks.
+fn end(rt: &HostRuntime) -> End {
+    let errors = &mut rt.stderr();
+    let words = match words_or_end(rt, errors, "jxlenc") {
+        Ok(words) => words,
+        Err(end) => return end,
+    };
+    let Ok(command) = options::command(rt.alloc()) else {
+        return end_without_memory(errors, "jxlenc");
+    };
     match command.try_get_matches_from(words.as_slice()) {
-        Ok(matches) => Ok(ExitCode::from(encode(&rt, Options::of(&matches)).status)),
-        Err(error) => {
-            error.print(&rt)?;
-            Ok(ExitCode::from(error.exit_code() as u8))
-        }
+        Ok(matches) => encode(rt, Options::of(&matches)),
+        Err(error) => end_of_parsing(rt, errors, "jxlenc", &error),
     }
+}
+
+fn main(rt: HostRuntime) -> ExitCode {
+    ExitCode::from(end(&rt).status)
 }

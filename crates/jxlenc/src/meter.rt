@@ -8,7 +8,7 @@ use jxl_encode::progress::Progress;
 pub struct WayMeter<'a>(pub Meter<'a>);
 
 impl Progress for WayMeter<'_> {
-    fn way_tried(&mut self, count: usize) {
+    fn way_tried(&mut self, count: usize, _bytes: usize) {
         self.0.advance(count, "ways to code the picture");
     }
 }

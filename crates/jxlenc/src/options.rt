@@ -1,6 +1,8 @@
 //! What the program is asked for on its command line.
 
 ghost use Rattle.std.specs.Prelude.{◌≡◌, MatchOption};
+ghost use Rattle.clap.specs.Matches.{found_of};
+ghost use Rattle.jxlenc.specs.Asked.{AreOptions};
 ghost use Rattle.jxlenc.specs.Failures.{subject};
 ghost use Rattle.jxlenc.specs.Options.{IsName, IsNoName};
 
@@ -125,7 +127,9 @@ fn effort_of(name: &str) -> Option<Effort>
 
 impl<'a> Options<'a> {
     /// What a command line asks for.
-    pub fn of(matches: &ArgMatches<'a>) -> Options<'a> {
+    pub fn of(matches: &ArgMatches<'a>) -> Options<'a>
+        ensures { AreOptions (found_of matches.now) result }
+    {
         let given = matches.get_str("output");
         let path = given.unwrap_or("-");
         let output = if path == "-" { None } else { Some(path) };
@@ -152,8 +156,9 @@ impl<'a> Options<'a> {
     {
         match failure {
             Failure::ExtraUnreadable(extra, _) => self.paths.path_of(extra),
-            Failure::ProfileSize => self.paths.path_of(Extra::Profile),
-            Failure::Terminal | Failure::Unwritable(_) | Failure::Closed => self.output_name,
+            Failure::Profile(_) => self.paths.path_of(Extra::Profile),
+            Failure::Terminal | Failure::Overwritten | Failure::Unwritable(_) | Failure::Closed =>
+                self.output_name,
             _ => self.input,
         }
     }

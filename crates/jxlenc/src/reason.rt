@@ -52,6 +52,7 @@ fn stream_text(error: InflateError) -> &'static str
         InflateError::LengthsOverrun => "code lengths past the last code",
         InflateError::NoEndOfBlock => "no codeword for the end of the block",
         InflateError::InvalidSymbol(_) => "invalid symbol",
+        InflateError::BeyondWindow => "match distance beyond the window",
         InflateError::DistanceTooFar => "match distance before the start of the text",
         InflateError::TooLarge => "text longer than the limit",
         InflateError::OutOfMemory => "out of memory",

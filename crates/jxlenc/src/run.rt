@@ -1,6 +1,6 @@
 //! The program over readers and two writers.
 
-ghost use Rattle.std.specs.Prelude.{◌≡◌, ◌≤◌, is_some, IfErr, IfOk, None, OnOk, false};
+ghost use Rattle.std.specs.Prelude.{◌≡◌, ◌≤◌, is_some, IfErr, IfOk, IfSome, None, OnOk, false};
 ghost use Rattle.std.specs.Option.{option_map, option_or};
 ghost use Rattle.std.specs.declared.io.Error.{Error};
 ghost use Rattle.jxl_codestream.specs.FrontParts.{bytes_if};
@@ -10,25 +10,29 @@ ghost use Rattle.jxl_command.specs.declared.extra.Extra.{Extra as TheExtra};
 ghost use Rattle.jxl_encode.specs.Codable.{IsCodable};
 ghost use Rattle.jxl_image_header.specs.Images.{image_of};
 ghost use Rattle.jxl_picture.specs.Pictures.{IsWhole};
-ghost use Rattle.jxlenc.specs.Encodings.{AreGiven, ExtraFails, InputFails, IsDone, IsEncodingOf, IsFailed, IsGiven, IsMade, IsOrientedBy, Reports, MakingFails, ProfileFails, image_with};
+ghost use Rattle.jxl_picture.specs.Pictures.{is_grey as the_grey};
+ghost use Rattle.jxlenc.specs.Encodings.{AreGiven, EncodingFails, ExtraFails, InputFails, IsDone, IsEncodingOf, IsFailed, IsGiven, IsMade, IsOrientedBy, IsTiffOf, Reports, MakingFails, ProfileFails, image_with};
+ghost use Rattle.jxlenc.specs.Profiles.{Describes};
 ghost use Rattle.jxlenc.specs.Failures.{IsExtraUnread, cause_of, failure_line, is_of_output};
 
 use crate::failures::Failure;
 use crate::options::Options;
-use crate::source::{Source, source_of_input};
+use crate::profile::check_profile;
+use crate::source::read_source;
 use jxl_command::end::End;
 use jxl_command::errors::{ErrorStream, put_line};
 use jxl_command::extra::{Extra, Extras};
 use jxl_command::input::InputStream;
 use jxl_command::meter::Line;
 use jxl_command::output::{Flush, write_flushed};
-use jxl_encode::codable::is_codable_profile;
+use jxl_command::shown::Shown;
+use jxl_encode::error::EncodeError;
 use jxl_encode::file::encode_with_progress;
 use jxl_encode::orientation::with_orientation;
 use jxl_encode::profile::with_profile;
 use jxl_encode::progress::Progress;
 use jxl_exif::orientation::{orientation_of, set_upright};
-use jxl_picture::picture::Picture;
+use jxl_picture::picture::{Picture, is_grey};
 use std::alloc::Global;
 
 /// What the file is to hold beside the picture's samples.
@@ -81,20 +85,29 @@ fn metadata_given<F: InputStream>(
     Ok(Metadata { profile, exif, xmp })
 }
 
-// The orientation that Exif data say, if there are some, and the data for an upright picture.
-fn upright_exif(exif: Option<Vec<u8>>) -> (u32, Option<Vec<u8>>)
-    ensures value { IsOrientedBy (bytes_if exif) result.0 (bytes_if result.1) }
-    ensures least { 1 ≤ result.0 }
-    ensures most { result.0 ≤ 8 }
+// Exif data from the TIFF header on: without the six bytes that precede it in a JPEG file.
+fn tiff_of(exif: &[u8]) -> &[u8]
+    ensures { IsTiffOf exif.now result.now }
 {
-    match exif {
-        Some(mut bytes) => {
-            let orientation = orientation_of(&bytes);
-            set_upright(&mut bytes);
-            (orientation, Some(bytes))
-        }
-        None => (1, None),
-    }
+    exif.strip_prefix(b"Exif\0\0").unwrap_or(exif)
+}
+
+// The orientation that Exif data say, if there are some, and the data for an upright picture.
+fn upright_exif(alloc: Global, exif: &Option<Vec<u8>>) -> Result<(u32, Option<Vec<u8>>), Failure>
+    ensures value { IfOk result (λ made. IsOrientedBy (bytes_if exif.now) made.0 (bytes_if made.1)) }
+    ensures least { IfOk result (λ made. 1 ≤ made.0) }
+    ensures most { IfOk result (λ made. made.0 ≤ 8) }
+    ensures err { IfErr result (λ failure. failure ≡ Failure.OutOfMemory) }
+{
+    let Some(bytes) = exif else {
+        return Ok((1, None));
+    };
+    let Ok(mut tiff) = Vec::from_slice(alloc, tiff_of(bytes)) else {
+        return Err(Failure::OutOfMemory);
+    };
+    let orientation = orientation_of(&tiff);
+    set_upright(&mut tiff);
+    Ok((orientation, Some(tiff)))
 }
 
 // The picture with this profile, if there is one, in place of its own.
@@ -107,17 +120,16 @@ fn picture_with(picture: Picture, profile: Option<Vec<u8>>) -> Result<Picture, F
     ensures profile { IfOk result (λ p. bytes_if p.profile ≡ option_or (bytes_if profile) (bytes_if picture.profile)) }
     ensures whole { IfOk result (λ p. IsWhole (image_of p.header) p.channels.items) }
     ensures codable { IfOk result IsCodable }
-    ensures err { IfErr result (ProfileFails (bytes_if profile)) }
+    ensures describes { IfOk result
+        (λ _. IfSome (bytes_if profile) (Describes (the_grey (image_of picture.header)))) }
+    ensures err { IfErr result (ProfileFails (image_of picture.header) (bytes_if profile)) }
 {
-    match profile {
-        Some(icc) => {
-            if is_codable_profile(&icc) {
-                Ok(with_profile(picture, icc))
-            } else {
-                Err(Failure::ProfileSize)
-            }
-        }
-        None => Ok(picture),
+    let Some(icc) = profile else {
+        return Ok(picture);
+    };
+    match check_profile(&icc, is_grey(&picture.header)) {
+        Ok(()) => Ok(with_profile(picture, icc)),
+        Err(error) => Err(Failure::Profile(error)),
     }
 }
 
@@ -134,14 +146,15 @@ fn file_of_picture<P: Progress>(
     requires codable { IsCodable picture.now }
     ensures ok { IfOk result (λ v. IsEncodingOf picture.now options.now.boxed (bytes_if exif.now) (bytes_if xmp.now)
         v.items) }
-    ensures err { IfErr result (λ failure. failure ≡ Failure.OutOfMemory) }
+    ensures err { IfErr result (EncodingFails picture.now) }
 {
     let (effort, boxed) = (options.effort, options.boxed);
     let exif = exif.as_deref();
     let xmp = xmp.as_deref();
     match encode_with_progress(alloc, picture, effort, boxed, exif, xmp, progress) {
         Ok(file) => Ok(file),
-        Err(_) => Err(Failure::OutOfMemory),
+        Err(EncodeError::TooLarge) => Err(Failure::TooLarge),
+        Err(EncodeError::OutOfMemory) => Err(Failure::OutOfMemory),
     }
 }
 
@@ -159,14 +172,10 @@ fn file_asked<R: InputStream, F: InputStream, P: Progress + Line>(
         (R.remaining input.old) (R.remaining input.new)
         (AreGiven F.remaining options.now extras.old extras.new)) }
 {
-    let bytes = match input.read_rest(alloc) {
-        Ok(bytes) => bytes,
-        Err(error) => return Err(Failure::Unreadable(error)),
-    };
-    let source = source_of_input(alloc, &bytes)?;
+    let source = read_source(alloc, input)?;
     let Metadata { profile, exif, xmp } = metadata_given(alloc, options, extras)?;
     let given = exif.or(source.exif);
-    let (orientation, exif) = upright_exif(given);
+    let (orientation, exif) = upright_exif(alloc, &given)?;
     let xmp = xmp.or(source.xmp);
     let oriented = with_orientation(source.picture, orientation);
     let picture = picture_with(oriented, profile)?;
@@ -205,7 +214,7 @@ fn put_failure<E: ErrorStream>(errors: &mut E, name: &str, failure: Failure) -> 
     ensures { IsReportedLine result (E.contents errors.old) (E.contents errors.new) (E.has_failed errors.new)
         (cause_of failure) (failure_line name.now failure) }
 {
-    let cause = failure.cause();
+    let (name, cause) = (Shown(name), failure.cause());
     put_line(errors, format_args!("jxlenc: {name}: {failure}"), cause)
 }
 

@@ -8,9 +8,11 @@ ghost use Rattle.jxl_picture.specs.Pictures.{IsWhole};
 ghost use Rattle.jxl_png_read.specs.Files.{IsErrorOf};
 ghost use Rattle.jxl_png.specs.declared.error.PngError.TheVariants.{Signature};
 ghost use Rattle.jxl_png_read.specs.declared.error.ReadError.TheVariants.{Png};
-ghost use Rattle.jxlenc.specs.Encodings.{IsSource, PictureFails, usual_limits};
+ghost use Rattle.jxlenc.specs.Encodings.{IsReadEnough, IsSource, PictureFails, ReadingFails, usual_limits};
 
 use crate::failures::Failure;
+use jxl_command::input::InputStream;
+use jxl_netpbm_read::error::NetpbmError;
 use jxl_netpbm_read::picture::read_netpbm;
 use jxl_picture::limits::Limits;
 use jxl_picture::picture::Picture;
@@ -18,6 +20,9 @@ use jxl_png::error::PngError;
 use jxl_png_read::error::ReadError;
 use jxl_png_read::file::read_png;
 use std::alloc::Global;
+
+/// How many bytes of an input are read first.
+const START: usize = 1 << 16;
 
 /// A picture that was read, and the Exif and XMP data of its file.
 #[derive(Drop)]
@@ -61,8 +66,8 @@ fn unless_png(alloc: Global, input: &[u8], error: ReadError) -> Result<Source, F
     }
 }
 
-/// The picture of an input: a PNG file if it has the signature of one, else a netpbm file. Each that is read can be coded.
-pub fn source_of_input(alloc: Global, input: &[u8]) -> Result<Source, Failure>
+// The picture of an input: a PNG file if it has the signature of one, else a netpbm file. Each that is read can be coded.
+fn source_of_input(alloc: Global, input: &[u8]) -> Result<Source, Failure>
     ensures source { IfOk result (λ s. IsSource input.now (image_of s.picture.header) s.picture.channels.items
         (bytes_if s.picture.profile) (bytes_if s.exif) (bytes_if s.xmp)) }
     ensures whole { IfOk result (λ s. IsWhole (image_of s.picture.header) s.picture.channels.items) }
@@ -76,5 +81,36 @@ pub fn source_of_input(alloc: Global, input: &[u8]) -> Result<Source, Failure>
             xmp: image.xmp,
         }),
         Err(error) => unless_png(alloc, input, error),
+    }
+}
+
+/// Reads the picture of an input, as PNG or netpbm files have it. Of an input that begins otherwise, or that has the picture
+/// in its first 65,536 bytes, no more is read.
+pub fn read_source<R: InputStream>(alloc: Global, input: &mut R) -> Result<Source, Failure>
+    ensures source { IfOk result (λ s. IsReadEnough (R.remaining input.old) (R.remaining input.new) (λ file. IsSource file
+        (image_of s.picture.header) s.picture.channels.items (bytes_if s.picture.profile) (bytes_if s.exif)
+        (bytes_if s.xmp))) }
+    ensures whole { IfOk result (λ s. IsWhole (image_of s.picture.header) s.picture.channels.items) }
+    ensures codable { IfOk result (λ s. IsCodable s.picture) }
+    ensures err { IfErr result (ReadingFails (R.fails_by input.new) (R.remaining input.old) (R.remaining input.new)) }
+{
+    let start = match input.read_start(alloc, START) {
+        Ok(bytes) => bytes,
+        Err(error) => return Err(Failure::Unreadable(error)),
+    };
+    match source_of_input(alloc, &start) {
+        Ok(source) => return Ok(source),
+        Err(Failure::Picture(NetpbmError::Magic)) => {
+            return Err(Failure::Picture(NetpbmError::Magic));
+        }
+        Err(failure) => {
+            if start.len() < START {
+                return Err(failure);
+            }
+        }
+    }
+    match input.read_on(start) {
+        Ok(bytes) => source_of_input(alloc, &bytes),
+        Err(error) => Err(Failure::Unreadable(error)),
     }
 }

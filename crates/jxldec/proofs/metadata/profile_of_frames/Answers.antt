@@ -1,6 +1,6 @@
 use Rattle.std.proofs.Common.{inr, subst, sym}
 use Rattle.jxl_image_header.specs.Images.{image_of}
-use Rattle.jxldec.specs.Texts.{MetadataFails}
+use Rattle.jxldec.specs.Texts.{ProfileFails}
 use Rattle.jxldec_lines.specs.declared.failures.Failure.{Failure}
 use Rattle.jxldec.proofs.metadata.profile_of_frames.Goals as goal
 
@@ -19,5 +19,5 @@ returns-in-Ok-read-clause-ok c =
 
 pub returns-clause-err : goal.returns-clause-err
 returns-clause-err c =
-    subst (λ (f : Failure). MetadataFails c.args.limits.now c.args.file.now f) (sym c.of_frames.ensures)
+    subst (λ (f : Failure). ProfileFails c.args.limits.now c.args.file.now f) (sym c.of_frames.ensures)
     (c.bytes.result.now, rw c.bytes.ensures c.in-Ok.ensures.ok, c.in-Err-read.ensures.err)

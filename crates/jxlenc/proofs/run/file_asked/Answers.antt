@@ -1,46 +1,68 @@
-use Rattle.std.proofs.Common.{◌≡◌, ℕ, ℤ, List, Option, Some, None, rules, refl, sym, ap, subst, ◌∙◌}
-use Rattle.std.specs.Global.{Vec}
-use Rattle.std.specs.Option.{option_or}
-use Rattle.jxlm_base.specs.Grid.{Grid}
+use Rattle.std.proofs.Common.{ℕ, List, subst}
+use Rattle.std.proofs.lemmas.Result.{err_from_is_err_and}
 use Rattle.jxl_codestream.specs.FrontParts.{bytes_if}
 use Rattle.jxl_image_header.specs.Images.{Image, image_of}
-use Rattle.jxlenc.specs.Encodings.{IsEncodingOf, IsOrientedBy, IsSource, image_with}
+use Rattle.jxlenc.specs.Encodings.{AreGiven, ExtraFails, IsLargeAsked, IsProfileRefused, ProfileFails}
+use Rattle.jxlenc.specs.declared.failures.Failure.TheVariants.{Profile}
+use Rattle.jxlenc.proofs.Pictures.{asked_of}
+use Rattle.jxlenc.proofs.Sources.{encoding_fails, enough_for, profile_fails}
 use Rattle.jxlenc.proofs.run.file_asked.Goals as goal
-
--- the bytes of what is given, else of what the input has
-or_bytes : (given own : Option (Vec ℕ)) → bytes_if (option_or given own) ≡ option_or (bytes_if given) (bytes_if own)
-or_bytes None own = refl
-or_bytes (Some v) own = refl
 
 pub returns-clause-ok : goal.returns-clause-ok
 returns-clause-ok g c =
     let source = c.in_ok-source.source in
-    let picture = c.in_ok-picture.picture in
-    let boxed = c.args.options.now.boxed in
-    let file = c.in_ok-file.file.items in
-    let exif : bytes_if c.or-given.result ≡ option_or (bytes_if c.in_ok-profile.field-0.exif) (bytes_if source.exif) = ap (λ (o : Option (Vec ℕ)). bytes_if o) c.or-given.ensures ∙ or_bytes c.in_ok-profile.field-0.exif source.exif in
-    let kept = bytes_if c.upright_exif-orientation.result.1 in
     let oriented = c.with_orientation-oriented in
-    let xmp : bytes_if c.or-xmp.result ≡ option_or (bytes_if c.in_ok-profile.field-0.xmp) (bytes_if source.xmp) = ap (λ (o : Option (Vec ℕ)). bytes_if o) c.or-xmp.ensures ∙ or_bytes c.in_ok-profile.field-0.xmp source.xmp in
+    let picture = c.in_ok-picture in
+    let Given = AreGiven g.F.Read.remaining c.args.options.now c.args.extras.now c.metadata_given.new.extras in
     record {
-      input = c.deref.result.now;
-      picture = picture;
-      metadata = c.in_ok-profile.field-0;
-      read = search rules;
-      ended = search rules;
+      picture = picture.picture;
+      kept = bytes_if c.in_ok-orientation.exif;
+      xmp = bytes_if c.or-xmp.result;
+      asked = enough_for _ _ _ _ (λ input is. asked_of Given input c.in_ok-profile.field-0 source.picture oriented.result picture.picture source.exif source.xmp c.in_ok-orientation.orientation
+          c.or-given.result c.or-xmp.result (bytes_if c.in_ok-orientation.exif) c.in_ok-profile.ensures.ok is oriented.ensures.header oriented.ensures.channels oriented.ensures.profile
+          c.or-given.ensures c.in_ok-orientation.ensures.value picture.ensures.header picture.ensures.channels picture.ensures.profile picture.ensures.describes c.or-xmp.ensures) c.in_ok-source.ensures.source;
+      encoded = c.in_ok-file.ensures.ok;
+    }
+
+pub returns-in_err-picture-clause-err : goal.returns-in_err-picture-clause-err
+returns-in_err-picture-clause-err g c =
+    let source = c.in_ok-source.source in
+    let oriented = c.with_orientation-oriented in
+    let metadata = c.in_ok-profile.field-0 in
+    let icc = bytes_if metadata.profile in
+    let Given = AreGiven g.F.Read.remaining c.args.options.now c.args.extras.now c.metadata_given.new.extras in
+    let p = err_from_is_err_and c.from_residual-in_err-picture.result c.from_residual-in_err-picture.ensures.1 in
+    rw (p.1, p.2)
+    (profile_fails (g.R.InputStream.fails_by c.read_source.new.input) (ExtraFails g.F.InputStream.fails_by c.args.options.now c.metadata_given.new.extras)
+    (g.R.Read.remaining c.args.input.now) (g.R.Read.remaining c.read_source.new.input) Given (image_of oriented.result.header) icc c.in_err-picture.field-0.0 c.in_err-picture.ensures.err
+    (λ error f. enough_for _ _ _ (IsProfileRefused Given error) (λ input is. record {
+      metadata = metadata;
       given = c.in_ok-profile.ensures.ok;
+      image = image_of source.picture.header;
+      channels = source.picture.channels.items;
+      own = bytes_if source.picture.profile;
       exif = bytes_if source.exif;
       xmp = bytes_if source.xmp;
-      orientation = c.upright_exif-orientation.result.0;
-      kept = kept;
-      oriented = subst (λ (o : Option (List ℕ)). IsOrientedBy o c.upright_exif-orientation.result.0 kept) exif c.upright_exif-orientation.ensures.value;
-      pictured = record {
-        image = image_of source.picture.header;
-        own = bytes_if source.picture.profile;
-        source = subst (λ (gs : Vec (Grid ℤ)). IsSource c.deref.result.now (image_of source.picture.header) gs.items (bytes_if source.picture.profile) (bytes_if source.exif) (bytes_if source.xmp))
-            (sym (c.in_ok-picture.ensures.channels ∙ oriented.ensures.channels)) c.in_ok-source.ensures.source;
-        header = c.in_ok-picture.ensures.header ∙ ap (λ (image : Image). image_with (bytes_if c.in_ok-profile.field-0.profile) image) oriented.ensures.header;
-        profile = c.in_ok-picture.ensures.profile ∙ ap (λ (own : Option (Vec ℕ)). option_or (bytes_if c.in_ok-profile.field-0.profile) (bytes_if own)) oriented.ensures.profile;
-      };
-      encoded = subst (λ (y : Option (List ℕ)). IsEncodingOf picture boxed kept y file) xmp c.in_ok-file.ensures.ok;
-    }
+      source = is;
+      refused = subst (λ (image : Image). ProfileFails image icc (Profile error)) oriented.ensures.header f;
+    }) c.in_ok-source.ensures.source))
+
+pub returns-in_err-file-clause-err : goal.returns-in_err-file-clause-err
+returns-in_err-file-clause-err g c =
+    let source = c.in_ok-source.source in
+    let oriented = c.with_orientation-oriented in
+    let picture = c.in_ok-picture in
+    let Given = AreGiven g.F.Read.remaining c.args.options.now c.args.extras.now c.metadata_given.new.extras in
+    let p = err_from_is_err_and c.from_residual-in_err-file.result c.from_residual-in_err-file.ensures.1 in
+    rw (p.1, p.2)
+    (encoding_fails (g.R.InputStream.fails_by c.read_source.new.input) (ExtraFails g.F.InputStream.fails_by c.args.options.now c.metadata_given.new.extras)
+    (g.R.Read.remaining c.args.input.now) (g.R.Read.remaining c.read_source.new.input) Given picture.picture c.in_err-file.field-0.0 c.in_err-file.ensures.err
+    (λ f. enough_for _ _ _ (IsLargeAsked Given) (λ input is. record {
+      picture = picture.picture;
+      kept = bytes_if c.in_ok-orientation.exif;
+      xmp = bytes_if c.or-xmp.result;
+      asked = asked_of Given input c.in_ok-profile.field-0 source.picture oriented.result picture.picture source.exif source.xmp c.in_ok-orientation.orientation
+          c.or-given.result c.or-xmp.result (bytes_if c.in_ok-orientation.exif) c.in_ok-profile.ensures.ok is oriented.ensures.header oriented.ensures.channels oriented.ensures.profile
+          c.or-given.ensures c.in_ok-orientation.ensures.value picture.ensures.header picture.ensures.channels picture.ensures.profile picture.ensures.describes c.or-xmp.ensures;
+      large = f;
+    }) c.in_ok-source.ensures.source))

@@ -1,6 +1,7 @@
 use Rattle.std.proofs.Common.{◌≡◌, ◌∙◌, ap, refl, not, is_some, codes, ◌||◌}
 use Rattle.std.specs.Option.{option_copied}
-use Rattle.jxldec_options.proofs.Asking.{an_output, apng_read, ending_text, format_read, no_output, some_text, number_read, or_text, same_or, unwrap_text}
+use Rattle.jxl_command.proofs.Asking.{an_output, no_output, some_text, unwrap_text}
+use Rattle.jxldec_options.proofs.Asking.{apng_read, ending_text, format_read, number_read, or_text, same_or}
 use Rattle.jxldec_options.proofs.options.Options.of.Goals as goal
 use Rattle.jxldec_options.proofs.options.Options.of.Goals.{then-eq, else-eq, then-is_some, else-is_some}
 use Rattle.jxldec_options.specs.Options.{task_of as the_task}
@@ -53,4 +54,5 @@ returns c =
         are = c.limits_of.ensures;
       };
       quiet = (c.get_flag-2.ensures.none, c.get_flag-2.ensures.value, c.get_flag-2.ensures.other);
+      has_output = c.is_some-2.ensures ∙ some_text c.get_str-8.result _ c.get_str-8.ensures;
     }
