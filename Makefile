@@ -1,4 +1,4 @@
-.PHONY: help jxldec jxlenc jxlmod demo demo-encode demo-plain demo-triangle demo-groups bench compare-djxl compare-encode check-docs check-alloc check-commands clib test-clib install test
+.PHONY: help jxldec jxlenc jxlmod demo demo-encode demo-plain demo-triangle demo-groups bench compare-djxl compare-random compare-encode check-docs check-alloc check-commands clib test-clib install test
 
 help: ## this list
 	@awk -F ':.*## ' '/^[a-z-]+:.*## / { printf "make %-14s %s\n", $$1, $$2 }' Makefile
@@ -40,6 +40,9 @@ bench: jxldec ## time jxldec beside djxl, by turns; with CRATE=PROGRAM also jxlb
 
 compare-djxl: jxldec ## decode what cjxl encodes, and compare with djxl, which must both be installed
 	@sh scripts/compare_djxl.sh crates/jxldec/out/jxldec
+
+compare-random: jxldec ## the same of 3000 pictures and options that are drawn: CJXL and DJXL name several programs
+	@python3 scripts/compare_random.py crates/jxldec/out/jxldec 3000
 
 compare-encode: jxlenc jxldec ## encode drawn pictures, decode them with jxldec and djxl, which must be installed, and compare
 	@sh scripts/compare_encode.sh crates/jxlenc/out/jxlenc crates/jxldec/out/jxldec

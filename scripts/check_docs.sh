@@ -7,6 +7,7 @@
 #   begins with src, specs or proofs, in the crate's folder.
 # - The tables of docs/PROVED.md and docs/DEFINITIONS.md are what scripts/tables.py makes of the sources.
 # - docs/MEMORY.md: scripts/check_alloc_docs.py says what is compared.
+# - The structs of include/jxl_lossless.h have the offsets of those of the sources (scripts/check_structs.py).
 set -eu
 cd "$(dirname "$0")/.."
 bad=0
@@ -62,6 +63,7 @@ for crate in crates/*/; do
 done
 
 python3 scripts/check_alloc_docs.py || bad=1
+python3 scripts/check_structs.py || bad=1
 
 if [ "$bad" = 0 ]; then echo "docs: each name is there, and each quotation"; fi
 exit "$bad"

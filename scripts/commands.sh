@@ -168,7 +168,8 @@ printf '\377\012\000\160\060\000\202\342\102\010\010\020\000\070\000\113\022\305
 expect 0 'jxldec: pq.jxl: transfer function left out
 jxldec: pq.jxl: rendering intent left out' pq.jxl -o pq.png
 begins pq.png "$(printf '\211PNG')"
-expect 0 'jxldec: neg.jxl: negative coordinates of colours left out' neg.jxl -o neg.png
+expect 0 'jxldec: neg.jxl: negative coordinates of colours left out
+jxldec: neg.jxl: coordinates of colours rounded' neg.jxl -o neg.png
 expect 0 - custom.jxl -o custom.png
 expect 0 'jxldec: p3.jxl: rendering intent left out' p3.jxl -o p3.png
 expect 0 'jxldec: mult.jxl: colours stay multiplied by alpha' mult.jxl -o mult.png
@@ -296,6 +297,11 @@ data_of() {
     bytes=${bytes#*49444154}
     echo "${bytes%????????0000000049454e44ae426082}"
 }
+# Grey of 3 bits, from 0 to 7, of cjxl 0.11: in a PNG file it has 8 bits, of which 3 are significant.
+printf '\377\012\000\000\016\140\041\050\156\004\010\004\001\000\044\000\113\030\213\025\012\015\205\343\017' > grey3.jxl
+expect 0 - grey3.jxl -o grey3.png
+holds grey3.png 4948445200000008000000010800000000c66bb09f
+holds grey3.png 00000001734249540371d88211
 expect 0 - frames.jxl -o each.apng
 begins each.apng "$(printf '\211PNG')"
 holds each.apng 000000086163544c0000000300000000ceedbac0
@@ -343,10 +349,12 @@ holds moving.apng "6664415400000002$(data_of still.png)"
 expect 0 - moving.jxl --icc again.icc
 cmp -s again.icc still.icc
 judge $? 'without -o, --icc does not write the profile of an animation'
-expect 1 'jxldec: frames.jxl: no colour profile' frames.jxl -o none.apng --icc none.icc
-expect 1 'jxldec: frames.jxl: no Exif data' frames.jxl -o none.apng --exif none.exif
-absent none.apng
+expect 1 'jxldec: frames.jxl: no colour profile' frames.jxl -o some.apng --icc none.icc
+cmp -s some.apng each.apng
+judge $? 'the animation is another one if its profile is missing'
+expect 1 'jxldec: frames.jxl: no Exif data' frames.jxl -o some.apng --exif none.exif
 absent none.icc
+absent none.exif
 
 # Boxes after the codestream that have an error: the picture, and a warning. One before it is an error.
 boxed() {
@@ -434,18 +442,93 @@ cmp -s d.xmp d2.xmp
 judge $? 'with -o the XMP data are others'
 cmp -s d.ppm whole.ppm
 judge $? 'with --xmp the picture is another one'
-expect 1 'jxldec: whole.jxl: no colour profile' whole.jxl -o none.ppm --icc none.icc
-expect 1 'jxldec: whole.jxl: no Exif data' whole.jxl -o none.ppm --exif none.exif
-expect 1 'jxldec: whole.jxl: no XMP data' whole.jxl -o none.ppm --xmp none.xmp
-expect 1 'jxldec: data.jxl: no colour profile' data.jxl --exif none.exif --icc none.icc
+# If the file lacks some of them, the others are written, and the line says which it lacks.
+expect 1 'jxldec: whole.jxl: no colour profile' whole.jxl -o some.ppm --icc none.icc
+cmp -s some.ppm whole.ppm
+judge $? 'the picture is another one if its profile is missing'
+expect 1 'jxldec: whole.jxl: no Exif data' whole.jxl -o some.ppm --exif none.exif
+expect 1 'jxldec: whole.jxl: no XMP data' whole.jxl -o some.ppm --xmp none.xmp
+expect 1 'jxldec: whole.jxl: no colour profile, no Exif data, no XMP data' whole.jxl --exif none.exif --icc none.icc --xmp none.xmp
+expect 1 'jxldec: whole.jxl: no colour profile, no XMP data' whole.jxl -q --icc none.icc --xmp none.xmp
+expect 1 'jxldec: data.jxl: no colour profile' data.jxl --exif some.exif --icc none.icc --xmp some.xmp
+cmp -s some.exif d.exif && cmp -s some.xmp d.xmp
+judge $? 'the Exif and XMP data are others if the profile is missing'
+expect 1 'jxldec: profile.jxl: colour profile left out
+jxldec: profile.jxl: no Exif data' profile.jxl -o some.pgm --exif none.exif
+cmp -s some.pgm p.pgm
+judge $? 'the picture is another one if its Exif data are missing'
+expect 1 'jxldec: profile.jxl: no Exif data' profile.jxl -o some.pgm --exif none.exif --icc some.icc
+cmp -s some.icc p.icc
+judge $? 'the profile is another one if the Exif data are missing'
 expect 1 'jxldec: lossy.jxl: not supported: a lossy picture (XYB)' lossy.jxl --icc none.icc
 expect 1 'jxldec: lossy.jxl: no Exif data' lossy.jxl --exif none.exif
-expect 1 'jxldec: other.jxl: no XMP data' other.jxl --xmp none.xmp
-for name in none.ppm none.icc none.exif none.xmp; do
+expect 1 'jxldec: other.jxl: not a JPEG XL file' other.jxl --xmp none.xmp
+expect 0 - lossy.jxl --info
+for name in none.icc none.exif none.xmp; do
     absent $name
 done
+# Data of no bytes: their files are made, and one that exists is emptied.
+{ boxed; printf '\0\0\0\014Exif\0\0\0\0\0\0\0\010xml '; whole; } > nothing.jxl
+printf 'old' > empty.xmp
+expect 0 - nothing.jxl --exif empty.exif --xmp empty.xmp
+test -f empty.exif && test ! -s empty.exif && test ! -s empty.xmp
+judge $? 'the files of Exif and XMP data of no bytes are not empty'
 expect 1 'jxldec: folder: cannot write: Is a directory (os error 21)' profile.jxl --icc folder
 expect 2 'error: ' profile.jxl --icc
+
+# One file for the input and an output, or for two outputs, by any of its names: nothing is read or written.
+cp profile.jxl same.jxl
+ln same.jxl link.jxl
+ln -s same.jxl soft.jxl
+for name in same.jxl ./same.jxl link.jxl soft.jxl; do
+    expect 1 "jxldec: $name: the input and this output are one file" same.jxl --format pgm -o $name
+    expect 1 "jxldec: $name: the input and this output are one file" same.jxl --icc $name
+    cmp -s same.jxl profile.jxl
+    judge $? 'the input was changed'
+done
+expect 1 'jxldec: x.pgm: two outputs are one file' profile.jxl -o x.pgm --icc x.pgm
+expect 1 'jxldec: ./x.pgm: two outputs are one file' profile.jxl -o x.pgm --icc ./x.pgm
+expect 1 'jxldec: x.pgm: two outputs are one file' data.jxl --exif x.pgm --xmp x.pgm
+absent x.pgm
+printf 'kept' > x.pgm
+ln x.pgm y.pgm
+expect 1 'jxldec: y.pgm: two outputs are one file' profile.jxl -o x.pgm --icc y.pgm
+begins x.pgm kept
+if [ -c /dev/null ]; then
+    expect 0 - profile.jxl -o /dev/null --format pgm --icc /dev/null
+fi
+
+# Input that begins as no JPEG XL file is not read further: these have no end.
+if [ -c /dev/zero ]; then
+    expect 1 'jxldec: /dev/zero: not a JPEG XL file' /dev/zero -o b.ppm
+    expect 1 'jxldec: /dev/zero: not a JPEG XL file' /dev/zero --info
+    expect 1 'jxldec: /dev/zero: not a JPEG XL file' /dev/zero --frames 'b%d.ppm'
+    input=/dev/zero
+    expect 1 'jxldec: -: not a JPEG XL file' - -o b.ppm
+    input=/dev/null
+    absent b.ppm
+fi
+
+# Control characters of a name are written by their codes; a name that is not UTF-8 is refused.
+named=$(printf 'a\033[31mb\nc')
+expect 1 'jxldec: a\x1b[31mb\x0ac: cannot read: No such file or directory (os error 2)' "$named"
+cp spot.jxl "$named"
+expect 0 'jxldec: a\x1b[31mb\x0ac: channels left out: Depth Spotcolor' "$named" -o b.ppm
+expect 2 'jxldec: the name of argument 2 is not UTF-8' -q "$(printf 'a\377.jxl')"
+expect 2 'jxldec: the name of argument 3 is not UTF-8' ball.jxl -o "$(printf '\300.pgm')"
+
+# A terminal gets no picture that was not asked for, but text, and what the headers tell.
+if script -qec true /dev/null > /dev/null 2>&1; then
+    script -qec "$program ball.jxl" shown > /dev/null
+    grep -q 'jxldec: standard output: a terminal; -o OUT writes to a file, -o - to standard output' shown
+    judge $? 'a picture was written to a terminal'
+    script -qec "$program ball.jxl --format text" shown > /dev/null
+    grep -q 'channel 0 64x32' shown
+    judge $? 'text was not written to a terminal'
+    script -qec "$program ball.jxl --info" shown > /dev/null
+    grep -q 'Orientation: 1' shown
+    judge $? 'what the headers tell was not written to a terminal'
+fi
 
 # Files that cannot be read or decoded: an output that exists keeps its contents.
 printf 'kept' > b.pgm
@@ -510,6 +593,9 @@ if [ -e /dev/full ]; then
     "$program" ball.jxl > /dev/full 2> err
     test "$?$(cat err)" = '1jxldec: standard output: cannot write: No space left on device (os error 28)'
     judge $? "standard output that is full -> $(cat err)"
+    "$program" --help > /dev/full 2> err
+    test "$?$(cat err)" = '1jxldec: standard output: cannot write: No space left on device (os error 28)'
+    judge $? "help on standard output that is full -> $(cat err)"
 fi
 
 # A pipe that is closed before the program writes: status 1, and silence.
@@ -569,6 +655,12 @@ encode_rows() {
     cmp -s c.jxl grey.jxl
     judge $? 'bytes after the samples change the file'
 
+    # Grey of 3 bits, scaled: each is the nearest to a seventh of 255.
+    expect 0 - grey3.png -o c.jxl
+    "$decoder" c.jxl -o again.pgm
+    printf 'P5\n8 1\n255\n\000\044\111\155\222\266\333\377' | cmp -s - again.pgm
+    judge $? 'grey of 3 bits is not scaled by sevenths'
+
     # Noise of 16 values that repeats: 64 by 16 samples, 16 times. If no token is copied, each of the 16,384 samples takes 4 bits.
     noise=$(for n in 0 1 2 3 4 5 6 7 8 9; do for m in 0 1 2; do printf %s "$n$m" | md5sum | head -c 32; done; done
         for n in 0 1; do printf %s "$n" | md5sum | head -c 32; done)
@@ -621,6 +713,11 @@ encode_rows() {
     "$decoder" c.jxl -o again.pgm --exif out.exif --xmp out.xmp && cmp -s grey.pgm again.pgm && cmp -s in.exif out.exif &&
         cmp -s in.xmp out.xmp
     judge $? 'the picture or its Exif or XMP data are not what they were'
+    # What precedes the TIFF header in a JPEG file is taken off.
+    { printf 'Exif\0\0'; cat in.exif; } > jpeg.exif
+    expect 0 - grey.pgm --exif jpeg.exif -o c.jxl
+    "$decoder" c.jxl --exif out.exif && cmp -s in.exif out.exif
+    judge $? 'Exif data of a JPEG file do not begin at their TIFF header'
     expect 0 - grey.pgm --xmp none.data -o c.jxl
     rm -f out.xmp
     "$decoder" c.jxl --xmp out.xmp && test ! -s out.xmp
@@ -643,8 +740,8 @@ encode_rows() {
     "$decoder" c.jxl --icc out.icc --exif out.exif --xmp out.xmp && cmp -s p.icc out.icc && cmp -s in.exif out.exif &&
         cmp -s in.xmp out.xmp
     judge $? 'a profile, Exif and XMP data are not what they were'
-    head -c 4194304 /dev/zero > five.icc
-    { cat five.icc; printf 'x'; } > ten.icc
+    { printf '\0\100\0\0'; head -c 12 /dev/zero; printf 'GRAY'; head -c 16 /dev/zero; printf 'acsp'; head -c 4194264 /dev/zero; } > five.icc
+    { printf '\0\100\0\001'; tail -c 4194300 five.icc; printf 'x'; } > ten.icc
     for name in five ten; do
         expect 0 - grey.pgm -e fast --icc $name.icc -o $name.jxl
         "$decoder" $name.jxl --icc out.icc && cmp -s $name.icc out.icc
@@ -657,6 +754,20 @@ encode_rows() {
     expect 1 'jxlenc: none.icc: cannot read: No such file or directory (os error 2)' grey.pgm --icc none.icc -o d.jxl
     expect 1 'jxlenc: folder: cannot read: Is a directory (os error 21)' grey.pgm --icc folder -o d.jxl
     expect 1 'jxlenc: none.data: a profile of 0 bytes or above 268435456' grey.pgm --icc none.data -o d.jxl
+    # Profiles whose header does not suit: another text, one that ends in its header, one byte less and one more, `acsp` in other letters, and
+    # one of grey beside red, green and blue.
+    printf 'no profile' > text.icc
+    head -c 127 p.icc > header.icc
+    head -c "$(($(wc -c < p.icc) - 1))" p.icc > less.icc
+    { cat p.icc; printf '\0'; } > more.icc
+    { head -c 36 p.icc; printf 'ACSP'; tail -c +41 p.icc; } > other.icc
+    for name in text header other; do
+        expect 1 "jxlenc: $name.icc: not an ICC profile" grey.pgm --icc $name.icc -o d.jxl
+    done
+    for name in less more; do
+        expect 1 "jxlenc: $name.icc: a profile whose header says another size" grey.pgm --icc $name.icc -o d.jxl
+    done
+    expect 1 "jxlenc: p.icc: a profile of another colour space than the picture's" rgb.ppm --icc p.icc -o d.jxl
     expect 1 'jxlenc: none.icc: cannot read: No such file or directory (os error 2)' grey.pgm --icc none.icc --exif none.exif -o d.jxl
     absent d.jxl
     expect 2 'error: ' grey.pgm -o d.jxl --icc
@@ -809,6 +920,35 @@ encode_rows() {
     expect 2 "error: invalid value 'Fast'" grey.pgm -e Fast -o b.jxl
     expect 2 'error: ' grey.pgm --lossy -o b.jxl
     begins b.jxl kept
+
+    # An output that is an input, by its name, another name or a link, is refused before anything is read.
+    cp grey.pgm same.pgm
+    ln same.pgm hard.pgm
+    ln -s same.pgm soft.pgm
+    for name in same.pgm ./same.pgm a.b/../same.pgm hard.pgm soft.pgm; do
+        expect 1 "jxlenc: $name: an input and this output are one file" same.pgm -o $name
+    done
+    cmp -s same.pgm grey.pgm
+    judge $? 'an input that is the output is changed'
+    cp p.icc same.icc
+    expect 1 'jxlenc: same.icc: an input and this output are one file' grey.pgm --icc same.icc -o same.icc
+    expect 1 'jxlenc: ./in.exif: an input and this output are one file' grey.pgm --exif in.exif -o ./in.exif
+    expect 1 'jxlenc: in.xmp: an input and this output are one file' grey.pgm --xmp in.xmp -o in.xmp
+    cmp -s same.icc p.icc
+    judge $? 'a profile that is the output is changed'
+
+    # Inputs without an end: one that begins as no picture, and one with a picture at its beginning.
+    if [ -e /dev/zero ]; then
+        expect 1 'jxlenc: /dev/zero: not a PNG, PGM, PPM, PAM or PFM file' /dev/zero -o d.jxl
+        cat grey.pgm /dev/zero 2> other | "$program" - -o c.jxl 2> err && cmp -s c.jxl grey.jxl
+        judge $? "bytes without an end after the samples -> $(cat err)"
+    fi
+
+    # Names that are not UTF-8, or have control characters.
+    expect 2 'jxlenc: the name of argument 1 is not UTF-8' "$(printf 'a\377.pgm')" -o d.jxl
+    expect 2 'jxlenc: the name of argument 3 is not UTF-8' grey.pgm -o "$(printf '\300.jxl')"
+    expect 1 'jxlenc: a\x1bb\x0ac: cannot read: No such file or directory (os error 2)' "$(printf 'a\033b\nc')" -o d.jxl
+    absent d.jxl
 
     # Outputs that cannot be written.
     expect 1 'jxlenc: folder: cannot write: Is a directory (os error 21)' grey.pgm -o folder

@@ -4,7 +4,8 @@
 #
 # PROGRAM is jxldec, built. The files are those that cjxl makes of the pictures of scripts/draw_pictures.py, at each effort
 # from 1 to 9 and by other ways to code. A line tells each file that differs or is refused, with the reason; the last line
-# counts them. The status is 1 where one differs. It needs cjxl and djxl of libjxl, which are not of this repository.
+# counts them. The status is 1 where one differs. It needs cjxl and djxl of libjxl, which are not of this repository: CJXL and
+# DJXL name them, each one or several, as DJXL="djxl djxl11". A file that one djxl does not decode is compared with the others.
 set -eu
 program=$1
 side=${2:-300}
@@ -25,22 +26,33 @@ alike() {
     esac
 }
 
-# Judges the file that cjxl makes of this picture by these options.
-judge() {
-    picture=$1
-    shift
-    ending=${picture##*.}
-    cjxl "$picture" "$folder/a.jxl" -d 0 --quiet "$@" 2> "$folder/said" || return 0
-    djxl "$folder/a.jxl" "$folder/wanted.$ending" --quiet 2> "$folder/said"
-    if ! "$program" "$folder/a.jxl" -o "$folder/ours.$ending" 2> "$folder/said"; then
+# Compares what jxldec made of a file, if anything, with what this djxl makes: judge_beside DJXL NAME.
+judge_beside() {
+    "$1" "$folder/a.jxl" "$folder/wanted.$ending" --quiet > "$folder/theirs" 2>&1 || return 0
+    if [ ! -f "$folder/ours.$ending" ]; then
         refused=$((refused + 1))
-        echo "$(basename "$picture") $*: $(sed "s/.*a.jxl: //" "$folder/said")"
+        echo "$2: $(sed "s/.*a.jxl: //" "$folder/said")"
     elif alike "$folder/ours.$ending" "$folder/wanted.$ending"; then
         same=$((same + 1))
     else
         different=$((different + 1))
-        echo "$(basename "$picture") $*: other bytes"
+        echo "$2: other bytes than $(basename "$1")"
     fi
+}
+
+# Judges the file that each cjxl makes of this picture by these options.
+judge() {
+    picture=$1
+    shift
+    ending=${picture##*.}
+    for cjxl in ${CJXL:-cjxl}; do
+        rm -f "$folder"/ours.* "$folder"/wanted.*
+        "$cjxl" "$picture" "$folder/a.jxl" -d 0 --quiet "$@" > "$folder/theirs" 2>&1 || continue
+        "$program" "$folder/a.jxl" -o "$folder/ours.$ending" 2> "$folder/said" || rm -f "$folder/ours.$ending"
+        for djxl in ${DJXL:-djxl}; do
+            judge_beside "$djxl" "$(basename "$picture") $(basename "$cjxl") $*"
+        done
+    done
 }
 
 for picture in "$folder"/in/*; do

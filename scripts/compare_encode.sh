@@ -6,7 +6,8 @@
 # from 1 to 16 bits, with alpha and without; each is encoded at each effort, and in boxes with Exif and XMP data. What jxldec
 # writes has to be the picture, byte for byte, and the data; so has what djxl writes at 8 and 16 bits, of floats the numbers. Of
 # the other depths, which djxl stretches, it only has to decode the file. A line tells each file that is refused or differs; the
-# last line counts them. The status is 1 if there is one. djxl is of libjxl, which is not of this repository.
+# last line counts them. The status is 1 if there is one. djxl is of libjxl, which is not of this repository: DJXL names it, or
+# several, as DJXL="djxl djxl11".
 set -eu
 jxlenc=$1
 jxldec=$2
@@ -54,13 +55,15 @@ judge() {
     fits=0
     { "$jxldec" "$folder/a.jxl" --format "$ending" -o "$folder/ours.$ending" && cmp "$picture" "$folder/ours.$ending"; } > "$folder/said" 2>&1 || fits=1
     count "$fits" "$name, jxldec"
-    fits=0
-    djxl "$folder/a.jxl" "$folder/theirs.$ending" --quiet > "$folder/said" 2>&1 || fits=1
-    case $picture in
-        */depth_*) ;;
-        *) alike "$picture" "$folder/theirs.$ending" > "$folder/said" 2>&1 || fits=1 ;;
-    esac
-    count "$fits" "$name, djxl"
+    for djxl in ${DJXL:-djxl}; do
+        fits=0
+        "$djxl" "$folder/a.jxl" "$folder/theirs.$ending" --quiet > "$folder/said" 2>&1 || fits=1
+        case $picture in
+            */depth_*) ;;
+            *) alike "$picture" "$folder/theirs.$ending" > "$folder/said" 2>&1 || fits=1 ;;
+        esac
+        count "$fits" "$name, $(basename "$djxl")"
+    done
 }
 
 for picture in "$folder"/in/*; do
